@@ -1,0 +1,4 @@
+pub mod Types
+pub mod Operand
+pub mod Admission
+pub mod Fact

@@ -1,0 +1,198 @@
+// Small lists. Contracts see each as the plain list of its items.
+
+use crate::Pos;
+use std::alloc::Global;
+use std::marker::Model;
+
+/// A text, as its bytes.
+#[derive(Debug, Drop)]
+pub struct Name {
+    items: Vec<u8>,
+}
+
+impl Model for Name {
+    ghost use Rattle.std.specs.Prelude.{List, ℕ};
+
+    ghost Value = { List ℕ };
+
+    ghost view = { λ l. l.items.items };
+}
+
+impl Name {
+    ghost use Rattle.std.specs.Prelude.{◌≡◌, []};
+
+    /// The list with nothing in it.
+    pub fn new(alloc: Global) -> Name
+        ensures { result ≡ [] }
+    {
+        Name {
+            items: Vec::new(alloc),
+        }
+    }
+
+    /// The list of these items.
+    pub fn from_vec(items: Vec<u8>) -> Name
+        ensures { result ≡ items.items }
+    {
+        Name { items }
+    }
+
+    /// The items, given back without taking memory.
+    pub fn into_vec(self) -> Vec<u8>
+        ensures { result.items ≡ self }
+    {
+        let Name { items } = self;
+        items
+    }
+
+    pub fn as_slice(&self) -> &[u8]
+        ensures { result.now ≡ self.now }
+    {
+        self.items.as_slice()
+    }
+}
+
+/// Bytes, as those of a file or of a report.
+#[derive(Debug, Drop)]
+pub struct Bytes {
+    items: Vec<u8>,
+}
+
+impl Model for Bytes {
+    ghost use Rattle.std.specs.Prelude.{List, ℕ};
+
+    ghost Value = { List ℕ };
+
+    ghost view = { λ l. l.items.items };
+}
+
+impl Bytes {
+    ghost use Rattle.std.specs.Prelude.{◌≡◌, []};
+
+    /// The list with nothing in it.
+    pub fn new(alloc: Global) -> Bytes
+        ensures { result ≡ [] }
+    {
+        Bytes {
+            items: Vec::new(alloc),
+        }
+    }
+
+    /// The list of these items.
+    pub fn from_vec(items: Vec<u8>) -> Bytes
+        ensures { result ≡ items.items }
+    {
+        Bytes { items }
+    }
+
+    /// The items, given back without taking memory.
+    pub fn into_vec(self) -> Vec<u8>
+        ensures { result.items ≡ self }
+    {
+        let Bytes { items } = self;
+        items
+    }
+
+    pub fn as_slice(&self) -> &[u8]
+        ensures { result.now ≡ self.now }
+    {
+        self.items.as_slice()
+    }
+}
+
+/// Numbers of objects, functions and the like.
+#[derive(Debug, Drop)]
+pub struct Numbers {
+    items: Vec<u64>,
+}
+
+impl Model for Numbers {
+    ghost use Rattle.std.specs.Prelude.{List, ℕ};
+
+    ghost Value = { List ℕ };
+
+    ghost view = { λ l. l.items.items };
+}
+
+impl Numbers {
+    ghost use Rattle.std.specs.Prelude.{◌≡◌, []};
+
+    /// The list with nothing in it.
+    pub fn new(alloc: Global) -> Numbers
+        ensures { result ≡ [] }
+    {
+        Numbers {
+            items: Vec::new(alloc),
+        }
+    }
+
+    /// The list of these items.
+    pub fn from_vec(items: Vec<u64>) -> Numbers
+        ensures { result ≡ items.items }
+    {
+        Numbers { items }
+    }
+
+    /// The items, given back without taking memory.
+    pub fn into_vec(self) -> Vec<u64>
+        ensures { result.items ≡ self }
+    {
+        let Numbers { items } = self;
+        items
+    }
+
+    pub fn as_slice(&self) -> &[u64]
+        ensures { result.now ≡ self.now }
+    {
+        self.items.as_slice()
+    }
+}
+
+/// Places, as the calls that lead to an alarm.
+#[derive(Debug, Drop)]
+pub struct Places {
+    items: Vec<Pos>,
+}
+
+impl Model for Places {
+    ghost use Rattle.std.specs.Prelude.{List};
+    ghost use Rattle.c_syntax.specs.declared.place.Pos.{Pos};
+
+    ghost Value = { List Pos };
+
+    ghost view = { λ l. l.items.items };
+}
+
+impl Places {
+    ghost use Rattle.std.specs.Prelude.{◌≡◌, []};
+
+    /// The list with nothing in it.
+    pub fn new(alloc: Global) -> Places
+        ensures { result ≡ [] }
+    {
+        Places {
+            items: Vec::new(alloc),
+        }
+    }
+
+    /// The list of these items.
+    pub fn from_vec(items: Vec<Pos>) -> Places
+        ensures { result ≡ items.items }
+    {
+        Places { items }
+    }
+
+    /// The items, given back without taking memory.
+    pub fn into_vec(self) -> Vec<Pos>
+        ensures { result.items ≡ self }
+    {
+        let Places { items } = self;
+        items
+    }
+
+    pub fn as_slice(&self) -> &[Pos]
+        ensures { result.now ≡ self.now }
+    {
+        self.items.as_slice()
+    }
+}

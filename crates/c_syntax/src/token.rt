@@ -1,0 +1,169 @@
+// Tokens with their places.
+
+use crate::{Name, Pos};
+use std::alloc::Global;
+use std::marker::Model;
+
+/// The keywords of C11 6.4.1 that the forms built so far use. Any other word is a `Token::Word`.
+#[derive(Clone, Copy, Debug, PartialEq, Eq)]
+pub enum Keyword {
+    Int,
+    Return,
+    Void,
+}
+
+/// The punctuators of C11 6.4.6 that the forms built so far meet.
+#[derive(Clone, Copy, Debug, PartialEq, Eq)]
+pub enum Punctuator {
+    LeftParenthesis,
+    RightParenthesis,
+    LeftBrace,
+    RightBrace,
+    Plus,
+    Increment,
+    Minus,
+    Decrement,
+    Star,
+    Slash,
+    Semicolon,
+}
+
+/// An integer constant. `decimal` tells its base, and `unsigned` and `longs` its suffix.
+#[derive(Clone, Copy, Debug, PartialEq, Eq)]
+pub struct Constant {
+    pub value: u64,
+    pub decimal: bool,
+    pub unsigned: bool,
+    pub longs: u8,
+}
+
+/// A token of C11 6.4.
+#[derive(Debug, Drop)]
+pub enum Token {
+    Word(Name),
+    Keyword(Keyword),
+    Number(Constant),
+    Punctuator(Punctuator),
+}
+
+/// A token and the place of its first byte.
+#[derive(Debug, Drop)]
+pub struct Placed {
+    pub pos: Pos,
+    pub token: Token,
+}
+
+/// The physical line `line` has the presumed line `presumed` in the file `name`. An empty name
+/// stands for the file word of the command.
+#[derive(Debug, Drop)]
+pub struct Mark {
+    pub line: u32,
+    pub presumed: u32,
+    pub name: Name,
+}
+
+/// Tokens in their order.
+#[derive(Debug, Drop)]
+pub struct PlacedList {
+    items: Vec<Placed>,
+}
+
+impl Model for PlacedList {
+    ghost use Rattle.std.specs.Prelude.{List};
+    ghost use Rattle.c_syntax.specs.declared.token.Placed.{Placed};
+
+    ghost Value = { List Placed };
+
+    ghost view = { λ l. l.items.items };
+}
+
+impl PlacedList {
+    ghost use Rattle.std.specs.Prelude.{◌≡◌, []};
+
+    /// The list with nothing in it.
+    pub fn new(alloc: Global) -> PlacedList
+        ensures { result ≡ [] }
+    {
+        PlacedList {
+            items: Vec::new(alloc),
+        }
+    }
+
+    /// The list of these items.
+    pub fn from_vec(items: Vec<Placed>) -> PlacedList
+        ensures { result ≡ items.items }
+    {
+        PlacedList { items }
+    }
+
+    /// The items, given back without taking memory.
+    pub fn into_vec(self) -> Vec<Placed>
+        ensures { result.items ≡ self }
+    {
+        let PlacedList { items } = self;
+        items
+    }
+
+    pub fn as_slice(&self) -> &[Placed]
+        ensures { result.now ≡ self.now }
+    {
+        self.items.as_slice()
+    }
+}
+
+/// Line marks in their order.
+#[derive(Debug, Drop)]
+pub struct Marks {
+    items: Vec<Mark>,
+}
+
+impl Model for Marks {
+    ghost use Rattle.std.specs.Prelude.{List};
+    ghost use Rattle.c_syntax.specs.declared.token.Mark.{Mark};
+
+    ghost Value = { List Mark };
+
+    ghost view = { λ l. l.items.items };
+}
+
+impl Marks {
+    ghost use Rattle.std.specs.Prelude.{◌≡◌, []};
+
+    /// The list with nothing in it.
+    pub fn new(alloc: Global) -> Marks
+        ensures { result ≡ [] }
+    {
+        Marks {
+            items: Vec::new(alloc),
+        }
+    }
+
+    /// The list of these items.
+    pub fn from_vec(items: Vec<Mark>) -> Marks
+        ensures { result ≡ items.items }
+    {
+        Marks { items }
+    }
+
+    /// The items, given back without taking memory.
+    pub fn into_vec(self) -> Vec<Mark>
+        ensures { result.items ≡ self }
+    {
+        let Marks { items } = self;
+        items
+    }
+
+    pub fn as_slice(&self) -> &[Mark]
+        ensures { result.now ≡ self.now }
+    {
+        self.items.as_slice()
+    }
+}
+
+/// What a text is cut into. `end` is the place after its last byte.
+#[derive(Debug, Drop)]
+pub struct Tokens {
+    pub list: PlacedList,
+    pub marks: Marks,
+    pub end: Pos,
+}
