@@ -1,0 +1,5 @@
+pub mod Tree
+pub mod Grammar
+pub mod Operators
+pub mod Machine
+pub mod Admission
