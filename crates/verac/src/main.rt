@@ -1,8 +1,9 @@
 //! Verac: what may go wrong in a C file, from its bytes to the report.
 #![tactic(auto)]
 
+mod command;
+mod report;
+mod status;
 mod tree;
-
-use tree::{Expr, Operator};
 
 fn main(rt: HostRuntime) {}
