@@ -5,3 +5,4 @@ pub mod Machine
 pub mod Admission
 pub mod Report
 pub mod Command
+pub mod Outcome
