@@ -1,2 +1,4 @@
 pub mod CommandLemmas
 pub mod RunLemmas
+pub mod SizeLemmas
+pub mod AlarmLemmas

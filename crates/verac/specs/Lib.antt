@@ -6,3 +6,5 @@ pub mod Admission
 pub mod Report
 pub mod Command
 pub mod Outcome
+pub mod Walk
+pub mod Sound

@@ -1,0 +1,30 @@
+-- What the walk of an expression finds. The theorem speaks of steps, and not of this.
+use Rattle.std.specs.Prelude.{◌≡◌, ℤ, pos, List, [], ◌∷◌, ◌++◌, Option, None, Some, IsSomeAnd}
+use Rattle.c_syntax.specs.declared.place.Pos.{Pos}
+use Rattle.c_syntax.specs.declared.alarm.WrongKind.{WrongKind}
+use Rattle.c_syntax.specs.declared.alarm.WrongKind.TheVariants.{DivideByZero}
+use Rattle.c_syntax.specs.declared.alarm.Check.{Check}
+use Rattle.c_syntax.specs.declared.alarm.Shown.TheVariants as shows
+use Rattle.c_syntax.specs.declared.alarm.Example.TheVariants as examples
+use Rattle.c_syntax.specs.declared.alarm.Alarm.{Alarm}
+use Rattle.c_syntax.specs.Operand.{Operand, Number}
+use Rattle.verac.specs.Admission.{int_check, zero_check}
+
+-- the check of this kind that an operator makes
+abbrev pub check_of : WrongKind → Check
+check_of DivideByZero = zero_check
+check_of kind = int_check kind
+
+-- the alarm of a check in main that this number fails, shown as that number alone
+pub record IsAlarmOf (at : Pos) (kind : WrongKind) (n : ℤ) (alarm : Alarm) : Type 0 where
+  pub chain : alarm.chain ≡ []
+  pub pos_is : alarm.pos ≡ at
+  pub kind_is : alarm.kind ≡ kind
+  pub check : alarm.check ≡ check_of kind
+  pub shown : alarm.shown ≡ shows.Number (Some n) (Some n) (pos 1) (pos 0)
+  pub example : alarm.example ≡ examples.Number n
+  pub facts : alarm.facts ≡ []
+
+-- an alarm of this operand
+abbrev pub IsAlarmAt : Pos → WrongKind → Operand → Alarm → Type 0
+IsAlarmAt at kind operand alarm = (n : ℤ) × (operand ≡ Number n) × IsAlarmOf at kind n alarm
