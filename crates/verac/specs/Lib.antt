@@ -1,10 +1,13 @@
 pub mod Tree
 pub mod Grammar
+pub mod Program
 pub mod Operators
 pub mod Machine
+pub mod Sound
 pub mod Admission
 pub mod Report
 pub mod Command
+pub mod Verdict
+pub mod Headline
 pub mod Outcome
 pub mod Walk
-pub mod Sound

@@ -1,0 +1,122 @@
+// Real files, and standard output. They tell nothing of content.
+ghost use Rattle.std.specs.Prelude.{◌≡◌, ◌≤◌, None, IsTrue, false, OnOk, OnErr, is_ok};
+ghost use Rattle.outside_io.specs.Io.{raised};
+
+use crate::{Failed, Files, Sink};
+use std::io::{Read, Write};
+use std::marker::Model;
+use std::rt::Files as HostFileSystem;
+use std::{fs, io};
+
+/// The files of the system. All names have one count of faults, and want of memory inside a call is
+/// a fault as any other.
+#[derive(Drop)]
+pub struct HostFiles<'a, R: HostFileSystem> {
+    rt: &'a R,
+    file: Option<R::File>,
+    failures: u64,
+}
+
+impl<'a, R: HostFileSystem> Model for HostFiles<'a, R> {
+    ghost use Rattle.std.specs.Prelude.{is_some};
+    ghost use Rattle.outside_io.specs.Host.{HostCount};
+
+    ghost Value = { HostCount };
+
+    ghost view = { λ f. record { is_open = is_some f.file; faults = f.failures } };
+}
+
+impl<'a, R: HostFileSystem> HostFiles<'a, R> {
+    /// The files that the runtime reaches. None is open.
+    pub fn new(rt: &'a R) -> Self
+        ensures closed { result.is_open ≡ false }
+        ensures faults { result.faults ≡ 0 }
+    {
+        HostFiles {
+            rt,
+            file: None,
+            failures: 0,
+        }
+    }
+
+    fn fail(&mut self) -> Failed
+        ensures raised { self.new ≡ record self.old { faults = raised self.old.faults } }
+        ensures later { self.old.faults ≤ self.new.faults }
+    {
+        self.failures = self.failures.saturating_add(1);
+        Failed
+    }
+}
+
+impl<'a, R: HostFileSystem> Files for HostFiles<'a, R> {
+    ghost told = { λ _ _. None };
+
+    ghost is_open = { λ files _. IsTrue files.is_open };
+
+    ghost given = { λ _. None };
+
+    ghost faults = { λ files _. files.faults };
+
+    fn begin(&mut self, name: &str) -> Result<(), Failed> {
+        self.file = fs::open(self.rt, name).ok();
+        if self.file.is_some() {
+            Ok(())
+        } else {
+            Err(self.fail())
+        }
+    }
+
+    fn read(&mut self, into: &mut [u8]) -> Result<usize, Failed> {
+        if let Some(file) = &mut self.file
+            && let Ok(count) = file.read(into)
+        {
+            return Ok(count);
+        }
+        Err(self.fail())
+    }
+}
+
+/// Standard output. Each piece is flushed before the answer, and want of memory inside a call is a
+/// fault as any other.
+#[derive(Drop)]
+pub struct HostOut<'a, R: Print> {
+    rt: &'a R,
+    failures: u64,
+}
+
+impl<'a, R: Print> Model for HostOut<'a, R> {
+    ghost use Rattle.std.specs.Prelude.{ℕ};
+
+    ghost Value = { ℕ };
+
+    ghost view = { λ out. out.failures };
+}
+
+impl<'a, R: Print> HostOut<'a, R> {
+    /// The standard output of the runtime. It has not failed yet.
+    pub fn new(rt: &'a R) -> Self
+        ensures { result ≡ 0 }
+    {
+        HostOut { rt, failures: 0 }
+    }
+}
+
+impl<'a, R: Print> Sink for HostOut<'a, R> {
+    ghost wrote = { λ _. None };
+
+    ghost faults = { λ out. out };
+
+    fn write(&mut self, piece: &[u8]) -> Result<usize, Failed> {
+        let mut out = io::writer(self.rt);
+        if let Ok(count) = out.write(piece)
+            && let Ok(()) = out.flush()
+        {
+            if count == 0 && !piece.is_empty() {
+                self.failures = self.failures.saturating_add(1);
+            }
+            return Ok(count);
+        }
+        self.failures = self.failures.saturating_add(1);
+        Err(Failed)
+    }
+}
