@@ -22,7 +22,7 @@ use Rattle.c_syntax.specs.Fact.{FactHolds}
 use Rattle.verac.specs.declared.tree.Operator.{Operator}
 use Rattle.verac.specs.declared.tree.Operator.TheVariants.{Add, Subtract, Multiply, Divide}
 use Rattle.verac.specs.Tree.{ExprTree, Constant, Negate, Binary, Return, returning, HasConstants}
-use Rattle.verac.specs.Operators.{Outcome, Gives, Fails, checked, negate, operate, fits, least, greatest}
+use Rattle.verac.specs.Operators.{Outcome, Gives, Fails, checked, negate, operate, fits, least, greatest, IsInt}
 use Rattle.verac.specs.Outcome.{Found, Value, found_at, negated, operated, found_of}
 use Rattle.verac.specs.Outcome as found
 use Rattle.verac.specs.Admission.{int_check, zero_check, checks_of, MakesCheck, StatementMakes, ChecksAt, IsAdmitted}
@@ -31,7 +31,7 @@ use Rattle.verac.specs.Sound.{TellsOf, Covers, IsSound}
 use Rattle.verac.specs.Report.{Precedes, IsPrintable, IsNumeric}
 use Rattle.verac.proofs.RunLemmas.{WrongOnly, wrong_only}
 use Rattle.verac.specs.Walk.{check_of, IsAlarmOf, IsAlarmAt}
-use Rattle.verac.proofs.SizeLemmas.{IsInt, IsModest, modest_product, modest_quotient, modest_sum, modest_difference, modest_negation}
+use Rattle.verac.proofs.SizeLemmas.{IsModest, modest_product, modest_quotient, modest_sum, modest_difference, modest_negation}
 
 fits_int : (n : ℤ) → fits n ≡ true → IsInt n
 fits_int n h = (search (arith, ints), search (arith, ints))

@@ -3,10 +3,7 @@ use Rattle.std.proofs.Common.{arith, ◌≡◌, ◌≤◌, ◌*◌, ◌/◌, ℕ
 use Rattle.std.specs.Prelude.{◌-ℤ◌, int_div}
 use Rattle.std.proofs.Math.Nat.{mul-le-mul_left, div-le_self}
 use Rattle.std.proofs.lemmas.Int.{ints}
-use Rattle.verac.specs.Operators.{least, greatest}
-
-abbrev pub IsInt : ℤ → Type 0
-IsInt n = (least ≤ℤ n) × (n ≤ℤ greatest)
+use Rattle.verac.specs.Operators.{IsInt}
 
 -- at most 2^62 in size
 abbrev pub IsModest : ℤ → Type 0

@@ -1,5 +1,5 @@
 -- What an operator on ints gives: a value, or the first check that fails, with its operand (C11 6.5p5, 6.5.3.3, 6.5.5, 6.5.6).
-use Rattle.std.specs.Prelude.{ℤ, pos, negsuc, neg_ℤ, ◌+ℤ◌, ◌-ℤ◌, ◌*ℤ◌, int_div, int_le, Bool, ◌&&◌, if◌then◌else◌}
+use Rattle.std.specs.Prelude.{ℤ, pos, negsuc, neg_ℤ, ◌+ℤ◌, ◌-ℤ◌, ◌*ℤ◌, ◌≤ℤ◌, int_div, int_le, Bool, ◌&&◌, if◌then◌else◌}
 use Rattle.std.specs.Ordering.{int_eq}
 use Rattle.c_syntax.specs.declared.alarm.WrongKind.{WrongKind}
 use Rattle.c_syntax.specs.declared.alarm.WrongKind.TheVariants.{Overflow, DivideByZero, Quotient}
@@ -17,6 +17,9 @@ least = negsuc 2147483647
 
 abbrev pub greatest : ℤ
 greatest = pos 2147483647
+
+abbrev pub IsInt : ℤ → Type 0
+IsInt n = (least ≤ℤ n) × (n ≤ℤ greatest)
 
 abbrev pub fits : ℤ → Bool
 fits n = int_le least n && int_le n greatest

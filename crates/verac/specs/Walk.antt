@@ -8,6 +8,11 @@ use Rattle.c_syntax.specs.declared.alarm.Shown.TheVariants as shows
 use Rattle.c_syntax.specs.declared.alarm.Example.TheVariants as examples
 use Rattle.c_syntax.specs.declared.alarm.Alarm.{Alarm}
 use Rattle.c_syntax.specs.Operand.{Operand, Number}
+use Rattle.ext_int.specs.declared.Ext.{Ext}
+use Rattle.ext_int.specs.declared.Ext.TheVariants.{Low, Fin, High}
+use Rattle.intervals.specs.declared.Interval.{Interval}
+use Rattle.intervals.specs.Interval.{IsPoint}
+use Rattle.verac.specs.Outcome.{Found, Value, Wrong}
 use Rattle.verac.specs.Admission.{int_check, zero_check}
 
 -- the check of this kind that an operator makes
@@ -28,3 +33,14 @@ pub record IsAlarmOf (at : Pos) (kind : WrongKind) (n : ℤ) (alarm : Alarm) : T
 -- an alarm of this operand
 abbrev pub IsAlarmAt : Pos → WrongKind → Operand → Alarm → Type 0
 IsAlarmAt at kind operand alarm = (n : ℤ) × (operand ≡ Number n) × IsAlarmOf at kind n alarm
+
+-- the number at an end, where there is one
+abbrev pub number_at : Ext → Option ℤ
+number_at Low = None
+number_at (Fin n) = Some n
+number_at High = None
+
+-- the values that go on, and the alarms before and after, where the expression comes to this
+abbrev pub Walks : Found → Option Interval → List Alarm → List Alarm → Type 0
+Walks (Value n) value before after = IsSomeAnd value (λ i. IsPoint i n) × (after ≡ before)
+Walks (Wrong at kind operand) value before after = (value ≡ None) × ((alarm : Alarm) × IsAlarmAt at kind operand alarm × (after ≡ before ++ alarm ∷ []))

@@ -5,5 +5,6 @@ mod command;
 mod report;
 mod status;
 mod tree;
+mod walk;
 
 fn main(rt: HostRuntime) {}

@@ -1,0 +1,322 @@
+//! Intervals of whole numbers.
+#![tactic(auto)]
+
+ghost use Rattle.std.specs.Prelude.{IsTrue};
+ghost use Rattle.ext_int.specs.Ext.{holds_number};
+
+use ext_int::{Ext, add_high, add_low, max, min, neg_high, neg_low};
+
+mod ends;
+
+use ends::{
+    greatest_product, greatest_quotient, is_range, least_product, least_quotient, sub_high, sub_low,
+};
+
+/// All whole numbers from a least end to a greatest: at least one number.
+#[derive(Clone, Copy, Debug, PartialEq, Eq)]
+pub struct Interval {
+    lo: Ext,
+    hi: Ext,
+    ghost holds: { IsTrue (holds_number lo hi) },
+}
+
+impl Interval {
+    ghost use Rattle.std.specs.Prelude.{◌≡◌, ◌≢◌, ℤ, pos, ◌+ℤ◌, ◌-ℤ◌, ◌*ℤ◌, neg_ℤ, int_div, FitsSigned, ◌↔◌, IsNone, IfSome, IsSomeAnd};
+    ghost use Rattle.std.specs.Int.{w128};
+    ghost use Rattle.ext_int.specs.Ext.{Below, Above, lesser, greater};
+    ghost use Rattle.intervals.specs.Interval.{least_end, greatest_end, Admits, IsPoint, IsFinite, IsBetween, LiesBetween, IsOneSided};
+
+    /// The interval that holds `n` alone.
+    pub fn point(n: i128) -> Interval
+        ensures { IsPoint result n }
+    {
+        Interval {
+            lo: Ext::Fin(n),
+            hi: Ext::Fin(n),
+        }
+    }
+
+    /// The least end: the least number of the interval, or `Low` where there is none.
+    pub fn lo(&self) -> Ext
+        ensures value { result ≡ least_end self.now }
+        ensures bound { (n : ℤ) → Admits self.now n → Below result n }
+        ensures reached { (n : ℤ) → result ≡ Ext.Fin n → Admits self.now n }
+        ensures not_high { result ≢ Ext.High }
+    {
+        self.lo
+    }
+
+    /// The greatest end: the greatest number of the interval, or `High` where there is none.
+    pub fn hi(&self) -> Ext
+        ensures value { result ≡ greatest_end self.now }
+        ensures bound { (n : ℤ) → Admits self.now n → Above result n }
+        ensures reached { (n : ℤ) → result ≡ Ext.Fin n → Admits self.now n }
+        ensures not_low { result ≢ Ext.Low }
+    {
+        self.hi
+    }
+
+    /// The sums of the numbers of both. Where both are finite and all sums lie between two `i128`s,
+    /// it is the least such interval; so it is for the other operations.
+    pub fn add(&self, other: &Interval) -> Interval
+        ensures keeps { (x y : ℤ) → Admits self.now x → Admits other.now y → Admits result (x +ℤ y) }
+        ensures point { (x y : ℤ) → IsPoint self.now x → IsPoint other.now y → FitsSigned w128 (x +ℤ y) → IsPoint result (x +ℤ y) }
+        ensures least { (l h : ℤ) → FitsSigned w128 l → FitsSigned w128 h → IsFinite self.now → IsFinite other.now → ((x y : ℤ) → Admits self.now x → Admits other.now y → IsBetween l h (x +ℤ y)) → LiesBetween l h result }
+    {
+        Interval {
+            lo: add_low(self.lo, other.lo),
+            hi: add_high(self.hi, other.hi),
+        }
+    }
+
+    /// The differences of the numbers of both.
+    pub fn sub(&self, other: &Interval) -> Interval
+        ensures keeps { (x y : ℤ) → Admits self.now x → Admits other.now y → Admits result (x -ℤ y) }
+        ensures point { (x y : ℤ) → IsPoint self.now x → IsPoint other.now y → FitsSigned w128 (x -ℤ y) → IsPoint result (x -ℤ y) }
+        ensures least { (l h : ℤ) → FitsSigned w128 l → FitsSigned w128 h → IsFinite self.now → IsFinite other.now → ((x y : ℤ) → Admits self.now x → Admits other.now y → IsBetween l h (x -ℤ y)) → LiesBetween l h result }
+    {
+        Interval {
+            lo: sub_low(self.lo, other.hi),
+            hi: sub_high(self.hi, other.lo),
+        }
+    }
+
+    /// The products of the numbers of both.
+    pub fn mul(&self, other: &Interval) -> Interval
+        ensures keeps { (x y : ℤ) → Admits self.now x → Admits other.now y → Admits result (x *ℤ y) }
+        ensures point { (x y : ℤ) → IsPoint self.now x → IsPoint other.now y → FitsSigned w128 (x *ℤ y) → IsPoint result (x *ℤ y) }
+        ensures least { (l h : ℤ) → FitsSigned w128 l → FitsSigned w128 h → IsFinite self.now → IsFinite other.now → ((x y : ℤ) → Admits self.now x → Admits other.now y → IsBetween l h (x *ℤ y)) → LiesBetween l h result }
+    {
+        let (a, b, c, d) = (self.lo, self.hi, other.lo, other.hi);
+        Interval {
+            lo: least_product(a, b, c, d),
+            hi: greatest_product(a, b, c, d),
+        }
+    }
+
+    /// The quotients of its numbers by those of `other` that are not 0, rounded toward 0. Where `other`
+    /// holds 0 alone it may be any interval.
+    pub fn quot(&self, other: &Interval) -> Interval
+        ensures keeps { (x y : ℤ) → Admits self.now x → Admits other.now y → y ≢ pos 0 → Admits result (int_div x y) }
+        ensures point { (x y : ℤ) → IsPoint self.now x → IsPoint other.now y → y ≢ pos 0 → FitsSigned w128 (int_div x y) → IsPoint result (int_div x y) }
+        ensures least { (l h d : ℤ) → FitsSigned w128 l → FitsSigned w128 h → IsFinite self.now → IsFinite other.now → Admits other.now d → d ≢ pos 0 → ((x y : ℤ) → Admits self.now x → Admits other.now y → y ≢ pos 0 → IsBetween l h (int_div x y)) → LiesBetween l h result }
+    {
+        let negative = other.meet(Ext::Low, Ext::Fin(-1));
+        let positive = other.meet(Ext::Fin(1), Ext::High);
+        match (negative, positive) {
+            (Some(below), Some(above)) => self.quot_by(below).hull(self.quot_by(above)),
+            (Some(below), None) => self.quot_by(below),
+            (None, Some(above)) => self.quot_by(above),
+            (None, None) => Interval {
+                lo: Ext::Low,
+                hi: Ext::High,
+            },
+        }
+    }
+
+    /// The negations of its numbers.
+    pub fn neg(&self) -> Interval
+        ensures keeps { (x : ℤ) → Admits self.now x → Admits result (neg_ℤ x) }
+        ensures point { (x : ℤ) → IsPoint self.now x → FitsSigned w128 (neg_ℤ x) → IsPoint result (neg_ℤ x) }
+        ensures least { (l h : ℤ) → FitsSigned w128 l → FitsSigned w128 h → IsFinite self.now → ((x : ℤ) → Admits self.now x → IsBetween l h (neg_ℤ x)) → LiesBetween l h result }
+    {
+        Interval {
+            lo: neg_low(self.hi),
+            hi: neg_high(self.lo),
+        }
+    }
+
+    /// The numbers that lie from `lo` to `hi`, or None where there is none.
+    pub fn cut(&self, lo: i128, hi: i128) -> Option<Interval>
+        ensures none { IsNone result ↔ ((n : ℤ) → Admits self.now n → IsBetween lo hi n → ⊥) }
+        ensures some { IfSome result (λ i. (n : ℤ) → Admits i n ↔ (Admits self.now n × IsBetween lo hi n)) }
+        ensures point { (n : ℤ) → IsPoint self.now n → IsBetween lo hi n → IsSomeAnd result (λ i. IsPoint i n) }
+    {
+        self.meet(Ext::Fin(lo), Ext::Fin(hi))
+    }
+
+    // The numbers that lie between these ends, or None where there is none.
+    fn meet(&self, lo: Ext, hi: Ext) -> Option<Interval>
+        ensures none { IsNone result ↔ ((n : ℤ) → Admits self.now n → Below lo n → Above hi n → ⊥) }
+        ensures some { IfSome result (λ i. (n : ℤ) → Admits i n ↔ (Admits self.now n × Below lo n × Above hi n)) }
+        ensures ends { IfSome result (λ i. (least_end i ≡ greater (least_end self.now) lo) × (greatest_end i ≡ lesser (greatest_end self.now) hi)) }
+    {
+        let lo = max(self.lo, lo);
+        let hi = min(self.hi, hi);
+        if is_range(lo, hi) {
+            Some(Interval { lo, hi })
+        } else {
+            None
+        }
+    }
+
+    // The quotients by divisors on one side of 0.
+    fn quot_by(self, divisors: Interval) -> Interval
+        requires { IsOneSided divisors }
+        ensures keeps { (x y : ℤ) → Admits self x → Admits divisors y → Admits result (int_div x y) }
+        ensures least { (l h : ℤ) → FitsSigned w128 l → FitsSigned w128 h → IsFinite self → IsFinite divisors → ((x y : ℤ) → Admits self x → Admits divisors y → IsBetween l h (int_div x y)) → LiesBetween l h result }
+    {
+        let (a, b, c, d) = (self.lo, self.hi, divisors.lo, divisors.hi);
+        Interval {
+            lo: least_quotient(a, b, c, d),
+            hi: greatest_quotient(a, b, c, d),
+        }
+    }
+
+    // The least interval that holds both.
+    fn hull(self, other: Interval) -> Interval
+        ensures left { (n : ℤ) → Admits self n → Admits result n }
+        ensures right { (n : ℤ) → Admits other n → Admits result n }
+        ensures least { (l h : ℤ) → LiesBetween l h self → LiesBetween l h other → LiesBetween l h result }
+    {
+        Interval {
+            lo: min(self.lo, other.lo),
+            hi: max(self.hi, other.hi),
+        }
+    }
+}
+
+#[cfg(test)]
+mod tests {
+    use super::Ext::{Fin, High, Low};
+    use super::*;
+
+    const MIN: Ext = Fin(i128::MIN);
+
+    const MAX: Ext = Fin(i128::MAX);
+
+    // The interval between two ends, or all numbers where they hold none.
+    fn between(ends: (Ext, Ext)) -> Interval {
+        let all = Interval { lo: Low, hi: High };
+        all.meet(ends.0, ends.1).unwrap_or(all)
+    }
+
+    // Two operands; then their sums, differences and products.
+    #[test]
+    fn sums_differences_and_products(rt: HostRuntime) {
+        let rows = [
+            (
+                (Fin(2), Fin(3)),
+                (Fin(-1), Fin(4)),
+                (Fin(1), Fin(7)),
+                (Fin(-2), Fin(4)),
+                (Fin(-3), Fin(12)),
+            ),
+            (
+                (Fin(-7), Fin(7)),
+                (Fin(-2), Fin(3)),
+                (Fin(-9), Fin(10)),
+                (Fin(-10), Fin(9)),
+                (Fin(-21), Fin(21)),
+            ),
+            (
+                (Fin(-7), Fin(-2)),
+                (Fin(-4), Fin(5)),
+                (Fin(-11), Fin(3)),
+                (Fin(-12), Fin(2)),
+                (Fin(-35), Fin(28)),
+            ),
+            (
+                (Low, Fin(5)),
+                (Fin(2), Fin(3)),
+                (Low, Fin(8)),
+                (Low, Fin(3)),
+                (Low, Fin(15)),
+            ),
+            (
+                (Low, High),
+                (Fin(0), Fin(0)),
+                (Low, High),
+                (Low, High),
+                (Fin(0), Fin(0)),
+            ),
+            (
+                (Fin(100), High),
+                (Fin(-5), High),
+                (Fin(95), High),
+                (Low, High),
+                (Low, High),
+            ),
+            (
+                (MIN, MIN),
+                (Fin(-1), Fin(-1)),
+                (Low, High),
+                (Fin(i128::MIN + 1), Fin(i128::MIN + 1)),
+                (Low, High),
+            ),
+            (
+                (Fin(-1), Fin(-1)),
+                (MIN, MIN),
+                (Low, High),
+                (MAX, MAX),
+                (Low, High),
+            ),
+        ];
+        for (a, b, sums, differences, products) in rows {
+            let (first, second) = (between(a), between(b));
+            assert_eq!(rt; first.add(&second), between(sums), "{a:?} + {b:?}");
+            assert_eq!(rt; first.sub(&second), between(differences), "{a:?} - {b:?}");
+            assert_eq!(rt; first.mul(&second), between(products), "{a:?} * {b:?}");
+        }
+    }
+
+    // Dividends, divisors and quotients.
+    #[test]
+    fn quotients(rt: HostRuntime) {
+        let rows = [
+            ((Fin(-7), Fin(-7)), (Fin(2), Fin(2)), (Fin(-3), Fin(-3))),
+            ((Fin(2), Fin(3)), (Fin(-1), Fin(4)), (Fin(-3), Fin(3))),
+            ((Fin(10), Fin(20)), (Fin(0), Fin(5)), (Fin(2), Fin(20))),
+            ((Fin(10), Fin(20)), (Fin(-5), Fin(0)), (Fin(-20), Fin(-2))),
+            ((Fin(-9), Fin(20)), (Fin(-4), Fin(-2)), (Fin(-10), Fin(4))),
+            ((Low, Fin(5)), (Fin(2), Fin(3)), (Low, Fin(2))),
+            ((Fin(-8), Fin(5)), (Fin(2), High), (Fin(-4), Fin(2))),
+            ((MIN, MIN), (Fin(-1), Fin(-1)), (Low, High)),
+            ((MIN, MAX), (Fin(1), Fin(1)), (MIN, MAX)),
+        ];
+        for (a, b, quotients) in rows {
+            assert_eq!(rt;
+                between(a).quot(&between(b)),
+                between(quotients),
+                "{a:?} / {b:?}"
+            );
+        }
+    }
+
+    // An interval and two numbers; then what lies between them.
+    #[test]
+    fn cuts(rt: HostRuntime) {
+        let rows = [
+            ((Fin(2), Fin(9)), 2, 9, Some((Fin(2), Fin(9)))),
+            ((Fin(2), Fin(9)), 9, 12, Some((Fin(9), Fin(9)))),
+            ((Fin(2), Fin(9)), 10, 12, None),
+            ((Fin(2), Fin(9)), -3, 2, Some((Fin(2), Fin(2)))),
+            ((Fin(2), Fin(9)), -3, 1, None),
+            ((Fin(2), Fin(9)), 5, 4, None),
+            ((Low, Fin(4)), 0, 10, Some((Fin(0), Fin(4)))),
+            ((Low, High), i128::MIN, i128::MAX, Some((MIN, MAX))),
+        ];
+        for (a, lo, hi, kept) in rows {
+            assert_eq!(rt;
+                between(a).cut(lo, hi),
+                kept.map(between),
+                "{a:?} from {lo} to {hi}"
+            );
+        }
+    }
+
+    // An interval and its negations.
+    #[test]
+    fn negations(rt: HostRuntime) {
+        let rows = [
+            ((Fin(-2), Fin(9)), (Fin(-9), Fin(2))),
+            ((Low, Fin(4)), (Fin(-4), High)),
+            ((MIN, Fin(0)), (Fin(0), High)),
+        ];
+        for (a, negations) in rows {
+            assert_eq!(rt; between(a).neg(), between(negations), "-{a:?}");
+        }
+        let five = Interval::point(5);
+        assert_eq!(rt; (five.lo(), five.hi()), (Fin(5), Fin(5)));
+    }
+}
