@@ -1,0 +1,3 @@
+pub mod ParseSeen
+pub mod ParseOnly
+pub mod ParseLemmas

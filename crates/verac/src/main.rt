@@ -1,6 +1,7 @@
 //! Verac: what may go wrong in a C file, from its bytes to the report.
 #![tactic(auto)]
 
+mod parse;
 mod tree;
 
 use tree::{Expr, Operator};
