@@ -41,9 +41,9 @@ one_operator minus minus = refl
 one_operator star star = refl
 one_operator slash slash = refl
 
-same_operator : {level : Level} {t : Placed} {mark found : Punctuator} {op other : Operator} → t.token ≡ tokens.Punctuator mark → IsOperator level mark op → t.token ≡ tokens.Punctuator found
+same_operator : {level : Level} (t : Placed) {mark found : Punctuator} {op other : Operator} → t.token ≡ tokens.Punctuator mark → IsOperator level mark op → t.token ≡ tokens.Punctuator found
     → IsOperator level found other → op ≡ other
-same_operator {level} {t} {mark} {found} {op} {other} h i k j = let e : found ≡ mark = cc in one_operator i (subst (λ v. IsOperator level v other) e j)
+same_operator {level} t {mark} {found} {op} {other} h i k j = let e : found ≡ mark = cc in one_operator i (subst (λ v. IsOperator level v other) e j)
 
 -- the operator behind an operand of a sum is none of a product
 product_ends : {left e : ExprTree} {y : List Placed} (r : List Placed) → Derives (Rest Sum left) y e → NoneFrom Sum r → NoOperator Product (y ++ r)
@@ -54,14 +54,14 @@ operand_ends : (level : Level) {left e : ExprTree} {y : List Placed} (r : List P
 operand_ends Sum r d h = product_ends r d h
 operand_ends Product r d h = tt
 
--- a punctuator that is no operator ends each part
-closes : (level : Level) {op : Operator} → IsOperator level marks.RightParenthesis op → ⊥
-closes level h = elim h [ ]
+-- a punctuator that is no operator ends a sum
+pub mark_ends : (u : Placed) (r : List Placed) (mark : Punctuator) → u.token ≡ tokens.Punctuator mark → ((level : Level) (op : Operator) → IsOperator level mark op → ⊥) → MayEnd (Run Sum) (u ∷ r)
+mark_ends u r mark h none =
+    let ends : (level : Level) → NoOperator level (u ∷ r) = λ level found op f i. let e : found ≡ mark = cc in none level op (subst (λ v. IsOperator level v op) e i) in
+    (ends Sum, ends Product)
 
-pub closed_ends : (u : Placed) (r : List Placed) → u.token ≡ tokens.Punctuator marks.RightParenthesis → MayEnd (Run Sum) (u ∷ r)
-closed_ends u r h =
-    let none : (level : Level) → NoOperator level (u ∷ r) = λ level mark op f i. let e : mark ≡ marks.RightParenthesis = cc in closes level (subst (λ v. IsOperator level v op) e i) in
-    (none Sum, none Product)
+no_closing : (level : Level) (op : Operator) → IsOperator level marks.RightParenthesis op → ⊥
+no_closing level op h = elim h [ ]
 
 run_only : {level : Level} {ts s r : List Placed} {left e : ExprTree} → Ends (operand_of level) ts left s → Ends (Rest level left) s e r → Ends (Run level) ts e r
 run_only a b o (run_stops g) = cc (a _ g)
@@ -82,7 +82,7 @@ rest_more_only h i a b o (rest_stops k j g) = cc (a _ g)
 rest_more_only {level} {t} {mark} {op} {ts} {s} {r} {left} {right} {e} h i a b o (rest_goes {right = right'} {op = op'} {r = s'} k j g m) =
     let tree : right' ≡ right = cc (a _ g) in
     let rest : s' ≡ s = cc (a _ g) in
-    let same : op' ≡ op = sym (same_operator {t = t} h i k j) in
+    let same : op' ≡ op = sym (same_operator t h i k j) in
     b o (subst (λ v. Goes (Rest level (Binary t.pos v left right)) s o) same (subst (λ v. Goes (Rest level (Binary t.pos op' left v)) s o) tree (subst (λ v. Goes (Rest level (Binary t.pos op' left right')) v o) rest m)))
 
 negated_only : {t : Placed} {ts r : List Placed} {a : ExprTree} → t.token ≡ tokens.Punctuator marks.Minus → Ends Unary ts a r → Ends Unary (t ∷ ts) (Negate t.pos a) r
@@ -129,4 +129,4 @@ only (rest_more {level} {t} {x = x} {y = y} h i d k) r m =
 only (negated {t} {x} h d) r m = negated_only h (only d r tt)
 only (plain {x} d) r m = plain_only (primary_first r d) (only d r tt)
 only (constant h small) r m = constant_only h small
-only (enclosed {t} u {x} h k d) r m = ends_at (ap (λ v. t ∷ v) (sym (append_assoc x (u ∷ []) r))) (enclosed_only h k (only d (u ∷ r) (closed_ends u r k)))
+only (enclosed {t} u {x} h k d) r m = ends_at (ap (λ v. t ∷ v) (sym (append_assoc x (u ∷ []) r))) (enclosed_only h k (only d (u ∷ r) (mark_ends u r marks.RightParenthesis k no_closing)))

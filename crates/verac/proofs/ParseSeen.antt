@@ -22,24 +22,24 @@ Seen part ts Stop = Unit {0}
 join : (ts x r y s : List Placed) → ts ≡ x ++ r → r ≡ y ++ s → ts ≡ (x ++ y) ++ s
 join ts x r y s e f = e ∙ ap (λ v. x ++ v) f ∙ sym (append_assoc x y s)
 
-run_seen : {level : Level} {ts r : List Placed} {left : ExprTree} (o : Outcome) → IsTaken (operand_of level) ts left r → Seen (Rest level left) r o → Seen (Run level) ts o
-run_seen Stop i n = tt
-run_seen {level} {ts} {r} {left} (Done e s) i n =
+run_seen : (level : Level) (ts r : List Placed) (left : ExprTree) (o : Outcome) → IsTaken (operand_of level) ts left r → Seen (Rest level left) r o → Seen (Run level) ts o
+run_seen level ts r left Stop i n = tt
+run_seen level ts r left (Done e s) i n =
     record { front = i.front ++ n.front; splits = join ts i.front r n.front s i.splits n.splits; derived = run i.derived n.derived }
 
-rest_seen : {level : Level} {t : Placed} {mark : Punctuator} {op : Operator} {ts r : List Placed} {left right : ExprTree} (o : Outcome) → t.token ≡ tokens.Punctuator mark → IsOperator level mark op
+rest_seen : (level : Level) (t : Placed) {mark : Punctuator} {op : Operator} (ts r : List Placed) (left right : ExprTree) (o : Outcome) → t.token ≡ tokens.Punctuator mark → IsOperator level mark op
     → IsTaken (operand_of level) ts right r → Seen (Rest level (Binary t.pos op left right)) r o → Seen (Rest level left) (t ∷ ts) o
-rest_seen Stop h k i n = tt
-rest_seen {level} {t} {mark} {op} {ts} {r} {left} {right} (Done e s) h k i n =
+rest_seen level t ts r left right Stop h k i n = tt
+rest_seen level t ts r left right (Done e s) h k i n =
     record {
       front = t ∷ (i.front ++ n.front);
       splits = ap (λ v. t ∷ v) (join ts i.front r n.front s i.splits n.splits);
       derived = rest_more h k i.derived n.derived;
     }
 
-plain_seen : {ts : List Placed} (o : Outcome) → Seen Primary ts o → Seen Unary ts o
-plain_seen Stop i = tt
-plain_seen (Done e r) i = record { front = i.front; splits = i.splits; derived = plain i.derived }
+plain_seen : (ts : List Placed) (o : Outcome) → Seen Primary ts o → Seen Unary ts o
+plain_seen ts Stop i = tt
+plain_seen ts (Done e r) i = record { front = i.front; splits = i.splits; derived = plain i.derived }
 
 constant_seen : {t : Placed} {ts : List Placed} {e : ExprTree} → IsConstant t e → IsTaken Primary (t ∷ ts) e ts
 constant_seen {t} {ts} {e} (c, h, small, tree) =
@@ -47,15 +47,15 @@ constant_seen {t} {ts} {e} (c, h, small, tree) =
 
 pub seen : {part : Part} {ts : List Placed} {o : Outcome} → Goes part ts o → Seen part ts o
 seen (run_stops g) = tt
-seen (run_goes {o = o} g k) = run_seen o (seen g) (seen k)
+seen (run_goes {level} {ts} {r} {left} {o} g k) = run_seen level ts r left o (seen g) (seen k)
 seen (rest_done {ts = ts} h) = record { front = []; splits = refl; derived = rest_end }
 seen (rest_stops h k g) = tt
-seen (rest_goes {o = o} h k g m) = rest_seen o h k (seen g) (seen m)
+seen (rest_goes {level} {left} {right} {t} {mark} {op} {ts} {r} {o} h k g m) = rest_seen level t ts r left right o h k (seen g) (seen m)
 seen (negated_stops h g) = tt
 seen (negated_done {t} h g) =
     let i = seen g in
     record { front = t ∷ i.front; splits = ap (λ v. t ∷ v) i.splits; derived = negated h i.derived }
-seen (plain_goes {o = o} h g) = plain_seen o (seen g)
+seen (plain_goes {ts} {o} h g) = plain_seen ts o (seen g)
 seen (constant_done i) = constant_seen i
 seen (enclosed_stops h g) = tt
 seen (enclosed_left h g n) = tt
