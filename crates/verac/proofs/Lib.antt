@@ -1,3 +1,4 @@
 pub mod ParseSeen
 pub mod ParseOnly
 pub mod ParseLemmas
+pub mod ParseExact
