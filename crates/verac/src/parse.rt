@@ -87,31 +87,13 @@ fn is(placed: &Placed, fixed: Fixed) -> bool
     }
 }
 
-/// The first token, and those after it.
-fn first(tokens: &[Placed]) -> Option<(&Placed, &[Placed])>
-    ensures { MatchOption result (tokens.now ≡ []) (λ x. tokens.now ≡ x.0.now ∷ x.1.now) }
-{
-    match tokens {
-        [first, rest @ ..] => Some((first, rest)),
-        [] => None,
-    }
-}
-
 /// The first token and those after it, where it is this one.
 fn taken(tokens: &[Placed], fixed: Fixed) -> Option<(&Placed, &[Placed])>
     ensures { MatchOption result (NotFirst (token_of fixed) tokens.now)
         (λ x. IsFirst (token_of fixed) tokens.now x.0.now x.1.now) }
 {
-    match first(tokens) {
-        Some((head, rest)) => {
-            if is(head, fixed) {
-                Some((head, rest))
-            } else {
-                None
-            }
-        }
-        None => None,
-    }
+    let (head, rest) = tokens.split_first()?;
+    is(head, fixed).then_some((head, rest))
 }
 
 /// The tokens behind these, where they stand first.
@@ -121,10 +103,7 @@ fn behind<'a>(tokens: &'a [Placed], wanted: &[Fixed]) -> Option<&'a [Placed]>
 {
     let mut rest = tokens;
     for fixed in wanted {
-        match taken(rest, *fixed) {
-            Some((_, after)) => rest = after,
-            None => return None,
-        }
+        (_, rest) = taken(rest, *fixed)?;
     }
     Some(rest)
 }
@@ -174,13 +153,9 @@ fn operator(level: Level, tokens: &[Placed]) -> Option<(Pos, Operator, &[Placed]
     ensures { MatchOption result (NoOperator (level_of level) tokens.now)
         (λ x. IsOperatorFirst (level_of level) tokens.now x.0 x.1 x.2.now) }
 {
-    match first(tokens) {
-        Some((head, rest)) => match operator_at(level, head) {
-            Some(op) => Some((head.pos, op, rest)),
-            None => None,
-        },
-        None => None,
-    }
+    let (head, rest) = tokens.split_first()?;
+    let op = operator_at(level, head)?;
+    Some((head.pos, op, rest))
 }
 
 /// The node of a constant, where the token is one that an int holds.
@@ -203,13 +178,9 @@ fn constant_at(placed: &Placed) -> Option<Expr>
 fn constant(tokens: &[Placed]) -> Option<(Expr, &[Placed])>
     ensures { MatchOption result (NoConstant tokens.now) (λ x. IsConstantFirst tokens.now (expr_tree x.0) x.1.now) }
 {
-    match first(tokens) {
-        Some((head, rest)) => match constant_at(head) {
-            Some(e) => Some((e, rest)),
-            None => None,
-        },
-        None => None,
-    }
+    let (head, rest) = tokens.split_first()?;
+    let e = constant_at(head)?;
+    Some((e, rest))
 }
 
 fn negated(alloc: Global, at: Pos, e: Expr) -> Result<Expr, AllocError>
