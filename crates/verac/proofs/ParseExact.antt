@@ -1,5 +1,5 @@
 -- From the descent to the grammar.
-use Rattle.std.proofs.Common.{◌≡◌, ◌≤◌, ◌+◌, ℕ, pos, ◌≤ℤ◌, List, [], ◌∷◌, ◌++◌, length, length-append, map, refl, sym, ap, ◌∙◌, subst, append_assoc, arith}
+use Rattle.std.proofs.Common.{◌≡◌, ◌≤◌, List, [], ◌∷◌, ◌++◌, length, length-append, map, refl, sym, ap, ◌∙◌, subst, arith}
 use Rattle.std.specs.Prelude.{Option, Some, None, Result, IfOk, IfSome, MatchOption}
 use Rattle.std.proofs.lemmas.List.{length-map, append-nil}
 use Rattle.std.proofs.lemmas.Int.{ints}
@@ -13,7 +13,7 @@ use Rattle.verac.specs.declared.tree.Expr.{Expr}
 use Rattle.verac.specs.Tree.{ExprTree, expr_tree, HasConstants}
 use Rattle.verac.specs.Grammar.{Level, Sum, Product, Part, Run, Rest, Unary, Primary, operand_of, IsOperator, Derives, run, rest_end, rest_more, negated, plain, constant, enclosed, IsFile, head, tail}
 use Rattle.verac.specs.Descent.{Outcome, Done, Stop, Goes, Begins, Returns}
-use Rattle.verac.proofs.ParseSeen.{IsTaken, seen}
+use Rattle.verac.proofs.ParseSeen.{seen}
 use Rattle.verac.proofs.ParseOnly.{MayEnd, mark_ends, only}
 use Rattle.verac.proofs.ParseLemmas.{goes_at}
 

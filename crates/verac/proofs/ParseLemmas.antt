@@ -1,5 +1,5 @@
 -- From the code's answers to the descent.
-use Rattle.std.proofs.Common.{◌≡◌, ◌<◌, List, [], ◌∷◌, length, sym, ap, ◌∙◌, subst, Bor, MatchOption, IfOk, IfSome}
+use Rattle.std.proofs.Common.{◌≡◌, ◌<◌, List, length, sym, ap, ◌∙◌, subst, Bor, MatchOption, IfOk, IfSome}
 use Rattle.std.specs.Prelude.{ℕ, Option, Some, None, Result, Ok, Err}
 use Rattle.c_syntax.specs.declared.place.Pos.{Pos}
 use Rattle.c_syntax.specs.declared.token.Placed.{Placed}

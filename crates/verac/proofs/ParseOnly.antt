@@ -1,5 +1,5 @@
 -- Where the tokens begin with a derived part, and what follows cannot go on with it, a descent ends with that part.
-use Rattle.std.proofs.Common.{◌≡◌, ◌≤◌, ℕ, pos, List, [], ◌∷◌, ◌++◌, refl, sym, ap, ◌∙◌, subst, append_assoc}
+use Rattle.std.proofs.Common.{◌≡◌, ◌≤◌, pos, List, [], ◌∷◌, ◌++◌, refl, sym, ap, ◌∙◌, subst, append_assoc}
 use Rattle.c_syntax.specs.declared.token.Placed.{Placed}
 use Rattle.c_syntax.specs.declared.token.Constant.{Constant}
 use Rattle.c_syntax.specs.declared.token.Token.TheVariants as tokens
@@ -9,7 +9,7 @@ use Rattle.verac.specs.declared.tree.Operator.{Operator}
 use Rattle.verac.specs.Tree.{ExprTree, Negate, Binary}
 use Rattle.verac.specs.Tree as trees
 use Rattle.verac.specs.Grammar.{Level, Sum, Product, Part, Run, Rest, Unary, Primary, operand_of, IsOperator, plus, minus, star, slash, Derives, run, rest_end, rest_more, negated, plain, constant, enclosed}
-use Rattle.verac.specs.Descent.{Outcome, Done, Stop, NotFirst, NoOperator, NoConstant, IsConstant, Goes, run_stops, run_goes, rest_done, rest_stops, rest_goes, negated_stops, negated_done, plain_goes, constant_done, enclosed_stops, enclosed_left, enclosed_done, no_primary}
+use Rattle.verac.specs.Descent.{Outcome, Done, NotFirst, NoOperator, Goes, run_stops, run_goes, rest_done, rest_stops, rest_goes, negated_stops, negated_done, plain_goes, constant_done, enclosed_stops, enclosed_left, enclosed_done, no_primary}
 
 -- no operator of the level or of one below it is first
 abbrev pub NoneFrom : Level → List Placed → Type 0

@@ -1,11 +1,10 @@
 -- What a descent has seen: where it ends with a tree, the tokens that it took are derived with that tree.
-use Rattle.std.proofs.Common.{◌≡◌, ℕ, pos, List, [], ◌∷◌, ◌++◌, refl, sym, ap, ◌∙◌, subst, append_assoc}
+use Rattle.std.proofs.Common.{◌≡◌, List, [], ◌∷◌, ◌++◌, refl, sym, ap, ◌∙◌, subst, append_assoc}
 use Rattle.c_syntax.specs.declared.token.Placed.{Placed}
 use Rattle.c_syntax.specs.declared.token.Token.TheVariants as tokens
 use Rattle.c_syntax.specs.declared.token.Punctuator.{Punctuator}
 use Rattle.verac.specs.declared.tree.Operator.{Operator}
-use Rattle.verac.specs.Tree.{ExprTree, Negate, Binary}
-use Rattle.verac.specs.Tree as trees
+use Rattle.verac.specs.Tree.{ExprTree, Binary}
 use Rattle.verac.specs.Grammar.{Level, Part, Run, Rest, Unary, Primary, operand_of, IsOperator, Derives, run, rest_end, rest_more, negated, plain, constant, enclosed}
 use Rattle.verac.specs.Descent.{Outcome, Done, Stop, IsConstant, Goes, run_stops, run_goes, rest_done, rest_stops, rest_goes, negated_stops, negated_done, plain_goes, constant_done, enclosed_stops, enclosed_left, enclosed_done, no_primary}
 

@@ -1,5 +1,5 @@
 -- How one token of look-ahead at a time goes through the tokens. It is a step of the proof: the grammar says what is right.
-use Rattle.std.specs.Prelude.{◌≡◌, ◌≢◌, ◌≤◌, ◌⊎◌, ℕ, pos, List, [], ◌∷◌, ◌++◌, length, map}
+use Rattle.std.specs.Prelude.{◌≡◌, ◌≢◌, ◌≤◌, pos, List, [], ◌∷◌, ◌++◌, length, map}
 use Rattle.c_syntax.specs.declared.place.Pos.{Pos}
 use Rattle.c_syntax.specs.declared.token.Placed.{Placed}
 use Rattle.c_syntax.specs.declared.token.Constant.{Constant}

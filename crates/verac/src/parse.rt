@@ -189,13 +189,7 @@ fn negated(alloc: Global, at: Pos, e: Expr) -> Result<Expr, AllocError>
     Ok(Expr::Negate(at, Box::new(alloc, e)?))
 }
 
-fn binary(
-    alloc: Global,
-    at: Pos,
-    op: Operator,
-    left: Expr,
-    right: Expr,
-) -> Result<Expr, AllocError>
+fn binary(alloc: Global, at: Pos, op: Operator, left: Expr, right: Expr) -> Result<Expr, AllocError>
     ensures { IfOk result (λ made. expr_tree made ≡ trees.Binary at op (expr_tree left) (expr_tree right)) }
 {
     let left = Box::new(alloc, left)?;
@@ -305,13 +299,7 @@ fn returned(alloc: Global, tokens: &[Placed]) -> Result<Option<Expr>, AllocError
         return Ok(None);
     }
     match run(alloc, Level::Sum, tokens)? {
-        Some((e, rest)) => {
-            if is_tail(rest) {
-                Ok(Some(e))
-            } else {
-                Ok(None)
-            }
-        }
+        Some((e, rest)) => { if is_tail(rest) { Ok(Some(e)) } else { Ok(None) } }
         None => Ok(None),
     }
 }
@@ -328,5 +316,159 @@ pub fn file(alloc: Global, tokens: &[Placed]) -> Result<Option<Expr>, AllocError
     match behind(tokens, &HEAD) {
         Some(rest) => returned(alloc, rest),
         None => Ok(None),
+    }
+}
+
+#[cfg(test)]
+mod tests {
+    use super::file;
+    use crate::tree::{Expr, Operator};
+    use c_syntax::{Constant, Keyword, Name, Placed, Pos, Punctuator, Token};
+    use std::alloc::{AllocError, Global};
+    use std::test::Fail;
+
+    fn number_or_word(alloc: Global, word: &str) -> Result<Token, AllocError> {
+        match word.parse::<u64>() {
+            Ok(value) => Ok(Token::Number(Constant {
+                value,
+                decimal: true,
+                unsigned: false,
+                longs: 0,
+            })),
+            Err(_) => Ok(Token::Word(Name::from_vec(Vec::from_slice(alloc, word.as_bytes())?))),
+        }
+    }
+
+    fn token(alloc: Global, word: &str) -> Result<Token, AllocError> {
+        match word {
+            "int" => Ok(Token::Keyword(Keyword::Int)),
+            "void" => Ok(Token::Keyword(Keyword::Void)),
+            "return" => Ok(Token::Keyword(Keyword::Return)),
+            "(" => Ok(Token::Punctuator(Punctuator::LeftParenthesis)),
+            ")" => Ok(Token::Punctuator(Punctuator::RightParenthesis)),
+            "{" => Ok(Token::Punctuator(Punctuator::LeftBrace)),
+            "}" => Ok(Token::Punctuator(Punctuator::RightBrace)),
+            "+" => Ok(Token::Punctuator(Punctuator::Plus)),
+            "-" => Ok(Token::Punctuator(Punctuator::Minus)),
+            "*" => Ok(Token::Punctuator(Punctuator::Star)),
+            "/" => Ok(Token::Punctuator(Punctuator::Slash)),
+            ";" => Ok(Token::Punctuator(Punctuator::Semicolon)),
+            _ => number_or_word(alloc, word),
+        }
+    }
+
+    /// The tokens that a text spells with blanks between them, the nth one at the column n.
+    fn tokens(alloc: Global, text: &str) -> Result<Vec<Placed>, AllocError> {
+        let mut placed = Vec::new(alloc);
+        let mut col = 1u32;
+        for word in text.split_whitespace() {
+            let pos = Pos {
+                file: 0,
+                line: 1,
+                col,
+            };
+            let token = token(alloc, word)?;
+            placed.push(Placed { pos, token })?;
+            col = col.saturating_add(1);
+        }
+        Ok(placed)
+    }
+
+    fn sign(op: Operator) -> &'static str {
+        match op {
+            Operator::Add => "+",
+            Operator::Subtract => "-",
+            Operator::Multiply => "*",
+            Operator::Divide => "/",
+        }
+    }
+
+    /// The tree, each node with its column and in parentheses.
+    fn shown(alloc: Global, e: &Expr) -> Result<String, AllocError> {
+        match e {
+            Expr::Constant(at, n) => format!(in alloc; "{}@{}", n, at.col),
+            Expr::Negate(at, a) => {
+                let a = shown(alloc, a)?;
+                format!(in alloc; "(-@{} {})", at.col, a)
+            }
+            Expr::Binary(at, op, a, b) => {
+                let a = shown(alloc, a)?;
+                let b = shown(alloc, b)?;
+                format!(in alloc; "({} {}@{} {})", a, sign(*op), at.col, b)
+            }
+        }
+    }
+
+    /// The tree that the text is the file of, or `none`.
+    fn answer(alloc: Global, text: &str) -> Result<String, AllocError> {
+        let tokens = tokens(alloc, text)?;
+        match file(alloc, tokens.as_slice())? {
+            Some(e) => shown(alloc, &e),
+            None => String::from_str(alloc, "none"),
+        }
+    }
+
+    /// The file that returns 1 behind so many signs.
+    fn signs(alloc: Global, count: usize) -> Result<String, AllocError> {
+        let mut text = String::from_str(alloc, "int main ( void ) { return ")?;
+        for _ in 0..count {
+            text.push_str("- ")?;
+        }
+        text.push_str("1 ; }")?;
+        Ok(text)
+    }
+
+    #[test]
+    fn reads_returned_expressions(rt: HostRuntime) -> Result<(), Fail> {
+        let alloc = rt.alloc();
+        for (returned, want) in [
+            ("0", "0@8"),
+            ("2147483647", "2147483647@8"),
+            ("2147483648", "none"),
+            (
+                "1 + 2 * 3 - 4 / 5",
+                "((1@8 +@9 (2@10 *@11 3@12)) -@13 (4@14 /@15 5@16))",
+            ),
+            ("1 - 2 - 3", "((1@8 -@9 2@10) -@11 3@12)"),
+            ("- ( - 1 )", "(-@8 (-@10 1@11))"),
+            ("- 1 * 2", "((-@8 1@9) *@10 2@11)"),
+            ("( 1 + 2 ) * 3", "((1@9 +@10 2@11) *@13 3@14)"),
+            ("( ( ( 7 ) ) )", "7@11"),
+            ("( )", "none"),
+            ("( 1", "none"),
+            ("1 )", "none"),
+            ("1 +", "none"),
+            ("+ 1", "none"),
+            ("1 2", "none"),
+            ("x", "none"),
+            ("", "none"),
+        ] {
+            let text = format!(in alloc; "int main ( void ) {{ return {returned} ; }}")?;
+            let found = answer(alloc, text.as_str())?;
+            assert_eq!(rt; found.as_str(), want, "at {returned}");
+        }
+        Ok(())
+    }
+
+    #[test]
+    fn reads_whole_files(rt: HostRuntime) -> Result<(), Fail> {
+        let alloc = rt.alloc();
+        for text in [
+            "int main ( void ) { return 1 }",
+            "int main ( void ) { return 1 ; } ;",
+            "int main ( void ) { return 1 ;",
+            "int other ( void ) { return 1 ; }",
+            "void main ( void ) { return 1 ; }",
+            "int main ( ) { return 1 ; }",
+            "",
+        ] {
+            let found = answer(alloc, text)?;
+            assert_eq!(rt; found.as_str(), "none", "at {text}");
+        }
+        let longest = signs(alloc, 149)?;
+        assert!(rt; answer(alloc, longest.as_str())?.as_str() != "none");
+        let longer = signs(alloc, 150)?;
+        assert!(rt; answer(alloc, longer.as_str())?.as_str() == "none");
+        Ok(())
     }
 }

@@ -1,4 +1,4 @@
-use Rattle.std.proofs.Common.{◌≡◌, List, ◌∷◌, length, sym, ap, subst, arith}
+use Rattle.std.proofs.Common.{List, ◌∷◌, length, sym, ap, subst, arith}
 use Rattle.c_syntax.specs.declared.token.Placed.{Placed}
 use Rattle.verac.specs.Tree.{ExprTree, expr_tree}
 use Rattle.verac.specs.Grammar.{Run, Rest, Unary, Sum}
