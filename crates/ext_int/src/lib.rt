@@ -1,0 +1,275 @@
+//! Ends of ranges of whole numbers: an `i128`, or an infinite end below or above all numbers.
+//!
+//! A `_low` form answers a lower bound of the exact result and a `_high` form an upper bound. Where
+//! the exact result of finite operands is an `i128` both answer it; where it is none, a `_low` form
+//! answers `Low` and a `_high` form `High`. Nothing is refused, and nothing allocates.
+#![tactic(auto)]
+
+ghost use Rattle.std.specs.Prelude.{◌≡◌, ℤ, ◌+ℤ◌, neg_ℤ, FitsSigned, ◌↔◌, ◌⊎◌};
+ghost use Rattle.std.specs.Int.{w128};
+ghost use Rattle.std.specs.Option.{SomeIff};
+ghost use Rattle.std.specs.Ordering.{MatchOrdering};
+ghost use Rattle.ext_int.specs.Ext.{Below, Above, AtMost, Before, end_cmp, lesser, greater, low_end, high_end, rounded_low, rounded_high, sum_low, sum_high, side, infinite_product, product, negation, half};
+
+use std::cmp::Ordering;
+
+/// An end of a range: a number, or an infinite end.
+#[derive(Clone, Copy, Debug, PartialEq, Eq)]
+pub enum Ext {
+    /// Below every number.
+    Low,
+    /// The number itself.
+    Fin(i128),
+    /// Above every number.
+    High,
+}
+
+/// The sum as a lower bound; `Low` where an operand is infinite.
+pub fn add_low(a: Ext, b: Ext) -> Ext
+    ensures value { result ≡ sum_low a b }
+    ensures bound { (x y : ℤ) → Below a x → Below b y → Below result (x +ℤ y) }
+{
+    match (a, b) {
+        (Ext::Fin(x), Ext::Fin(y)) => or_low(x.checked_add(y)),
+        _ => Ext::Low,
+    }
+}
+
+/// The sum as an upper bound; `High` where an operand is infinite.
+pub fn add_high(a: Ext, b: Ext) -> Ext
+    ensures value { result ≡ sum_high a b }
+    ensures bound { (x y : ℤ) → Above a x → Above b y → Above result (x +ℤ y) }
+{
+    match (a, b) {
+        (Ext::Fin(x), Ext::Fin(y)) => or_high(x.checked_add(y)),
+        _ => Ext::High,
+    }
+}
+
+/// The product as a lower bound. With an infinite operand it is 0 where the other is 0, and else
+/// the infinite end of the product's sign.
+pub fn mul_low(a: Ext, b: Ext) -> Ext
+    ensures value { result ≡ rounded_low (product a b) }
+    ensures bound { AtMost result (product a b) }
+{
+    match (a, b) {
+        (Ext::Fin(x), Ext::Fin(y)) => or_low(x.checked_mul(y)),
+        _ => end_by_sides(side_of(a), side_of(b)),
+    }
+}
+
+/// The product as an upper bound. With an infinite operand it is 0 where the other is 0, and else
+/// the infinite end of the product's sign.
+pub fn mul_high(a: Ext, b: Ext) -> Ext
+    ensures value { result ≡ rounded_high (product a b) }
+    ensures bound { AtMost (product a b) result }
+{
+    match (a, b) {
+        (Ext::Fin(x), Ext::Fin(y)) => or_high(x.checked_mul(y)),
+        _ => end_by_sides(side_of(a), side_of(b)),
+    }
+}
+
+/// The negation as a lower bound.
+pub fn neg_low(a: Ext) -> Ext
+    ensures value { result ≡ rounded_low (negation a) }
+    ensures bound { (x : ℤ) → Above a x → Below result (neg_ℤ x) }
+{
+    match a {
+        Ext::Low => Ext::High,
+        Ext::Fin(x) => or_low(x.checked_neg()),
+        Ext::High => Ext::Low,
+    }
+}
+
+/// The negation as an upper bound.
+pub fn neg_high(a: Ext) -> Ext
+    ensures value { result ≡ rounded_high (negation a) }
+    ensures bound { (x : ℤ) → Below a x → Above result (neg_ℤ x) }
+{
+    match a {
+        Ext::Low => Ext::High,
+        Ext::Fin(x) => or_high(x.checked_neg()),
+        Ext::High => Ext::Low,
+    }
+}
+
+/// Half of an end, rounded down; an infinite end stays. It bounds `x` wherever `a` bounds `2 * x`.
+pub fn half_floor(a: Ext) -> Ext
+    ensures value { result ≡ half a }
+    ensures below { (x : ℤ) → Below a (x +ℤ x) → Below result x }
+    ensures above { (x : ℤ) → Above result x ↔ Above a (x +ℤ x) }
+{
+    match a {
+        Ext::Fin(x) => Ext::Fin(x.div_euclid(2)),
+        infinite => infinite,
+    }
+}
+
+/// The lesser of two ends.
+pub fn min(a: Ext, b: Ext) -> Ext
+    ensures value { result ≡ lesser a b }
+    ensures first { AtMost result a }
+    ensures second { AtMost result b }
+    ensures below { (x : ℤ) → Below result x ↔ (Below a x ⊎ Below b x) }
+    ensures above { (x : ℤ) → Above result x ↔ (Above a x × Above b x) }
+{
+    match cmp(a, b) {
+        Ordering::Greater => b,
+        _ => a,
+    }
+}
+
+/// The greater of two ends.
+pub fn max(a: Ext, b: Ext) -> Ext
+    ensures value { result ≡ greater a b }
+    ensures first { AtMost a result }
+    ensures second { AtMost b result }
+    ensures below { (x : ℤ) → Below result x ↔ (Below a x × Below b x) }
+    ensures above { (x : ℤ) → Above result x ↔ (Above a x ⊎ Above b x) }
+{
+    match cmp(a, b) {
+        Ordering::Less => b,
+        _ => a,
+    }
+}
+
+/// How `a` stands to `b`: `Low` is below every number, and `High` above.
+pub fn cmp(a: Ext, b: Ext) -> Ordering
+    ensures value { result ≡ end_cmp a b }
+    ensures ranks { MatchOrdering result (Before a b) (a ≡ b) (Before b a) }
+{
+    match (a, b) {
+        (Ext::Fin(x), Ext::Fin(y)) => x.cmp(&y),
+        (Ext::Low, Ext::Low) | (Ext::High, Ext::High) => Ordering::Equal,
+        (Ext::Low, _) | (_, Ext::High) => Ordering::Less,
+        _ => Ordering::Greater,
+    }
+}
+
+// The number, or `Low` where the exact result is no `i128`.
+fn or_low(exact: Option<i128>) -> Ext
+    ensures { (z : ℤ) → SomeIff exact (FitsSigned w128 z) z → result ≡ low_end z }
+{
+    match exact {
+        Some(n) => Ext::Fin(n),
+        None => Ext::Low,
+    }
+}
+
+// The number, or `High` where the exact result is no `i128`.
+fn or_high(exact: Option<i128>) -> Ext
+    ensures { (z : ℤ) → SomeIff exact (FitsSigned w128 z) z → result ≡ high_end z }
+{
+    match exact {
+        Some(n) => Ext::Fin(n),
+        None => Ext::High,
+    }
+}
+
+// Which side of 0 the end is on.
+fn side_of(a: Ext) -> Ordering
+    ensures { result ≡ side a }
+{
+    match a {
+        Ext::Low => Ordering::Less,
+        Ext::Fin(x) => x.cmp(&0),
+        Ext::High => Ordering::Greater,
+    }
+}
+
+// The product of two ends on these sides, one of them infinite.
+fn end_by_sides(a: Ordering, b: Ordering) -> Ext
+    ensures { result ≡ infinite_product a b }
+{
+    match (a, b) {
+        (Ordering::Equal, _) | (_, Ordering::Equal) => Ext::Fin(0),
+        (Ordering::Less, Ordering::Less) | (Ordering::Greater, Ordering::Greater) => Ext::High,
+        _ => Ext::Low,
+    }
+}
+
+#[cfg(test)]
+mod tests {
+    use super::Ext::{Fin, High, Low};
+    use super::*;
+
+    const MIN: Ext = Fin(i128::MIN);
+
+    const MAX: Ext = Fin(i128::MAX);
+
+    // Two operands; then their sum and their product, each as a lower and as an upper bound.
+    #[test]
+    fn sums_and_products(rt: HostRuntime) {
+        let rows = [
+            (Fin(2), Fin(-5), Fin(-3), Fin(-3), Fin(-10), Fin(-10)),
+            (MAX, Fin(1), Low, High, MAX, MAX),
+            (MAX, MIN, Fin(-1), Fin(-1), Low, High),
+            (MIN, Fin(-1), Low, High, Low, High),
+            (MIN, Fin(0), MIN, MIN, Fin(0), Fin(0)),
+            (
+                MAX,
+                Fin(-1),
+                Fin(i128::MAX - 1),
+                Fin(i128::MAX - 1),
+                Fin(-i128::MAX),
+                Fin(-i128::MAX),
+            ),
+            (Low, Fin(0), Low, High, Fin(0), Fin(0)),
+            (Fin(0), High, Low, High, Fin(0), Fin(0)),
+            (Low, Fin(7), Low, High, Low, Low),
+            (Fin(-7), Low, Low, High, High, High),
+            (High, Fin(-7), Low, High, Low, Low),
+            (High, High, Low, High, High, High),
+            (Low, Low, Low, High, High, High),
+            (High, Low, Low, High, Low, Low),
+        ];
+        for (a, b, sum_low, sum_high, product_low, product_high) in rows {
+            assert_eq!(rt; add_low(a, b), sum_low, "{a:?} + {b:?}");
+            assert_eq!(rt; add_high(a, b), sum_high, "{a:?} + {b:?}");
+            assert_eq!(rt; mul_low(a, b), product_low, "{a:?} * {b:?}");
+            assert_eq!(rt; mul_high(a, b), product_high, "{a:?} * {b:?}");
+        }
+    }
+
+    // An end; then its negation as a lower and as an upper bound, and its half.
+    #[test]
+    fn negations_and_halves(rt: HostRuntime) {
+        let rows = [
+            (Fin(-3), Fin(3), Fin(3), Fin(-2)),
+            (Fin(3), Fin(-3), Fin(-3), Fin(1)),
+            (Fin(-1), Fin(1), Fin(1), Fin(-1)),
+            (Fin(0), Fin(0), Fin(0), Fin(0)),
+            (MAX, Fin(-i128::MAX), Fin(-i128::MAX), Fin(i128::MAX / 2)),
+            (MIN, Low, High, Fin(i128::MIN / 2)),
+            (Low, High, High, Low),
+            (High, Low, Low, High),
+        ];
+        for (a, opposite_low, opposite_high, halved) in rows {
+            assert_eq!(rt; neg_low(a), opposite_low, "-{a:?}");
+            assert_eq!(rt; neg_high(a), opposite_high, "-{a:?}");
+            assert_eq!(rt; half_floor(a), halved, "half of {a:?}");
+        }
+    }
+
+    // Two ends; then how they stand, the lesser and the greater.
+    #[test]
+    fn orders(rt: HostRuntime) {
+        let rows = [
+            (Fin(-1), Fin(1), Ordering::Less, Fin(-1), Fin(1)),
+            (Fin(1), Fin(-1), Ordering::Greater, Fin(-1), Fin(1)),
+            (Fin(4), Fin(4), Ordering::Equal, Fin(4), Fin(4)),
+            (Low, MIN, Ordering::Less, Low, MIN),
+            (MAX, High, Ordering::Less, MAX, High),
+            (High, Low, Ordering::Greater, Low, High),
+            (MAX, Low, Ordering::Greater, Low, MAX),
+            (Low, Low, Ordering::Equal, Low, Low),
+            (High, High, Ordering::Equal, High, High),
+        ];
+        for (a, b, standing, lesser, greater) in rows {
+            assert_eq!(rt; cmp(a, b), standing, "{a:?} and {b:?}");
+            assert_eq!(rt; min(a, b), lesser, "{a:?} and {b:?}");
+            assert_eq!(rt; max(a, b), greater, "{a:?} and {b:?}");
+        }
+    }
+}
