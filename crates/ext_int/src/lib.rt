@@ -5,11 +5,9 @@
 //! answers `Low` and a `_high` form `High`. Nothing is refused, and nothing allocates.
 #![tactic(auto)]
 
-ghost use Rattle.std.specs.Prelude.{◌≡◌, ℤ, ◌+ℤ◌, neg_ℤ, FitsSigned, ◌↔◌, ◌⊎◌};
-ghost use Rattle.std.specs.Int.{w128};
-ghost use Rattle.std.specs.Option.{SomeIff};
+ghost use Rattle.std.specs.Prelude.{◌≡◌, ℤ, ◌+ℤ◌, neg_ℤ, ◌↔◌, ◌⊎◌, unwrap_or};
 ghost use Rattle.std.specs.Ordering.{MatchOrdering};
-ghost use Rattle.ext_int.specs.Ext.{Below, Above, AtMost, Before, end_cmp, lesser, greater, low_end, high_end, rounded_low, rounded_high, sum_low, sum_high, side, infinite_product, product, negation, half};
+ghost use Rattle.ext_int.specs.Ext.{Below, Above, AtMost, Before, end_cmp, lesser, greater, rounded_low, rounded_high, sum_low, sum_high, side, infinite_product, product, negation, half};
 
 use std::cmp::Ordering;
 
@@ -29,10 +27,7 @@ pub fn add_low(a: Ext, b: Ext) -> Ext
     ensures value { result ≡ sum_low a b }
     ensures bound { (x y : ℤ) → Below a x → Below b y → Below result (x +ℤ y) }
 {
-    match (a, b) {
-        (Ext::Fin(x), Ext::Fin(y)) => or_low(x.checked_add(y)),
-        _ => Ext::Low,
-    }
+    exact_sum(a, b).unwrap_or(Ext::Low)
 }
 
 /// The sum as an upper bound; `High` where an operand is infinite.
@@ -40,10 +35,7 @@ pub fn add_high(a: Ext, b: Ext) -> Ext
     ensures value { result ≡ sum_high a b }
     ensures bound { (x y : ℤ) → Above a x → Above b y → Above result (x +ℤ y) }
 {
-    match (a, b) {
-        (Ext::Fin(x), Ext::Fin(y)) => or_high(x.checked_add(y)),
-        _ => Ext::High,
-    }
+    exact_sum(a, b).unwrap_or(Ext::High)
 }
 
 /// The product as a lower bound. With an infinite operand it is 0 where the other is 0, and else
@@ -52,10 +44,7 @@ pub fn mul_low(a: Ext, b: Ext) -> Ext
     ensures value { result ≡ rounded_low (product a b) }
     ensures bound { AtMost result (product a b) }
 {
-    match (a, b) {
-        (Ext::Fin(x), Ext::Fin(y)) => or_low(x.checked_mul(y)),
-        _ => end_by_sides(side_of(a), side_of(b)),
-    }
+    exact_product(a, b).unwrap_or(Ext::Low)
 }
 
 /// The product as an upper bound. With an infinite operand it is 0 where the other is 0, and else
@@ -64,10 +53,7 @@ pub fn mul_high(a: Ext, b: Ext) -> Ext
     ensures value { result ≡ rounded_high (product a b) }
     ensures bound { AtMost (product a b) result }
 {
-    match (a, b) {
-        (Ext::Fin(x), Ext::Fin(y)) => or_high(x.checked_mul(y)),
-        _ => end_by_sides(side_of(a), side_of(b)),
-    }
+    exact_product(a, b).unwrap_or(Ext::High)
 }
 
 /// The negation as a lower bound.
@@ -75,11 +61,7 @@ pub fn neg_low(a: Ext) -> Ext
     ensures value { result ≡ rounded_low (negation a) }
     ensures bound { (x : ℤ) → Above a x → Below result (neg_ℤ x) }
 {
-    match a {
-        Ext::Low => Ext::High,
-        Ext::Fin(x) => or_low(x.checked_neg()),
-        Ext::High => Ext::Low,
-    }
+    exact_negation(a).unwrap_or(Ext::Low)
 }
 
 /// The negation as an upper bound.
@@ -87,11 +69,7 @@ pub fn neg_high(a: Ext) -> Ext
     ensures value { result ≡ rounded_high (negation a) }
     ensures bound { (x : ℤ) → Below a x → Above result (neg_ℤ x) }
 {
-    match a {
-        Ext::Low => Ext::High,
-        Ext::Fin(x) => or_high(x.checked_neg()),
-        Ext::High => Ext::Low,
-    }
+    exact_negation(a).unwrap_or(Ext::High)
 }
 
 /// Half of an end, rounded down; an infinite end stays. It bounds `x` wherever `a` bounds `2 * x`.
@@ -147,23 +125,37 @@ pub fn cmp(a: Ext, b: Ext) -> Ordering
     }
 }
 
-// The number, or `Low` where the exact result is no `i128`.
-fn or_low(exact: Option<i128>) -> Ext
-    ensures { (z : ℤ) → SomeIff exact (FitsSigned w128 z) z → result ≡ low_end z }
+// The sum, where it is one number that is an `i128`.
+fn exact_sum(a: Ext, b: Ext) -> Option<Ext>
+    ensures low { sum_low a b ≡ unwrap_or result Ext.Low }
+    ensures high { sum_high a b ≡ unwrap_or result Ext.High }
 {
-    match exact {
-        Some(n) => Ext::Fin(n),
-        None => Ext::Low,
+    match (a, b) {
+        (Ext::Fin(x), Ext::Fin(y)) => x.checked_add(y).map(Ext::Fin),
+        _ => None,
     }
 }
 
-// The number, or `High` where the exact result is no `i128`.
-fn or_high(exact: Option<i128>) -> Ext
-    ensures { (z : ℤ) → SomeIff exact (FitsSigned w128 z) z → result ≡ high_end z }
+// The product, where it is infinite or an `i128`.
+fn exact_product(a: Ext, b: Ext) -> Option<Ext>
+    ensures low { rounded_low (product a b) ≡ unwrap_or result Ext.Low }
+    ensures high { rounded_high (product a b) ≡ unwrap_or result Ext.High }
 {
-    match exact {
-        Some(n) => Ext::Fin(n),
-        None => Ext::High,
+    match (a, b) {
+        (Ext::Fin(x), Ext::Fin(y)) => x.checked_mul(y).map(Ext::Fin),
+        _ => Some(product_by_sides(side_of(a), side_of(b))),
+    }
+}
+
+// The negation, where it is infinite or an `i128`.
+fn exact_negation(a: Ext) -> Option<Ext>
+    ensures low { rounded_low (negation a) ≡ unwrap_or result Ext.Low }
+    ensures high { rounded_high (negation a) ≡ unwrap_or result Ext.High }
+{
+    match a {
+        Ext::Low => Some(Ext::High),
+        Ext::Fin(x) => x.checked_neg().map(Ext::Fin),
+        Ext::High => Some(Ext::Low),
     }
 }
 
@@ -179,7 +171,7 @@ fn side_of(a: Ext) -> Ordering
 }
 
 // The product of two ends on these sides, one of them infinite.
-fn end_by_sides(a: Ordering, b: Ordering) -> Ext
+fn product_by_sides(a: Ordering, b: Ordering) -> Ext
     ensures { result ≡ infinite_product a b }
 {
     match (a, b) {
