@@ -1,5 +1,5 @@
 -- Ends of ranges: whole numbers, and two infinite ends. An `Ext` of the logic may hold any whole number; one of the code holds an i128.
-use Rattle.std.specs.Prelude.{ℕ, zero, suc, ℤ, pos, negsuc, ◌+ℤ◌, ◌*ℤ◌, neg_ℤ, ◌≤ℤ◌, ◌<ℤ◌, ◌^◌, Bool, nat_lt, if◌then◌else◌}
+use Rattle.std.specs.Prelude.{ℕ, zero, suc, ℤ, pos, negsuc, ◌+ℤ◌, ◌*ℤ◌, neg_ℤ, ◌≤ℤ◌, ◌<ℤ◌, ◌^◌, Bool, nat_lt, if◌then◌else◌, int_div}
 use Rattle.std.specs.Int.{int_min, int_max, int_div_euclid}
 use Rattle.std.specs.Ordering.{int_cmp}
 use Rattle.std.specs.declared.cmp.Ordering.{Ordering}
@@ -71,6 +71,13 @@ greater (Fin x) (Fin y) = Fin (int_max x y)
 greater (Fin x) High = High
 greater High b = High
 
+-- the least and the greatest of four ends
+abbrev pub least_of : Ext → Ext → Ext → Ext → Ext
+least_of p q r s = lesser (lesser p q) (lesser r s)
+
+abbrev pub greatest_of : Ext → Ext → Ext → Ext → Ext
+greatest_of p q r s = greater (greater p q) (greater r s)
+
 -- ---- ends that hold an i128
 
 -- the number is an i128
@@ -132,6 +139,14 @@ infinite_product Greater Greater = High
 abbrev pub product : Ext → Ext → Ext
 product (Fin x) (Fin y) = Fin (x *ℤ y)
 product a b = infinite_product (side a) (side b)
+
+-- the exact quotient of two ends, rounded toward 0, where the divisor is not 0: 0 by an infinite end
+abbrev pub quotient : Ext → Ext → Ext
+quotient a Low = Fin (pos 0)
+quotient a High = Fin (pos 0)
+quotient Low (Fin y) = product Low (Fin y)
+quotient (Fin x) (Fin y) = Fin (int_div x y)
+quotient High (Fin y) = product High (Fin y)
 
 -- the exact negation of an end
 abbrev pub negation : Ext → Ext

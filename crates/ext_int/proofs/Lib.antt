@@ -1,0 +1,4 @@
+pub mod Ends
+pub mod Corners
+pub mod Products
+pub mod Quotients
