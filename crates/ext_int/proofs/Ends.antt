@@ -1,10 +1,12 @@
 -- The order of ends, the least and the greatest of some, and ends rounded to what an i128 holds.
-use Rattle.std.proofs.Common.{◌≡◌, ℕ, ℤ, pos, negsuc, ◌≤ℤ◌, neg_ℤ, ◌⊎◌, inl, inr, arith, refl, sym, ap, subst, FitsSigned}
-use Rattle.std.proofs.lemmas.Int.{ints, clamps}
+use Rattle.std.proofs.Common.{◌≡◌, ℕ, ℤ, pos, negsuc, ◌≤ℤ◌, neg_ℤ, ◌⊎◌, inl, inr, arith, refl, ap, FitsSigned}
+use Rattle.std.specs.Prelude.{IsTrue}
+use Rattle.std.specs.Int.RustNames.{int_le}
+use Rattle.std.proofs.lemmas.Int.{ints}
 use mir.Syntax.{w128}
 use Rattle.ext_int.specs.declared.Ext.{Ext}
 use Rattle.ext_int.specs.declared.Ext.TheVariants.{Low, Fin, High}
-use Rattle.ext_int.specs.Ext.{Below, Above, AtMost, lesser, greater, low_end, high_end, rounded_low, rounded_high, negation, least_of, greatest_of}
+use Rattle.ext_int.specs.Ext.{Below, Above, holds_number, AtMost, lesser, greater, low_end, high_end, rounded_low, rounded_high, negation, least_of, greatest_of}
 
 -- ---- the order
 
@@ -46,6 +48,55 @@ pub Above-from_at_most : (a : Ext) (n : ℤ) → AtMost (Fin n) a → Above a n
 Above-from_at_most Low n h = h
 Above-from_at_most (Fin x) n h = h
 Above-from_at_most High n h = tt
+
+pub AtMost_antisymm : (a b : Ext) → AtMost a b → AtMost b a → a ≡ b
+AtMost_antisymm Low Low h k = refl
+AtMost_antisymm Low (Fin y) h k = absurd k
+AtMost_antisymm Low High h k = absurd k
+AtMost_antisymm (Fin x) Low h k = absurd h
+AtMost_antisymm (Fin x) (Fin y) h k = ap Fin (omega (arith, ints))
+AtMost_antisymm (Fin x) High h k = absurd k
+AtMost_antisymm High Low h k = absurd h
+AtMost_antisymm High (Fin y) h k = absurd h
+AtMost_antisymm High High h k = refl
+
+-- ---- ranges that hold a number
+
+pub int_le-true : (x y : ℤ) → x ≤ℤ y → IsTrue (int_le x y)
+int_le-true x y h = grind (arith, ints)
+
+pub le-from_int_le : (x y : ℤ) → IsTrue (int_le x y) → x ≤ℤ y
+le-from_int_le x y h = grind (arith, ints)
+
+pub holds_number_from : (a b : Ext) (n : ℤ) → Below a n → Above b n → IsTrue (holds_number a b)
+holds_number_from Low Low n h k = absurd k
+holds_number_from Low (Fin y) n h k = refl
+holds_number_from Low High n h k = refl
+holds_number_from (Fin x) Low n h k = absurd k
+holds_number_from (Fin x) (Fin y) n h k = int_le-true x y (omega (arith, ints))
+holds_number_from (Fin x) High n h k = refl
+holds_number_from High b n h k = absurd h
+
+-- a number between the two ends
+pub number_between : (a b : Ext) → IsTrue (holds_number a b) → (n : ℤ) × Below a n × Above b n
+number_between Low Low h = cc
+number_between Low (Fin y) h = (y, tt, omega (arith, ints))
+number_between Low High h = (pos 0, tt, tt)
+number_between (Fin x) Low h = cc
+number_between (Fin x) (Fin y) h = (x, omega (arith, ints), le-from_int_le x y h)
+number_between (Fin x) High h = (x, omega (arith, ints), tt)
+number_between High b h = cc
+
+-- each end that is a number lies between the two
+pub Above-low_end : (n : ℤ) (b : Ext) → IsTrue (holds_number (Fin n) b) → Above b n
+Above-low_end n Low h = cc
+Above-low_end n (Fin y) h = le-from_int_le n y h
+Above-low_end n High h = tt
+
+pub Below-high_end : (a : Ext) (n : ℤ) → IsTrue (holds_number a (Fin n)) → Below a n
+Below-high_end Low n h = tt
+Below-high_end (Fin x) n h = le-from_int_le x n h
+Below-high_end High n h = cc
 
 -- ---- the lesser and the greater
 
@@ -168,3 +219,10 @@ greatest_of_rounded p q r s =
 -- a number between two that are an i128 is one
 pub fits_between : (l h z : ℤ) → FitsSigned w128 l → FitsSigned w128 h → l ≤ℤ z → z ≤ℤ h → FitsSigned w128 z
 fits_between l h z f g p q = omega (arith, ints)
+
+-- so rounding keeps it between them
+pub low_end_within : (l h z : ℤ) → FitsSigned w128 l → FitsSigned w128 h → l ≤ℤ z → z ≤ℤ h → AtMost (Fin l) (low_end z)
+low_end_within l h z f g p q = rw (low_end-fits z (fits_between l h z f g p q)) p
+
+pub high_end_within : (l h z : ℤ) → FitsSigned w128 l → FitsSigned w128 h → l ≤ℤ z → z ≤ℤ h → AtMost (high_end z) (Fin h)
+high_end_within l h z f g p q = rw (high_end-fits z (fits_between l h z f g p q)) q

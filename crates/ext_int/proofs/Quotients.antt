@@ -7,23 +7,9 @@ use Rattle.std.proofs.lemmas.Int.{ints}
 use Rattle.std.proofs.lemmas.Nat.{le-div}
 use Rattle.ext_int.specs.declared.Ext.{Ext}
 use Rattle.ext_int.specs.declared.Ext.TheVariants.{Low, Fin, High}
-use Rattle.ext_int.specs.Ext.{Below, Above, AtMost, least_of, greatest_of, quotient, negation, rounded_low, rounded_high}
+use Rattle.ext_int.specs.Ext.{Below, Above, AtMost, IsPositive, IsNegative, least_of, greatest_of, quotient, negation, rounded_low, rounded_high}
 use Rattle.ext_int.proofs.Ends.{AtMost_trans, AtMost-from_below, AtMost-from_above, Below-from_at_most, Above-from_at_most, negation_falls, least_of_rounded, greatest_of_rounded}
 use Rattle.ext_int.proofs.Corners.{Rises, Falls, AnyEnd, corners_low, corners_high}
-
--- the end is above 0, or below it
-abbrev pub IsPositive : Ext → Type 0
-IsPositive Low = ⊥
-IsPositive (Fin (pos zero)) = ⊥
-IsPositive (Fin (pos (suc n))) = Unit {0}
-IsPositive (Fin (negsuc n)) = ⊥
-IsPositive High = Unit {0}
-
-abbrev pub IsNegative : Ext → Type 0
-IsNegative Low = Unit {0}
-IsNegative (Fin (pos n)) = ⊥
-IsNegative (Fin (negsuc n)) = Unit {0}
-IsNegative High = ⊥
 
 pub IsPositive_up : (a b : Ext) → AtMost a b → IsPositive a → IsPositive b
 IsPositive_up Low b h p = absurd p

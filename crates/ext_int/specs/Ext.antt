@@ -1,6 +1,7 @@
 -- Ends of ranges: whole numbers, and two infinite ends. An `Ext` of the logic may hold any whole number; one of the code holds an i128.
-use Rattle.std.specs.Prelude.{ℕ, zero, suc, ℤ, pos, negsuc, ◌+ℤ◌, ◌*ℤ◌, neg_ℤ, ◌≤ℤ◌, ◌<ℤ◌, ◌^◌, Bool, nat_lt, if◌then◌else◌, int_div}
+use Rattle.std.specs.Prelude.{ℕ, zero, suc, ℤ, pos, negsuc, ◌+ℤ◌, ◌*ℤ◌, neg_ℤ, ◌≤ℤ◌, ◌<ℤ◌, ◌^◌, Bool, true, false, nat_lt, if◌then◌else◌, int_div}
 use Rattle.std.specs.Int.{int_min, int_max, int_div_euclid}
+use Rattle.std.specs.Int.RustNames.{int_le}
 use Rattle.std.specs.Ordering.{int_cmp}
 use Rattle.std.specs.declared.cmp.Ordering.{Ordering}
 use Rattle.std.specs.declared.cmp.Ordering.TheVariants.{Less, Equal, Greater}
@@ -20,6 +21,36 @@ abbrev pub Above : Ext → ℤ → Type 0
 Above Low n = ⊥
 Above (Fin k) n = n ≤ℤ k
 Above High n = Unit {0}
+
+-- some number lies between the two ends
+abbrev pub holds_number : Ext → Ext → Bool
+holds_number Low Low = false
+holds_number Low (Fin y) = true
+holds_number Low High = true
+holds_number (Fin x) Low = false
+holds_number (Fin x) (Fin y) = int_le x y
+holds_number (Fin x) High = true
+holds_number High b = false
+
+-- the end is a number
+abbrev pub IsNumber : Ext → Type 0
+IsNumber Low = ⊥
+IsNumber (Fin x) = Unit {0}
+IsNumber High = ⊥
+
+-- the end is above 0, or below it
+abbrev pub IsPositive : Ext → Type 0
+IsPositive Low = ⊥
+IsPositive (Fin (pos zero)) = ⊥
+IsPositive (Fin (pos (suc n))) = Unit {0}
+IsPositive (Fin (negsuc n)) = ⊥
+IsPositive High = Unit {0}
+
+abbrev pub IsNegative : Ext → Type 0
+IsNegative Low = Unit {0}
+IsNegative (Fin (pos n)) = ⊥
+IsNegative (Fin (negsuc n)) = Unit {0}
+IsNegative High = ⊥
 
 -- ---- the order of ends
 
