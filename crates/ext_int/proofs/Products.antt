@@ -7,7 +7,7 @@ use Rattle.std.specs.declared.cmp.Ordering.{Ordering}
 use Rattle.std.specs.declared.cmp.Ordering.TheVariants.{Less, Equal, Greater}
 use Rattle.ext_int.specs.declared.Ext.{Ext}
 use Rattle.ext_int.specs.declared.Ext.TheVariants.{Low, Fin, High}
-use Rattle.ext_int.specs.Ext.{Below, Above, AtMost, least_of, greatest_of, lesser, greater, side, infinite_product, product, rounded_low, rounded_high}
+use Rattle.ext_int.specs.Ext.{Below, Above, AtMost, least_of, greatest_of, least_corner, greatest_corner, lesser, greater, side, infinite_product, product, rounded_low, rounded_high}
 use Rattle.ext_int.proofs.Ends.{AtMost_trans, AtMost-from_below, AtMost-from_above, Below-from_at_most, Above-from_at_most, least_of_rounded, greatest_of_rounded}
 use Rattle.ext_int.proofs.Corners.{Rises, Falls, AnyEnd, corners_low, corners_high}
 
@@ -136,14 +136,14 @@ product_turns_first e = ⊎_elim
 -- ---- the corners
 
 -- the product of a number between `a` and `b` and one between `c` and `d` is not below the least product of the ends ..
-pub product_corners_low : (a b c d : Ext) (x y : ℤ) → Below a x → Above b x → Below c y → Above d y → Below (least_of (rounded_low (product a c)) (rounded_low (product a d)) (rounded_low (product b c)) (rounded_low (product b d))) (x *ℤ y)
+pub product_corners_low : (a b c d : Ext) (x y : ℤ) → Below a x → Above b x → Below c y → Above d y → Below (least_corner product a b c d) (x *ℤ y)
 product_corners_low a b c d x y h k i j =
     Below-from_at_most _ (x *ℤ y) (AtMost_trans _ (least_of (product a c) (product a d) (product b c) (product b d)) (Fin (x *ℤ y))
     (least_of_rounded (product a c) (product a d) (product b c) (product b d))
     (corners_low product AnyEnd product_turns (λ e _. product_turns_first e) a b c d (Fin x) (Fin y) (AtMost-from_below a x h) (AtMost-from_above b x k) (AtMost-from_below c y i) (AtMost-from_above d y j) tt tt tt))
 
 -- .. and not above the greatest
-pub product_corners_high : (a b c d : Ext) (x y : ℤ) → Below a x → Above b x → Below c y → Above d y → Above (greatest_of (rounded_high (product a c)) (rounded_high (product a d)) (rounded_high (product b c)) (rounded_high (product b d))) (x *ℤ y)
+pub product_corners_high : (a b c d : Ext) (x y : ℤ) → Below a x → Above b x → Below c y → Above d y → Above (greatest_corner product a b c d) (x *ℤ y)
 product_corners_high a b c d x y h k i j =
     Above-from_at_most _ (x *ℤ y) (AtMost_trans (Fin (x *ℤ y)) (greatest_of (product a c) (product a d) (product b c) (product b d)) _
     (corners_high product AnyEnd product_turns (λ e _. product_turns_first e) a b c d (Fin x) (Fin y) (AtMost-from_below a x h) (AtMost-from_above b x k) (AtMost-from_below c y i) (AtMost-from_above d y j) tt tt tt)

@@ -7,7 +7,7 @@ use Rattle.std.proofs.lemmas.Int.{ints}
 use Rattle.std.proofs.lemmas.Nat.{le-div}
 use Rattle.ext_int.specs.declared.Ext.{Ext}
 use Rattle.ext_int.specs.declared.Ext.TheVariants.{Low, Fin, High}
-use Rattle.ext_int.specs.Ext.{Below, Above, AtMost, IsPositive, IsNegative, least_of, greatest_of, quotient, negation, rounded_low, rounded_high}
+use Rattle.ext_int.specs.Ext.{Below, Above, AtMost, IsPositive, IsNegative, least_of, greatest_of, least_corner, greatest_corner, quotient, negation, rounded_low, rounded_high}
 use Rattle.ext_int.proofs.Ends.{AtMost_trans, AtMost-from_below, AtMost-from_above, Below-from_at_most, Above-from_at_most, negation_falls, least_of_rounded, greatest_of_rounded}
 use Rattle.ext_int.proofs.Corners.{Rises, Falls, AnyEnd, corners_low, corners_high}
 
@@ -178,14 +178,14 @@ ends_high a b c d x y h k i j one_side = ⊎_elim
     one_side
 
 -- the quotient of a number between `a` and `b` by one between `c` and `d`, with 0 not between them, is not below the least quotient of the ends ..
-pub quotient_corners_low : (a b c d : Ext) (x y : ℤ) → Below a x → Above b x → Below c y → Above d y → (IsPositive c ⊎ IsNegative d) → Below (least_of (rounded_low (quotient a c)) (rounded_low (quotient a d)) (rounded_low (quotient b c)) (rounded_low (quotient b d))) (int_div x y)
+pub quotient_corners_low : (a b c d : Ext) (x y : ℤ) → Below a x → Above b x → Below c y → Above d y → (IsPositive c ⊎ IsNegative d) → Below (least_corner quotient a b c d) (int_div x y)
 quotient_corners_low a b c d x y h k i j one_side =
     Below-from_at_most _ (int_div x y) (AtMost_trans _ (least_of (quotient a c) (quotient a d) (quotient b c) (quotient b d)) (Fin (int_div x y))
     (least_of_rounded (quotient a c) (quotient a d) (quotient b c) (quotient b d))
     (ends_low a b c d (Fin x) (Fin y) (AtMost-from_below a x h) (AtMost-from_above b x k) (AtMost-from_below c y i) (AtMost-from_above d y j) one_side))
 
 -- .. and not above the greatest
-pub quotient_corners_high : (a b c d : Ext) (x y : ℤ) → Below a x → Above b x → Below c y → Above d y → (IsPositive c ⊎ IsNegative d) → Above (greatest_of (rounded_high (quotient a c)) (rounded_high (quotient a d)) (rounded_high (quotient b c)) (rounded_high (quotient b d))) (int_div x y)
+pub quotient_corners_high : (a b c d : Ext) (x y : ℤ) → Below a x → Above b x → Below c y → Above d y → (IsPositive c ⊎ IsNegative d) → Above (greatest_corner quotient a b c d) (int_div x y)
 quotient_corners_high a b c d x y h k i j one_side =
     Above-from_at_most _ (int_div x y) (AtMost_trans (Fin (int_div x y)) (greatest_of (quotient a c) (quotient a d) (quotient b c) (quotient b d)) _
     (ends_high a b c d (Fin x) (Fin y) (AtMost-from_below a x h) (AtMost-from_above b x k) (AtMost-from_below c y i) (AtMost-from_above d y j) one_side)

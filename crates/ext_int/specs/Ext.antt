@@ -190,3 +190,13 @@ abbrev pub half : Ext → Ext
 half Low = Low
 half (Fin x) = Fin (int_div_euclid x (pos 2))
 half High = High
+
+-- ---- operations on two ranges, one from `a` to `b` and one from `c` to `d`
+
+-- the least of the operation's values at the ends of the ranges, as a lower bound
+abbrev pub least_corner : (Ext → Ext → Ext) → Ext → Ext → Ext → Ext → Ext
+least_corner op a b c d = least_of (rounded_low (op a c)) (rounded_low (op a d)) (rounded_low (op b c)) (rounded_low (op b d))
+
+-- the greatest of them, as an upper bound
+abbrev pub greatest_corner : (Ext → Ext → Ext) → Ext → Ext → Ext → Ext → Ext
+greatest_corner op a b c d = greatest_of (rounded_high (op a c)) (rounded_high (op a d)) (rounded_high (op b c)) (rounded_high (op b d))
