@@ -1,0 +1,7 @@
+use Rattle.intervals.proofs.Arithmetic.{sum_least}
+use Rattle.intervals.proofs.Interval.add.Goals as goal
+
+pub returns-clause-least : goal.returns-clause-least
+returns-clause-least c = λ l h f g first second within.
+    rw (c.add_low.ensures.value, c.add_high.ensures.value)
+    (sum_least l h f g _ _ _ _ first.0 first.1 second.0 second.1 c.args.self.now.holds c.args.other.now.holds within)

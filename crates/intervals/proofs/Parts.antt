@@ -1,0 +1,172 @@
+-- Parts of an interval between two ends, and quotients by the parts of the divisors below and above 0.
+use Rattle.std.proofs.Common.{◌≡◌, ◌≢◌, ℕ, zero, suc, ℤ, pos, negsuc, ◌≤ℤ◌, ◌⊎◌, inl, inr, ⊎_elim, arith, refl, sym, subst, FitsSigned}
+use Rattle.std.specs.Prelude.{Option, Some, None, IfSome, ◌↔◌, int_div}
+use Rattle.std.proofs.lemmas.Int.{ints}
+use mir.Syntax.{w128}
+use Rattle.ext_int.specs.declared.Ext.{Ext}
+use Rattle.ext_int.specs.declared.Ext.TheVariants.{Low, Fin, High}
+use Rattle.ext_int.specs.Ext.{Below, Above, AtMost, IsNumber, IsPositive, IsNegative, lesser, greater}
+use Rattle.ext_int.proofs.Ends.{lesser_second, greater_second}
+use Rattle.ext_int.proofs.Quotients.{IsPositive_up, IsNegative_down}
+use Rattle.intervals.specs.declared.Interval.{Interval}
+use Rattle.intervals.specs.Interval.{Admits, IsPoint, IsFinite, IsBetween, LiesBetween, least_end, greatest_end}
+use Rattle.intervals.proofs.Arithmetic.{point_between}
+
+-- the numbers of an interval between two numbers, said by ends and by the numbers
+pub cut_some : (r : Option Interval) (s : Interval) (k m lo hi : ℤ) → k ≡ lo → m ≡ hi → IfSome r (λ i. (n : ℤ) → Admits i n ↔ (Admits s n × Below (Fin k) n × Above (Fin m) n)) → IfSome r (λ i. (n : ℤ) → Admits i n ↔ (Admits s n × IsBetween lo hi n))
+cut_some None s k m lo hi e f fact = fact
+cut_some (Some i) s k m lo hi e f fact = λ n.
+    let both = fact n in (
+      λ p. let q = both.0 p in let low : k ≤ℤ n = q.1 in let high : n ≤ℤ m = q.2 in (q.0, (omega (arith, ints), omega (arith, ints))),
+      λ p. let low : lo ≤ℤ n = p.1.0 in let high : n ≤ℤ hi = p.1.1 in both.1 (p.0, omega (arith, ints), omega (arith, ints)),
+    )
+
+-- ---- the two sides of 0
+
+by_side : (y : ℤ) → y ≢ pos 0 → (y ≤ℤ negsuc 0) ⊎ (pos 1 ≤ℤ y)
+by_side (pos zero) ne = absurd (ne refl)
+by_side (pos (suc n)) ne = inr (omega (arith, ints))
+by_side (negsuc n) ne = inl (omega (arith, ints))
+
+below_not_zero : (y : ℤ) → y ≤ℤ negsuc 0 → y ≢ pos 0
+below_not_zero y h e = omega (arith, ints)
+
+above_not_zero : (y : ℤ) → pos 1 ≤ℤ y → y ≢ pos 0
+above_not_zero y h e = omega (arith, ints)
+
+-- the part is the numbers below 0, or those above it
+pub record IsBelow (o i : Interval) : Type 0 where
+  pub numbers : (n : ℤ) → Admits i n ↔ (Admits o n × Below Low n × Above (Fin (negsuc 0)) n)
+  pub ends : (least_end i ≡ greater (least_end o) Low) × (greatest_end i ≡ lesser (greatest_end o) (Fin (negsuc 0)))
+
+pub record IsAbove (o i : Interval) : Type 0 where
+  pub numbers : (n : ℤ) → Admits i n ↔ (Admits o n × Below (Fin (pos 1)) n × Above High n)
+  pub ends : (least_end i ≡ greater (least_end o) (Fin (pos 1))) × (greatest_end i ≡ lesser (greatest_end o) High)
+
+-- there is no number below 0, or none above it
+abbrev pub NoneBelow : Interval → Type 0
+NoneBelow o = (n : ℤ) → Admits o n → Below Low n → Above (Fin (negsuc 0)) n → ⊥
+
+abbrev pub NoneAbove : Interval → Type 0
+NoneAbove o = (n : ℤ) → Admits o n → Below (Fin (pos 1)) n → Above High n → ⊥
+
+greater_number : (p q : Ext) → IsNumber p → IsNumber q → IsNumber (greater p q)
+greater_number Low q h k = absurd h
+greater_number (Fin x) Low h k = tt
+greater_number (Fin x) (Fin y) h k = tt
+greater_number (Fin x) High h k = k
+greater_number High q h k = absurd h
+
+lesser_number : (p q : Ext) → IsNumber p → IsNumber q → IsNumber (lesser p q)
+lesser_number Low q h k = absurd h
+lesser_number (Fin x) Low h k = k
+lesser_number (Fin x) (Fin y) h k = tt
+lesser_number (Fin x) High h k = tt
+lesser_number High q h k = absurd h
+
+greater_low : (p : Ext) → IsNumber p → IsNumber (greater p Low)
+greater_low Low h = h
+greater_low (Fin x) h = tt
+greater_low High h = h
+
+lesser_high : (p : Ext) → IsNumber p → IsNumber (lesser p High)
+lesser_high Low h = h
+lesser_high (Fin x) h = tt
+lesser_high High h = h
+
+pub below_finite : (o i : Interval) → IsBelow o i → IsFinite o → IsFinite i
+below_finite o i part finite =
+    (subst IsNumber (sym part.ends.0) (greater_low (least_end o) finite.0), subst IsNumber (sym part.ends.1) (lesser_number (greatest_end o) (Fin (negsuc 0)) finite.1 tt))
+
+pub above_finite : (o i : Interval) → IsAbove o i → IsFinite o → IsFinite i
+above_finite o i part finite =
+    (subst IsNumber (sym part.ends.0) (greater_number (least_end o) (Fin (pos 1)) finite.0 tt), subst IsNumber (sym part.ends.1) (lesser_high (greatest_end o) finite.1))
+
+pub below_negative : (o i : Interval) → IsBelow o i → IsPositive (least_end i) ⊎ IsNegative (greatest_end i)
+below_negative o i part =
+    inr (subst IsNegative (sym part.ends.1) (IsNegative_down _ (Fin (negsuc 0)) (lesser_second (greatest_end o) (Fin (negsuc 0))) tt))
+
+pub above_positive : (o i : Interval) → IsAbove o i → IsPositive (least_end i) ⊎ IsNegative (greatest_end i)
+above_positive o i part =
+    inl (subst IsPositive (sym part.ends.0) (IsPositive_up (Fin (pos 1)) _ (greater_second (least_end o) (Fin (pos 1))) tt))
+
+-- ---- what a quotient keeps, and that it is the least
+
+abbrev pub Keeps : Interval → Interval → Interval → Type 0
+Keeps s o r = (x y : ℤ) → Admits s x → Admits o y → y ≢ pos 0 → Admits r (int_div x y)
+
+abbrev pub Least : Interval → Interval → Interval → Type 0
+Least s o r = (l h d : ℤ) → FitsSigned w128 l → FitsSigned w128 h → IsFinite s → IsFinite o → Admits o d → d ≢ pos 0 → ((x y : ℤ) → Admits s x → Admits o y → y ≢ pos 0 → IsBetween l h (int_div x y)) → LiesBetween l h r
+
+-- the same where no divisor is 0
+pub record Divides (s o r : Interval) : Type 0 where
+  pub keeps : (x y : ℤ) → Admits s x → Admits o y → Admits r (int_div x y)
+  pub least : (l h : ℤ) → FitsSigned w128 l → FitsSigned w128 h → IsFinite s → IsFinite o → ((x y : ℤ) → Admits s x → Admits o y → IsBetween l h (int_div x y)) → LiesBetween l h r
+
+pub point_quotient : (s o r : Interval) → Keeps s o r → Least s o r → (x y : ℤ) → IsPoint s x → IsPoint o y → y ≢ pos 0 → FitsSigned w128 (int_div x y) → IsPoint r (int_div x y)
+point_quotient s o r keeps least x y p q ne fits =
+    let at_x = admits_point s x p in
+    let at_y = admits_point o y q in
+    let kept = keeps x y at_x at_y ne in
+    let between = least (int_div x y) (int_div x y) y fits fits (finite_point s x p) (finite_point o y q) at_y ne (alone s o x y p q) in
+    point_between (least_end r) (greatest_end r) (int_div x y) kept.0 kept.1 between.0 between.1
+  where
+    admits_point : (i : Interval) (n : ℤ) → IsPoint i n → Admits i n
+    admits_point i n p =
+        let self : n ≤ℤ n = omega (arith, ints) in
+        (subst (λ (e : Ext). Below e n) (sym p.0) self, subst (λ (e : Ext). Above e n) (sym p.1) self)
+
+    finite_point : (i : Interval) (n : ℤ) → IsPoint i n → IsFinite i
+    finite_point i n p = (subst IsNumber (sym p.0) tt, subst IsNumber (sym p.1) tt)
+
+    only : (i : Interval) (n m : ℤ) → IsPoint i n → Admits i m → m ≡ n
+    only i n m p q =
+        let low : n ≤ℤ m = subst (λ (e : Ext). Below e m) p.0 q.0 in
+        let high : m ≤ℤ n = subst (λ (e : Ext). Above e m) p.1 q.1 in
+        omega (arith, ints)
+
+    same : (x y u v : ℤ) → u ≡ x → v ≡ y → IsBetween (int_div x y) (int_div x y) (int_div u v)
+    same x y u v e f =
+        let self : IsBetween (int_div x y) (int_div x y) (int_div x y) = (omega (arith, ints), omega (arith, ints)) in
+        rw (e, f) self
+
+    alone : (s o : Interval) (x y : ℤ) → IsPoint s x → IsPoint o y → (u v : ℤ) → Admits s u → Admits o v → v ≢ pos 0 → IsBetween (int_div x y) (int_div x y) (int_div u v)
+    alone s o x y p q u v i j ne = same x y u v (only s x u p i) (only o y v q j)
+
+-- ---- quotients by the parts of the divisors
+
+module _ (s o : Interval) where
+  pub keeps_below : (b r : Interval) → IsBelow o b → NoneAbove o → Divides s b r → Keeps s o r
+  keeps_below b r part none by x y p q ne = ⊎_elim
+      (λ (h : y ≤ℤ negsuc 0). by.keeps x y p ((part.numbers y).1 (q, tt, h)))
+      (λ (h : pos 1 ≤ℤ y). absurd (none y q h tt))
+      (by_side y ne)
+
+  pub keeps_above : (a r : Interval) → NoneBelow o → IsAbove o a → Divides s a r → Keeps s o r
+  keeps_above a r none part by x y p q ne = ⊎_elim
+      (λ (h : y ≤ℤ negsuc 0). absurd (none y q tt h))
+      (λ (h : pos 1 ≤ℤ y). by.keeps x y p ((part.numbers y).1 (q, h, tt)))
+      (by_side y ne)
+
+  pub least_below : (b r : Interval) → IsBelow o b → Divides s b r → Least s o r
+  least_below b r part by l h d f g first second at_d ne within =
+      by.least l h f g first (below_finite o b part second)
+      (λ x y p q. let there = (part.numbers y).0 q in within x y p there.0 (below_not_zero y there.2))
+
+  pub least_above : (a r : Interval) → IsAbove o a → Divides s a r → Least s o r
+  least_above a r part by l h d f g first second at_d ne within =
+      by.least l h f g first (above_finite o a part second)
+      (λ x y p q. let there = (part.numbers y).0 q in within x y p there.0 (above_not_zero y there.1))
+
+  pub keeps_both : (b a q t r : Interval) → IsBelow o b → IsAbove o a → Divides s b q → Divides s a t → ((n : ℤ) → Admits q n → Admits r n) → ((n : ℤ) → Admits t n → Admits r n) → Keeps s o r
+  keeps_both b a q t r below above by_b by_a left right x y i j ne = ⊎_elim
+      (λ (h : y ≤ℤ negsuc 0). left (int_div x y) (by_b.keeps x y i ((below.numbers y).1 (j, tt, h))))
+      (λ (h : pos 1 ≤ℤ y). right (int_div x y) (by_a.keeps x y i ((above.numbers y).1 (j, h, tt))))
+      (by_side y ne)
+
+  pub least_both : (b a q t r : Interval) → IsBelow o b → IsAbove o a → Divides s b q → Divides s a t → ((l h : ℤ) → LiesBetween l h q → LiesBetween l h t → LiesBetween l h r) → Least s o r
+  least_both b a q t r below above by_b by_a both l h d f g first second at_d ne within =
+      both l h (least_below b q below by_b l h d f g first second at_d ne within) (least_above a t above by_a l h d f g first second at_d ne within)
+
+  pub one_side_there : (y : ℤ) → NoneBelow o → NoneAbove o → Admits o y → y ≢ pos 0 → ⊥
+  one_side_there y below above q ne = ⊎_elim (λ (h : y ≤ℤ negsuc 0). below y q tt h) (λ (h : pos 1 ≤ℤ y). above y q h tt) (by_side y ne)

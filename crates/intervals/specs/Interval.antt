@@ -1,0 +1,39 @@
+-- Intervals of whole numbers.
+use Rattle.std.specs.Prelude.{◌≡◌, ℤ, ◌≤ℤ◌}
+use Rattle.intervals.specs.declared.Interval.{Interval}
+use Rattle.ext_int.specs.declared.Ext.{Ext}
+use Rattle.ext_int.specs.declared.Ext.TheVariants.{Fin}
+use Rattle.ext_int.specs.Ext.{Below, Above, AtMost, IsNumber, IsPositive, IsNegative}
+use Rattle.std.specs.Prelude.{◌⊎◌}
+
+-- the least end of the interval: its least number, or Low
+abbrev pub least_end : Interval → Ext
+least_end i = i.lo
+
+-- the greatest end of the interval: its greatest number, or High
+abbrev pub greatest_end : Interval → Ext
+greatest_end i = i.hi
+
+-- the number lies between the interval's ends
+abbrev pub Admits : Interval → ℤ → Type 0
+Admits i n = Below (least_end i) n × Above (greatest_end i) n
+
+-- the interval holds this number and nothing else
+abbrev pub IsPoint : Interval → ℤ → Type 0
+IsPoint i n = (least_end i ≡ Fin n) × (greatest_end i ≡ Fin n)
+
+-- both ends are numbers
+abbrev pub IsFinite : Interval → Type 0
+IsFinite i = IsNumber (least_end i) × IsNumber (greatest_end i)
+
+-- the number lies between these two
+abbrev pub IsBetween : ℤ → ℤ → ℤ → Type 0
+IsBetween l h n = (l ≤ℤ n) × (n ≤ℤ h)
+
+-- the whole interval lies between the two numbers
+abbrev pub LiesBetween : ℤ → ℤ → Interval → Type 0
+LiesBetween l h i = AtMost (Fin l) (least_end i) × AtMost (greatest_end i) (Fin h)
+
+-- all numbers of the interval are above 0, or all are below it
+abbrev pub IsOneSided : Interval → Type 0
+IsOneSided i = IsPositive (least_end i) ⊎ IsNegative (greatest_end i)
