@@ -1,11 +1,11 @@
 -- What the ends of an interval say of the results of an operation, over the ends of its operands.
-use Rattle.std.proofs.Common.{◌≡◌, ◌≢◌, zero, suc, ℤ, pos, negsuc, ◌⊎◌, ⊎_elim, ◌+ℤ◌, ◌-ℤ◌, ◌*ℤ◌, neg_ℤ, ◌≤ℤ◌, arith, refl, sym, FitsSigned}
+use Rattle.std.proofs.Common.{◌≡◌, ◌≢◌, zero, suc, ℤ, pos, negsuc, ◌⊎◌, ⊎_elim, ◌+ℤ◌, ◌-ℤ◌, ◌*ℤ◌, neg_ℤ, ◌≤ℤ◌, arith, FitsSigned}
 use Rattle.std.specs.Prelude.{IsTrue, int_div}
 use Rattle.std.proofs.lemmas.Int.{ints}
 use mir.Syntax.{w128}
 use Rattle.ext_int.specs.declared.Ext.{Ext}
 use Rattle.ext_int.specs.declared.Ext.TheVariants.{Low, Fin, High}
-use Rattle.ext_int.specs.Ext.{Below, Above, holds_number, IsNumber, IsPositive, IsNegative, AtMost, low_end, high_end, rounded_low, rounded_high, sum_low, sum_high, product, quotient, negation, lesser, greater, least_of, greatest_of, least_corner, greatest_corner}
+use Rattle.ext_int.specs.Ext.{Below, Above, holds_number, IsNumber, IsPositive, IsNegative, AtMost, low_end, high_end, rounded_low, rounded_high, sum_low, sum_high, product, quotient, negation, least_of, greatest_of, least_corner, greatest_corner}
 use Rattle.ext_int.proofs.Ends.{AtMost_refl, AtMost_trans, AtMost_antisymm, AtMost-from_below, AtMost-from_above, Below-from_at_most, Above-from_at_most, number_between, holds_number_from, rounded_low_below, rounded_high_above, le-from_int_le, low_end_within, high_end_within, lesser_greatest, greater_least}
 use Rattle.ext_int.proofs.Products.{product_corners_low, product_corners_high}
 use Rattle.ext_int.proofs.Quotients.{quotient_corners_low, quotient_corners_high, IsPositive_up, IsNegative_down}

@@ -1,5 +1,5 @@
 -- Parts of an interval between two ends, and quotients by the parts of the divisors below and above 0.
-use Rattle.std.proofs.Common.{◌≡◌, ◌≢◌, ℕ, zero, suc, ℤ, pos, negsuc, ◌≤ℤ◌, ◌⊎◌, inl, inr, ⊎_elim, arith, refl, sym, subst, FitsSigned}
+use Rattle.std.proofs.Common.{◌≡◌, ◌≢◌, zero, suc, ℤ, pos, negsuc, ◌≤ℤ◌, ◌⊎◌, inl, inr, ⊎_elim, arith, refl, sym, subst, FitsSigned}
 use Rattle.std.specs.Prelude.{Option, Some, None, IfSome, ◌↔◌, int_div}
 use Rattle.std.proofs.lemmas.Int.{ints}
 use mir.Syntax.{w128}
@@ -92,81 +92,91 @@ above_positive o i part =
 
 -- ---- what a quotient keeps, and that it is the least
 
-abbrev pub Keeps : Interval → Interval → Interval → Type 0
-Keeps s o r = (x y : ℤ) → Admits s x → Admits o y → y ≢ pos 0 → Admits r (int_div x y)
-
-abbrev pub Least : Interval → Interval → Interval → Type 0
-Least s o r = (l h d : ℤ) → FitsSigned w128 l → FitsSigned w128 h → IsFinite s → IsFinite o → Admits o d → d ≢ pos 0 → ((x y : ℤ) → Admits s x → Admits o y → y ≢ pos 0 → IsBetween l h (int_div x y)) → LiesBetween l h r
+-- the quotients by the divisors that are not 0 lie between the ends, which are no wider than two i128s that hold all of them
+pub record IsQuotient (s o : Interval) (lo hi : Ext) : Type 0 where
+  pub keeps : (x y : ℤ) → Admits s x → Admits o y → y ≢ pos 0 → Below lo (int_div x y) × Above hi (int_div x y)
+  pub least : (l h d : ℤ) → FitsSigned w128 l → FitsSigned w128 h → IsFinite s → IsFinite o → Admits o d → d ≢ pos 0 → ((x y : ℤ) → Admits s x → Admits o y → y ≢ pos 0 → IsBetween l h (int_div x y)) → AtMost (Fin l) lo × AtMost hi (Fin h)
 
 -- the same where no divisor is 0
 pub record Divides (s o r : Interval) : Type 0 where
   pub keeps : (x y : ℤ) → Admits s x → Admits o y → Admits r (int_div x y)
   pub least : (l h : ℤ) → FitsSigned w128 l → FitsSigned w128 h → IsFinite s → IsFinite o → ((x y : ℤ) → Admits s x → Admits o y → IsBetween l h (int_div x y)) → LiesBetween l h r
 
-pub point_quotient : (s o r : Interval) → Keeps s o r → Least s o r → (x y : ℤ) → IsPoint s x → IsPoint o y → y ≢ pos 0 → FitsSigned w128 (int_div x y) → IsPoint r (int_div x y)
-point_quotient s o r keeps least x y p q ne fits =
+admits_point : (i : Interval) (n : ℤ) → IsPoint i n → Admits i n
+admits_point i n p =
+    let self : n ≤ℤ n = omega (arith, ints) in
+    (subst (λ (e : Ext). Below e n) (sym p.0) self, subst (λ (e : Ext). Above e n) (sym p.1) self)
+
+finite_point : (i : Interval) (n : ℤ) → IsPoint i n → IsFinite i
+finite_point i n p = (subst IsNumber (sym p.0) tt, subst IsNumber (sym p.1) tt)
+
+only_point : (i : Interval) (n m : ℤ) → IsPoint i n → Admits i m → m ≡ n
+only_point i n m p q =
+    let low : n ≤ℤ m = subst (λ (e : Ext). Below e m) p.0 q.0 in
+    let high : m ≤ℤ n = subst (λ (e : Ext). Above e m) p.1 q.1 in
+    omega (arith, ints)
+
+same_quotient : (x y u v : ℤ) → u ≡ x → v ≡ y → IsBetween (int_div x y) (int_div x y) (int_div u v)
+same_quotient x y u v e f =
+    let self : IsBetween (int_div x y) (int_div x y) (int_div x y) = (omega (arith, ints), omega (arith, ints)) in
+    rw (e, f) self
+
+-- so at two points it is a point
+pub quotient_point : (s o : Interval) (lo hi : Ext) → IsQuotient s o lo hi → (x y : ℤ) → IsPoint s x → IsPoint o y → y ≢ pos 0 → FitsSigned w128 (int_div x y) → (lo ≡ Fin (int_div x y)) × (hi ≡ Fin (int_div x y))
+quotient_point s o lo hi quotient x y p q ne fits =
     let at_x = admits_point s x p in
     let at_y = admits_point o y q in
-    let kept = keeps x y at_x at_y ne in
-    let between = least (int_div x y) (int_div x y) y fits fits (finite_point s x p) (finite_point o y q) at_y ne (alone s o x y p q) in
-    point_between (least_end r) (greatest_end r) (int_div x y) kept.0 kept.1 between.0 between.1
-  where
-    admits_point : (i : Interval) (n : ℤ) → IsPoint i n → Admits i n
-    admits_point i n p =
-        let self : n ≤ℤ n = omega (arith, ints) in
-        (subst (λ (e : Ext). Below e n) (sym p.0) self, subst (λ (e : Ext). Above e n) (sym p.1) self)
-
-    finite_point : (i : Interval) (n : ℤ) → IsPoint i n → IsFinite i
-    finite_point i n p = (subst IsNumber (sym p.0) tt, subst IsNumber (sym p.1) tt)
-
-    only : (i : Interval) (n m : ℤ) → IsPoint i n → Admits i m → m ≡ n
-    only i n m p q =
-        let low : n ≤ℤ m = subst (λ (e : Ext). Below e m) p.0 q.0 in
-        let high : m ≤ℤ n = subst (λ (e : Ext). Above e m) p.1 q.1 in
-        omega (arith, ints)
-
-    same : (x y u v : ℤ) → u ≡ x → v ≡ y → IsBetween (int_div x y) (int_div x y) (int_div u v)
-    same x y u v e f =
-        let self : IsBetween (int_div x y) (int_div x y) (int_div x y) = (omega (arith, ints), omega (arith, ints)) in
-        rw (e, f) self
-
-    alone : (s o : Interval) (x y : ℤ) → IsPoint s x → IsPoint o y → (u v : ℤ) → Admits s u → Admits o v → v ≢ pos 0 → IsBetween (int_div x y) (int_div x y) (int_div u v)
-    alone s o x y p q u v i j ne = same x y u v (only s x u p i) (only o y v q j)
+    let kept = quotient.keeps x y at_x at_y ne in
+    let between = quotient.least (int_div x y) (int_div x y) y fits fits (finite_point s x p) (finite_point o y q) at_y ne
+    (λ u v i j _. same_quotient x y u v (only_point s x u p i) (only_point o y v q j)) in
+    point_between lo hi (int_div x y) kept.0 kept.1 between.0 between.1
 
 -- ---- quotients by the parts of the divisors
 
 module _ (s o : Interval) where
-  pub keeps_below : (b r : Interval) → IsBelow o b → NoneAbove o → Divides s b r → Keeps s o r
-  keeps_below b r part none by x y p q ne = ⊎_elim
-      (λ (h : y ≤ℤ negsuc 0). by.keeps x y p ((part.numbers y).1 (q, tt, h)))
-      (λ (h : pos 1 ≤ℤ y). absurd (none y q h tt))
-      (by_side y ne)
-
-  pub keeps_above : (a r : Interval) → NoneBelow o → IsAbove o a → Divides s a r → Keeps s o r
-  keeps_above a r none part by x y p q ne = ⊎_elim
-      (λ (h : y ≤ℤ negsuc 0). absurd (none y q tt h))
-      (λ (h : pos 1 ≤ℤ y). by.keeps x y p ((part.numbers y).1 (q, h, tt)))
-      (by_side y ne)
-
-  pub least_below : (b r : Interval) → IsBelow o b → Divides s b r → Least s o r
-  least_below b r part by l h d f g first second at_d ne within =
+  least_below : (b r : Interval) → IsBelow o b → Divides s b r → (l h : ℤ) → FitsSigned w128 l → FitsSigned w128 h → IsFinite s → IsFinite o → ((x y : ℤ) → Admits s x → Admits o y → y ≢ pos 0 → IsBetween l h (int_div x y)) → LiesBetween l h r
+  least_below b r part by l h f g first second within =
       by.least l h f g first (below_finite o b part second)
       (λ x y p q. let there = (part.numbers y).0 q in within x y p there.0 (below_not_zero y there.2))
 
-  pub least_above : (a r : Interval) → IsAbove o a → Divides s a r → Least s o r
-  least_above a r part by l h d f g first second at_d ne within =
+  least_above : (a r : Interval) → IsAbove o a → Divides s a r → (l h : ℤ) → FitsSigned w128 l → FitsSigned w128 h → IsFinite s → IsFinite o → ((x y : ℤ) → Admits s x → Admits o y → y ≢ pos 0 → IsBetween l h (int_div x y)) → LiesBetween l h r
+  least_above a r part by l h f g first second within =
       by.least l h f g first (above_finite o a part second)
       (λ x y p q. let there = (part.numbers y).0 q in within x y p there.0 (above_not_zero y there.1))
 
-  pub keeps_both : (b a q t r : Interval) → IsBelow o b → IsAbove o a → Divides s b q → Divides s a t → ((n : ℤ) → Admits q n → Admits r n) → ((n : ℤ) → Admits t n → Admits r n) → Keeps s o r
-  keeps_both b a q t r below above by_b by_a left right x y i j ne = ⊎_elim
-      (λ (h : y ≤ℤ negsuc 0). left (int_div x y) (by_b.keeps x y i ((below.numbers y).1 (j, tt, h))))
-      (λ (h : pos 1 ≤ℤ y). right (int_div x y) (by_a.keeps x y i ((above.numbers y).1 (j, h, tt))))
-      (by_side y ne)
+  pub by_negatives : (b r : Interval) → IsBelow o b → NoneAbove o → Divides s b r → IsQuotient s o (least_end r) (greatest_end r)
+  by_negatives b r part none by = record {
+    keeps = λ x y p q ne. ⊎_elim
+        (λ (h : y ≤ℤ negsuc 0). by.keeps x y p ((part.numbers y).1 (q, tt, h)))
+        (λ (h : pos 1 ≤ℤ y). absurd (none y q h tt))
+        (by_side y ne);
+    least = λ l h d f g first second at_d ne within. least_below b r part by l h f g first second within;
+  }
 
-  pub least_both : (b a q t r : Interval) → IsBelow o b → IsAbove o a → Divides s b q → Divides s a t → ((l h : ℤ) → LiesBetween l h q → LiesBetween l h t → LiesBetween l h r) → Least s o r
-  least_both b a q t r below above by_b by_a both l h d f g first second at_d ne within =
-      both l h (least_below b q below by_b l h d f g first second at_d ne within) (least_above a t above by_a l h d f g first second at_d ne within)
+  pub by_positives : (a r : Interval) → NoneBelow o → IsAbove o a → Divides s a r → IsQuotient s o (least_end r) (greatest_end r)
+  by_positives a r none part by = record {
+    keeps = λ x y p q ne. ⊎_elim
+        (λ (h : y ≤ℤ negsuc 0). absurd (none y q tt h))
+        (λ (h : pos 1 ≤ℤ y). by.keeps x y p ((part.numbers y).1 (q, h, tt)))
+        (by_side y ne);
+    least = λ l h d f g first second at_d ne within. least_above a r part by l h f g first second within;
+  }
 
-  pub one_side_there : (y : ℤ) → NoneBelow o → NoneAbove o → Admits o y → y ≢ pos 0 → ⊥
-  one_side_there y below above q ne = ⊎_elim (λ (h : y ≤ℤ negsuc 0). below y q tt h) (λ (h : pos 1 ≤ℤ y). above y q h tt) (by_side y ne)
+  pub by_both : (b a q t r : Interval) → IsBelow o b → IsAbove o a → Divides s b q → Divides s a t → ((n : ℤ) → Admits q n → Admits r n) → ((n : ℤ) → Admits t n → Admits r n) → ((l h : ℤ) → LiesBetween l h q → LiesBetween l h t → LiesBetween l h r) → IsQuotient s o (least_end r) (greatest_end r)
+  by_both b a q t r below above by_b by_a left right both = record {
+    keeps = λ x y i j ne. ⊎_elim
+        (λ (h : y ≤ℤ negsuc 0). left (int_div x y) (by_b.keeps x y i ((below.numbers y).1 (j, tt, h))))
+        (λ (h : pos 1 ≤ℤ y). right (int_div x y) (by_a.keeps x y i ((above.numbers y).1 (j, h, tt))))
+        (by_side y ne);
+    least = λ l h d f g first second at_d ne within.
+        both l h (least_below b q below by_b l h f g first second within) (least_above a t above by_a l h f g first second within);
+  }
+
+  pub by_none : (lo hi : Ext) → NoneBelow o → NoneAbove o → IsQuotient s o lo hi
+  by_none lo hi below above = record {
+    keeps = λ x y p q ne. absurd (nowhere y q ne);
+    least = λ l h d f g first second at_d ne within. absurd (nowhere d at_d ne);
+  }
+    where
+      nowhere : (y : ℤ) → Admits o y → y ≢ pos 0 → ⊥
+      nowhere y q ne = ⊎_elim (λ (h : y ≤ℤ negsuc 0). below y q tt h) (λ (h : pos 1 ≤ℤ y). above y q h tt) (by_side y ne)

@@ -1,5 +1,5 @@
 use Rattle.ext_int.proofs.Quotients.{quotient_corners_low, quotient_corners_high}
-use Rattle.intervals.proofs.Arithmetic.{quotient_least, quotient_holds, ends_not_zero}
+use Rattle.intervals.proofs.Arithmetic.{quotient_least, quotient_holds}
 use Rattle.intervals.proofs.Interval.quot_by.Goals as goal
 
 pub returns-clause-keeps : goal.returns-clause-keeps
@@ -9,11 +9,11 @@ returns-clause-keeps c = λ x y p q.
 
 pub invariant_of-result : goal.invariant_of-result
 invariant_of-result c =
-    let i = c.args.self.now in
-    let j = c.args.divisors.now in
+    let i = c.args.self in
+    let j = c.args.divisors in
     record { holds = rw (c.least_quotient.ensures, c.greatest_quotient.ensures) (quotient_holds i.lo i.hi j.lo j.hi i.holds j.holds c.requires) }
 
 pub returns-clause-least : goal.returns-clause-least
 returns-clause-least c = λ l h f g first second within.
     rw (c.least_quotient.ensures, c.greatest_quotient.ensures)
-    (quotient_least l h f g _ _ _ _ first.0 first.1 second.0 second.1 c.args.self.now.holds c.args.divisors.now.holds within)
+    (quotient_least l h f g _ _ _ _ first.0 first.1 second.0 second.1 c.args.self.holds c.args.divisors.holds within)
