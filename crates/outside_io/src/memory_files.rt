@@ -149,6 +149,7 @@ impl Files for MemFiles {
         ensures steady { OnOk result ((n : List ℕ) → faults_of self.new n ≡ faults_of self.old n) }
         ensures fault { OnErr result (RaisesCount self.old self.new name.now) }
         ensures held { self.old.failing ≡ [] → IsSome (told_of self.old name.now) → IsOk result }
+        ensures unharmed { self.old.failing ≡ [] → (n : List ℕ) → IsSome (told_of self.old n) → faults_of self.new n ≡ faults_of self.old n }
     {
         self.current = None;
         let fails = self.calls.next_fails();
@@ -181,6 +182,7 @@ impl Files for MemFiles {
         ensures fault { OnErr result ((n : List ℕ) → IsOpenIn self.old n → RaisesCount self.old self.new n) }
         ensures closed { self.old.current ≡ None → (n : List ℕ) → faults_of self.new n ≡ faults_of self.old n }
         ensures held { self.old.failing ≡ [] → IsSome self.old.current → IsOk result }
+        ensures unharmed { self.old.failing ≡ [] → (n : List ℕ) → IsSome (told_of self.old n) → faults_of self.new n ≡ faults_of self.old n }
     {
         let fails = self.calls.next_fails();
         let Some(current) = self.current else {
