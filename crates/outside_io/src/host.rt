@@ -1,5 +1,5 @@
 // Real files, and standard output. They tell nothing of content.
-ghost use Rattle.std.specs.Prelude.{◌≡◌, ◌≤◌, None, IsTrue, false, OnOk, OnErr, is_ok};
+ghost use Rattle.std.specs.Prelude.{◌≡◌, ◌⊎◌, ◌<◌, ◌≤◌, [], None, IsTrue, IsErr, IfOk, OnErr, false, is_ok, length, if◌then◌else◌};
 ghost use Rattle.outside_io.specs.Io.{raised};
 
 use crate::{Failed, Files, Sink};
@@ -57,7 +57,11 @@ impl<'a, R: HostFileSystem> Files for HostFiles<'a, R> {
 
     ghost faults = { λ files _. files.faults };
 
-    fn begin(&mut self, name: &str) -> Result<(), Failed> {
+    fn begin(&mut self, name: &str) -> Result<(), Failed>
+        ensures open { self.new.is_open ≡ is_ok result }
+        ensures faults { self.new.faults ≡ (if is_ok result then self.old.faults else raised self.old.faults) }
+        ensures later { self.old.faults ≤ self.new.faults }
+    {
         self.file = fs::open(self.rt, name).ok();
         if self.file.is_some() {
             Ok(())
@@ -66,7 +70,13 @@ impl<'a, R: HostFileSystem> Files for HostFiles<'a, R> {
         }
     }
 
-    fn read(&mut self, into: &mut [u8]) -> Result<usize, Failed> {
+    fn read(&mut self, into: &mut [u8]) -> Result<usize, Failed>
+        ensures open { self.new.is_open ≡ self.old.is_open }
+        ensures closed { self.old.is_open ≡ false → IsErr result }
+        ensures count { IfOk result (λ k. k ≤ length into.old) }
+        ensures faults { self.new.faults ≡ (if is_ok result then self.old.faults else raised self.old.faults) }
+        ensures later { self.old.faults ≤ self.new.faults }
+    {
         if let Some(file) = &mut self.file
             && let Ok(count) = file.read(into)
         {
@@ -106,7 +116,13 @@ impl<'a, R: Print> Sink for HostOut<'a, R> {
 
     ghost faults = { λ out. out };
 
-    fn write(&mut self, piece: &[u8]) -> Result<usize, Failed> {
+    fn write(&mut self, piece: &[u8]) -> Result<usize, Failed>
+        ensures count { IfOk result (λ k. k ≤ length piece.now) }
+        ensures failed { OnErr result (self.new ≡ raised self.old) }
+        ensures none { IfOk result (λ k. k ≡ 0 → 0 < length piece.now → self.new ≡ raised self.old) }
+        ensures steady { IfOk result (λ k. (0 < k) ⊎ (piece.now ≡ []) → self.new ≡ self.old) }
+        ensures later { self.old ≤ self.new }
+    {
         let mut out = io::writer(self.rt);
         if let Ok(count) = out.write(piece)
             && let Ok(()) = out.flush()

@@ -4,7 +4,7 @@
 mod calls;
 mod files;
 mod host;
-
+mod memory_files;
 mod memory_sink;
 mod reading;
 mod sink;
@@ -12,7 +12,7 @@ mod writing;
 
 pub use files::{Failed, Files};
 pub use host::{HostFiles, HostOut};
-
+pub use memory_files::MemFiles;
 pub use memory_sink::MemSink;
 pub use reading::{MAX_BYTES, ReadError, read_all};
 pub use sink::Sink;
