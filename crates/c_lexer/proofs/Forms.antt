@@ -224,6 +224,18 @@ number_next text n l d r c h =
       },
     )
 
+pub word_next : (text : List ℕ) (n : ℕ) → 0 < length text → IsLetter (get_or text 0 0) → IsWordRun text n → (t : Token) → IsToken (take n text) t → IsPiece text (pieces.Token t n)
+word_next text n l d r t h =
+    let f : take n text ++ drop n text ≡ text = take-append-drop n text in (
+      run_some text n l (inl d) r,
+      r.within,
+      record {
+        spells = h;
+        longest = λ a b e form. omega (arith, run_front text n r, form_within text n (inl d) r a b (sym f ∙ e) form);
+        no_comment = λ k. let comment : BeginsComment text = subst BeginsComment f k in omega (arith, comment.slash, word_high (get_or text 0 0) (inl d));
+      },
+    )
+
 -- longest punctuators
 first_text : (x : ℕ) (text : List ℕ) → 0 < length text → get_or text 0 0 ≡ x → text ≡ (x ∷ []) ++ drop 1 text
 first_text x [] l e = absurd (omega arith)
