@@ -1,6 +1,6 @@
 -- Digits.
-use Rattle.std.proofs.Common.{rules, arith, ◌≡◌, ◌≤◌, ◌<◌, ◌+◌, ◌*◌, ◌-◌, ℕ, zero, suc, List, [], ◌∷◌, length, get_or}
-use Rattle.c_lexer.specs.Cut.{IsDigit, AreDigits, value_from}
+use Rattle.std.proofs.Common.{arith, ◌≤◌, ◌+◌, ◌*◌, ◌-◌, ℕ, List, [], ◌∷◌}
+use Rattle.c_lexer.specs.Cut.{value_from}
 
 pub value_grows : (s : List ℕ) (v : ℕ) → v ≤ value_from v s
 value_grows [] v = omega arith

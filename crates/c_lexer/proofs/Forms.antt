@@ -1,5 +1,5 @@
 -- The first bytes of tokens and white space, and which of them stands at the front of a text.
-use Rattle.std.proofs.Common.{◌≡◌, ◌≢◌, ℕ, zero, suc, ◌+◌, ◌-◌, ◌<◌, ◌≤◌, ◌⊎◌, inl, inr, List, [], ◌∷◌, ◌++◌, length, get_or, take, drop, refl, sym, ap, ◌∙◌, subst, arith, length-append, length-take, rules}
+use Rattle.std.proofs.Common.{◌≡◌, ℕ, zero, suc, ◌<◌, ◌≤◌, ◌⊎◌, inl, inr, List, [], ◌∷◌, ◌++◌, length, get_or, take, drop, refl, sym, ap, ◌∙◌, subst, arith, length-append, length-take}
 use Rattle.std.proofs.Math.ListN.{get_or-append}
 use Rattle.std.proofs.lemmas.List.{take-append-drop}
 use Rattle.std.proofs.lemmas.Bool.{cases_lt}
@@ -10,9 +10,8 @@ use Rattle.c_syntax.specs.declared.token.Punctuator.TheVariants as punctuators
 use Rattle.c_syntax.specs.declared.token.Constant.{Constant}
 use Rattle.c_syntax.specs.declared.token.Token.{Token}
 use Rattle.c_syntax.specs.declared.token.Token.TheVariants as kinds
-use Rattle.c_lexer.specs.Cut.{IsLetter, IsDigit, IsWordByte, IsBlank, IsWord, IsNumber, AreDigits, IsConstant, keyword_text, punctuator_text, IsToken, HasForm, IsWhite, BeginsComment, IsNext}
+use Rattle.c_lexer.specs.Cut.{IsLetter, IsDigit, IsWordByte, IsBlank, IsWord, IsNumber, AreDigits, IsConstant, keyword_text, punctuator_text, IsToken, HasForm, IsWhite, BeginsComment}
 use Rattle.c_lexer.specs.Piece.{IsWordRun, IsLongest, IsStuck, IsPiece}
-use Rattle.c_lexer.specs.declared.piece.Piece.{Piece}
 use Rattle.c_lexer.specs.declared.piece.Piece.TheVariants as pieces
 
 -- a byte of the front is a byte of the text
@@ -42,7 +41,7 @@ word_high b h = grind arith
 digit_no_letter : (b : ℕ) → IsDigit b → IsLetter b → ⊥
 digit_no_letter b d h = grind arith
 
-pub digits_each : (s : List ℕ) → AreDigits s → (k : ℕ) → k < length s → IsDigit (get_or s k 0)
+digits_each : (s : List ℕ) → AreDigits s → (k : ℕ) → k < length s → IsDigit (get_or s k 0)
 digits_each [] d k h = absurd (omega arith)
 digits_each (b ∷ s) d zero h = d.0
 digits_each (b ∷ s) d (suc k) h = digits_each s d.1 k (omega arith)
@@ -118,16 +117,16 @@ mark_first punctuators.Star = (low_mark _ (omega arith), omega arith)
 mark_first punctuators.Slash = (low_mark _ (omega arith), omega arith)
 mark_first punctuators.Semicolon = (middle_mark _ (omega arith) (omega arith), omega arith)
 
--- a punctuator of two bytes is ++ or --
-pub mark_twice : (p : Punctuator) → (length (punctuator_text p) ≤ 1) ⊎ ((1 < length (punctuator_text p)) × ((get_or (punctuator_text p) 0 0 ≡ 43) ⊎ (get_or (punctuator_text p) 0 0 ≡ 45)) × (get_or (punctuator_text p) 1 0 ≡ get_or (punctuator_text p) 0 0))
+-- a punctuator of two bytes is one byte twice
+mark_twice : (p : Punctuator) → (length (punctuator_text p) ≤ 1) ⊎ ((1 < length (punctuator_text p)) × (get_or (punctuator_text p) 1 0 ≡ get_or (punctuator_text p) 0 0))
 mark_twice punctuators.LeftParenthesis = inl (omega arith)
 mark_twice punctuators.RightParenthesis = inl (omega arith)
 mark_twice punctuators.LeftBrace = inl (omega arith)
 mark_twice punctuators.RightBrace = inl (omega arith)
 mark_twice punctuators.Plus = inl (omega arith)
-mark_twice punctuators.Increment = inr (omega arith, inl refl, refl)
+mark_twice punctuators.Increment = inr (omega arith, refl)
 mark_twice punctuators.Minus = inl (omega arith)
-mark_twice punctuators.Decrement = inr (omega arith, inr refl, refl)
+mark_twice punctuators.Decrement = inr (omega arith, refl)
 mark_twice punctuators.Star = inl (omega arith)
 mark_twice punctuators.Slash = inl (omega arith)
 mark_twice punctuators.Semicolon = inl (omega arith)
@@ -225,45 +224,15 @@ number_next text n l d r c h =
       },
     )
 
-pub stuck_comment : (text : List ℕ) → BeginsComment text → IsStuck text
-stuck_comment text c = record {
-  some = omega (arith, c.long);
-  no_white = first_white text (omega (arith, c.slash));
-  no_token = λ s rest t e x. x.no_comment (subst BeginsComment e c);
-}
-
--- a form at the front of a text that begins with no letter and no digit is a punctuator
-mark_only : (text : List ℕ) → (IsWordByte (get_or text 0 0) → ⊥) → (s r : List ℕ) → text ≡ s ++ r → HasForm s → (p : Punctuator) × (s ≡ punctuator_text p)
-mark_only text never s r e (inl h) = absurd (never (subst IsWordByte (sym (at_front text s r e 0 h.some)) (inl h.first)))
-mark_only text never s r e (inr (inl h)) = absurd (never (subst IsWordByte (sym (at_front text s r e 0 h.some)) (inr h.first)))
-mark_only text never s r e (inr (inr p)) = p
-
-pub stuck_mark : (text : List ℕ) → 0 < length text → (IsBlank (get_or text 0 0) → ⊥) → (IsWordByte (get_or text 0 0) → ⊥) → ((p : Punctuator) (b : List ℕ) → text ≡ punctuator_text p ++ b → ⊥) → IsStuck text
-stuck_mark text l blank word none = record {
-  some = l;
-  no_white = λ s r e w. blank (subst IsBlank (sym (at_front text s r e 0 (white_long s w) ∙ ap (λ v. get_or v 0 0) w.1)) w.2);
-  no_token = λ s r t e x.
-      let p = mark_only text word s r e (token_form s t x.spells) in
-      none p.0 r (e ∙ ap (λ v. v ++ r) p.1);
-}
-
-take_front : (s r : List ℕ) → take (length s) (s ++ r) ≡ s
-take_front [] r = refl
-take_front (x ∷ s) r = ap (λ v. x ∷ v) (take_front s r)
-
-pub mark_next : (text : List ℕ) (p : Punctuator) (n : ℕ) → (IsWordByte (get_or text 0 0) → ⊥) → (BeginsComment text → ⊥) → IsLongest text p → n ≡ length (punctuator_text p) → IsPiece text (pieces.Token (kinds.Punctuator p) n)
-mark_next text p n word comment h m =
-    let f : take n text ++ drop n text ≡ text = take-append-drop n text in
-    let s : take n text ≡ punctuator_text p = ap (λ k. take k text) m ∙ ap (take (length (punctuator_text p))) h.is ∙ take_front (punctuator_text p) h.rest in (
-      omega (arith, (mark_long p).0),
-      omega (arith, front_long text (punctuator_text p) h.rest h.is),
+pub word_next : (text : List ℕ) (n : ℕ) → 0 < length text → IsLetter (get_or text 0 0) → IsWordRun text n → (t : Token) → IsToken (take n text) t → IsPiece text (pieces.Token t n)
+word_next text n l d r t h =
+    let f : take n text ++ drop n text ≡ text = take-append-drop n text in (
+      run_some text n l (inl d) r,
+      r.within,
       record {
-        spells = s;
-        longest = λ a b e form.
-            let q = mark_only text word a b (sym f ∙ e) form in
-            let le : length (punctuator_text q.0) ≤ length (punctuator_text p) = h.longest q.0 b (sym f ∙ e ∙ ap (λ v. v ++ b) q.1) in
-            omega (arith, le, ap length q.1, ap length s);
-        no_comment = λ k. comment (subst BeginsComment f k);
+        spells = h;
+        longest = λ a b e form. omega (arith, run_front text n r, form_within text n (inl d) r a b (sym f ∙ e) form);
+        no_comment = λ k. let comment : BeginsComment text = subst BeginsComment f k in omega (arith, comment.slash, word_high (get_or text 0 0) (inl d));
       },
     )
 
@@ -284,37 +253,15 @@ twice_longest text p h l e = record {
   longest = λ q b f. omega (arith, (mark_long q).1, ap length h);
 }
 
--- a punctuator of one byte, where none of two bytes stands
-one_longest : (text : List ℕ) (p : Punctuator) (x : ℕ) → punctuator_text p ≡ x ∷ [] → get_or text 0 0 ≡ x → 0 < length text → ((get_or text 0 0 ≡ 43) ⊎ (get_or text 0 0 ≡ 45) → get_or text 1 0 ≡ get_or text 0 0 → 1 < length text → ⊥) → IsLongest text p
-one_longest text p x h e l never = record {
-  rest = drop 1 text;
-  is = first_text x text l e ∙ ap (λ v. v ++ drop 1 text) (sym h);
-  longest = λ q b f.
-      elim (mark_twice q) [
-        | inl short ↦ omega (arith, ap length h)
-        | inr two ↦
-            (let i : get_or text 0 0 ≡ get_or (punctuator_text q) 0 0 = at_front text (punctuator_text q) b f 0 (omega (arith, two.0)) in
-            let j : get_or text 1 0 ≡ get_or (punctuator_text q) 1 0 = at_front text (punctuator_text q) b f 1 (omega (arith, two.0)) in
-            absurd (never (elim two.1 [ inl a ↦ inl (i ∙ a) | inr a ↦ inr (i ∙ a) ]) (j ∙ two.2 ∙ sym i) (omega (arith, two.0, front_long text (punctuator_text q) b f))))
-      ];
-}
-
 pub once_longest : (text : List ℕ) (p : Punctuator) → punctuator_text p ≡ get_or text 0 0 ∷ [] → 0 < length text → (1 < length text → get_or text 1 0 ≡ get_or text 0 0 → ⊥) → IsLongest text p
-once_longest text p h l never = one_longest text p (get_or text 0 0) h refl l (λ _ e m. never m e)
-
-pub plain_longest : (text : List ℕ) (p : Punctuator) (x : ℕ) → punctuator_text p ≡ x ∷ [] → get_or text 0 0 ≡ x → 0 < length text → x ≢ 43 → x ≢ 45 → IsLongest text p
-plain_longest text p x h e l no_plus no_minus = one_longest text p x h e l (λ o f m. elim o [ inl a ↦ no_plus (sym e ∙ a) | inr a ↦ no_minus (sym e ∙ a) ])
-
--- a text that begins with no punctuator's byte
-pub no_longest : (text : List ℕ) → (get_or text 0 0 ≢ 40) → (get_or text 0 0 ≢ 41) → (get_or text 0 0 ≢ 123) → (get_or text 0 0 ≢ 125) → (get_or text 0 0 ≢ 43) → (get_or text 0 0 ≢ 45) → (get_or text 0 0 ≢ 42) → (get_or text 0 0 ≢ 47) → (get_or text 0 0 ≢ 59) → (p : Punctuator) (b : List ℕ) → text ≡ punctuator_text p ++ b → ⊥
-no_longest text h0 h1 h2 h3 h4 h5 h6 h7 h8 punctuators.LeftParenthesis b e = h0 (ap (λ v. get_or v 0 0) e)
-no_longest text h0 h1 h2 h3 h4 h5 h6 h7 h8 punctuators.RightParenthesis b e = h1 (ap (λ v. get_or v 0 0) e)
-no_longest text h0 h1 h2 h3 h4 h5 h6 h7 h8 punctuators.LeftBrace b e = h2 (ap (λ v. get_or v 0 0) e)
-no_longest text h0 h1 h2 h3 h4 h5 h6 h7 h8 punctuators.RightBrace b e = h3 (ap (λ v. get_or v 0 0) e)
-no_longest text h0 h1 h2 h3 h4 h5 h6 h7 h8 punctuators.Plus b e = h4 (ap (λ v. get_or v 0 0) e)
-no_longest text h0 h1 h2 h3 h4 h5 h6 h7 h8 punctuators.Increment b e = h4 (ap (λ v. get_or v 0 0) e)
-no_longest text h0 h1 h2 h3 h4 h5 h6 h7 h8 punctuators.Minus b e = h5 (ap (λ v. get_or v 0 0) e)
-no_longest text h0 h1 h2 h3 h4 h5 h6 h7 h8 punctuators.Decrement b e = h5 (ap (λ v. get_or v 0 0) e)
-no_longest text h0 h1 h2 h3 h4 h5 h6 h7 h8 punctuators.Star b e = h6 (ap (λ v. get_or v 0 0) e)
-no_longest text h0 h1 h2 h3 h4 h5 h6 h7 h8 punctuators.Slash b e = h7 (ap (λ v. get_or v 0 0) e)
-no_longest text h0 h1 h2 h3 h4 h5 h6 h7 h8 punctuators.Semicolon b e = h8 (ap (λ v. get_or v 0 0) e)
+once_longest text p h l never = record {
+  rest = drop 1 text;
+  is = first_text (get_or text 0 0) text l refl ∙ ap (λ v. v ++ drop 1 text) (sym h);
+  longest = λ q b f. elim (mark_twice q) [
+    | inl short ↦ omega (arith, ap length h)
+    | inr two ↦
+        (let i : get_or text 0 0 ≡ get_or (punctuator_text q) 0 0 = at_front text (punctuator_text q) b f 0 (omega (arith, two.0)) in
+        let j : get_or text 1 0 ≡ get_or (punctuator_text q) 1 0 = at_front text (punctuator_text q) b f 1 (omega (arith, two.0)) in
+        absurd (never (omega (arith, two.0, front_long text (punctuator_text q) b f)) (j ∙ two.1 ∙ sym i)))
+  ];
+}

@@ -1,19 +1,18 @@
 -- A text is cut in one way, and its tokens stand in order.
-use Rattle.std.proofs.Common.{◌≡◌, ◌≢◌, ℕ, zero, suc, ◌+◌, ◌-◌, ◌<◌, ◌≤◌, ◌⊎◌, inl, inr, List, [], ◌∷◌, ◌++◌, length, get_or, take, drop, refl, sym, ap, ◌∙◌, subst, arith, length-append, nat_eq, if◌then◌else◌}
+use Rattle.std.proofs.Common.{◌≡◌, ℕ, ◌<◌, ◌≤◌, ◌⊎◌, inl, inr, List, [], ◌∷◌, ◌++◌, length, get_or, refl, sym, ap, ◌∙◌, subst, arith, length-append, nat_eq, if◌then◌else◌}
 use Rattle.std.proofs.lemmas.List.{append_cancel_left}
 use Rattle.c_syntax.specs.declared.place.Pos.{Pos}
 use Rattle.c_syntax.specs.declared.token.Keyword.{Keyword}
 use Rattle.c_syntax.specs.declared.token.Keyword.TheVariants as keywords
 use Rattle.c_syntax.specs.declared.token.Punctuator.{Punctuator}
 use Rattle.c_syntax.specs.declared.token.Punctuator.TheVariants as punctuators
-use Rattle.c_syntax.specs.declared.token.Constant.{Constant}
 use Rattle.c_syntax.specs.declared.token.Token.{Token}
 use Rattle.c_syntax.specs.declared.token.Token.TheVariants as kinds
 use Rattle.c_syntax.specs.declared.token.Placed.{Placed}
 use Rattle.c_syntax.specs.declared.token.Tokens.{Tokens}
-use Rattle.c_lexer.specs.Cut.{IsLetter, IsDigit, IsWordByte, IsWord, IsNumber, IsConstant, keyword_text, punctuator_text, IsToken, HasForm, IsWhite, BeginsComment, IsNext, moved_of, Front, here, white, token, start_of, IsCut}
+use Rattle.c_lexer.specs.Cut.{IsLetter, IsDigit, IsWordByte, IsWord, IsNumber, keyword_text, punctuator_text, IsToken, HasForm, IsWhite, IsNext, moved_of, Front, here, white, token, start_of, IsCut}
 use Rattle.c_lexer.specs.Piece.{IsStuck}
-use Rattle.c_lexer.proofs.Forms.{at_front, same_split, constant_number, keyword_word, mark_long, mark_first, token_form, form_long, form_high, white_long, white_low}
+use Rattle.c_lexer.proofs.Forms.{at_front, same_split, constant_number, keyword_word, mark_first, token_form, form_long, form_high, white_long, white_low}
 
 -- where the text ends, or is stuck
 abbrev pub Halts : List ℕ → Type 0

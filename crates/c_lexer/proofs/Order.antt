@@ -1,11 +1,10 @@
 -- The tokens of a text stand in order.
-use Rattle.std.proofs.Common.{◌≡◌, ℕ, zero, suc, ◌+◌, ◌<◌, ◌≤◌, ◌⊎◌, inl, inr, List, [], ◌∷◌, ◌++◌, length, get_or, refl, sym, subst, arith}
+use Rattle.std.proofs.Common.{◌≡◌, ℕ, zero, suc, ◌<◌, ◌≤◌, ◌⊎◌, inr, List, [], ◌∷◌, length, get_or, refl, arith}
 use Rattle.std.proofs.lemmas.Bool.Decides.{nat_tests}
 use Rattle.c_syntax.specs.declared.place.Pos.{Pos}
-use Rattle.c_syntax.specs.declared.token.Token.{Token}
 use Rattle.c_syntax.specs.declared.token.Placed.{Placed}
-use Rattle.c_lexer.specs.Cut.{IsWhite, IsNext, step, moved_of, Front, here, white, token, IsBefore, StandInOrder}
-use Rattle.c_lexer.proofs.Forms.{token_form, form_long, white_long}
+use Rattle.c_lexer.specs.Cut.{step, moved_of, Front, here, white, token, IsBefore, StandInOrder}
+use Rattle.c_lexer.proofs.Forms.{token_form, form_long}
 
 -- one place is another, or before it
 abbrev IsNotAfter : Pos → Pos → Type 0

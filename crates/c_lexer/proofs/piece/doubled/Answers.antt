@@ -1,4 +1,4 @@
-use Rattle.std.proofs.Common.{◌≡◌, ℕ, ◌<◌, length, get_or, arith, rules}
+use Rattle.std.proofs.Common.{arith}
 use Rattle.c_lexer.proofs.Forms.{once_longest, twice_longest}
 use Rattle.c_lexer.proofs.piece.doubled.Goals as goal
 

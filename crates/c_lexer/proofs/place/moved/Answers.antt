@@ -1,4 +1,4 @@
-use Rattle.std.proofs.Common.{◌≡◌, ℕ, ◌+◌, ◌≤◌, length, drop, sym, ap, ◌∙◌, arith}
+use Rattle.std.proofs.Common.{◌+◌, drop, sym, ap, ◌∙◌, arith}
 use Rattle.c_lexer.specs.Cut.{moved_of}
 use Rattle.c_lexer.proofs.Moves.{moved_drop, moved_end}
 use Rattle.c_lexer.proofs.place.moved.Goals as goal
