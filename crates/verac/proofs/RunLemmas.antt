@@ -122,13 +122,13 @@ wrong_is : (program : ProgramTree) (inputs : List ℤ) (r : Found) → Comes pro
 wrong_is program inputs (Value v) (t, (m, l), e) s chain at kind operand w =
     let (n, f) = w.reached in
     let here : steps program m (start inputs) ≡ steps program n (start inputs) =
-        same_end program m n (start inputs) (subst (StandsStill program) (sym l) (ended_stands program t v e)) (subst (StandsStill program) (sym f) (wrong_stands program s at kind operand w.wrong)) in
+    same_end program m n (start inputs) (subst (StandsStill program) (sym l) (ended_stands program t v e)) (subst (StandsStill program) (sym f) (wrong_stands program s at kind operand w.wrong)) in
     let g : Ended v ≡ machine.Wrong at kind operand = sym e ∙ ap (λ x. step program x) (sym l ∙ here ∙ f) ∙ w.wrong in
     cc
 wrong_is program inputs (found.Wrong p k o) (t, (m, l), e, c) s chain at kind operand w =
     let (n, f) = w.reached in
     let here : steps program m (start inputs) ≡ steps program n (start inputs) =
-        same_end program m n (start inputs) (subst (StandsStill program) (sym l) (wrong_stands program t p k o e)) (subst (StandsStill program) (sym f) (wrong_stands program s at kind operand w.wrong)) in
+    same_end program m n (start inputs) (subst (StandsStill program) (sym l) (wrong_stands program t p k o e)) (subst (StandsStill program) (sym f) (wrong_stands program s at kind operand w.wrong)) in
     let same : t ≡ s = sym l ∙ here ∙ f in
     let g : machine.Wrong p k o ≡ machine.Wrong at kind operand = sym e ∙ ap (λ x. step program x) same ∙ w.wrong in
     (sym w.called ∙ ap (λ (x : State). reverse (calls_in x.work)) (sym same) ∙ ap (λ (x : List Pos). reverse x) c, cc, cc, cc)

@@ -9,7 +9,7 @@ use Rattle.verac.proofs.walk.alarms_of.Goals as goal
 pub returns : goal.returns
 returns c =
     let walks : Walks (found_of (expr_tree c.args.e.now)) c.in_ok-walk.field-0 [] c.walk.new.alarms.items =
-        subst (λ (before : List Alarm). Walks (found_of (expr_tree c.args.e.now)) c.in_ok-walk.field-0 before c.walk.new.alarms.items) c.new-alarms.ensures.items c.in_ok-walk.ensures in
+    subst (λ (before : List Alarm). Walks (found_of (expr_tree c.args.e.now)) c.in_ok-walk.field-0 before c.walk.new.alarms.items) c.new-alarms.ensures.items c.in_ok-walk.ensures in
     record {
       sound = walk_sound (expr_tree c.args.e.now) (found_of (expr_tree c.args.e.now)) c.in_ok-walk.field-0 c.walk.new.alarms.items refl walks;
       admitted = walk_admitted (expr_tree c.args.e.now) (found_of (expr_tree c.args.e.now)) c.in_ok-walk.field-0 c.walk.new.alarms.items c.requires refl walks;
