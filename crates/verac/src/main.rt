@@ -10,6 +10,9 @@ mod status;
 mod tree;
 mod walk;
 
+#[cfg(test)]
+mod tests;
+
 use outside_io::{HostFiles, HostOut};
 use runs::run;
 use status::Status;
