@@ -1,5 +1,5 @@
 -- What the system's files say of a call gives what all files say of one.
-use Rattle.std.proofs.Common.{rules, refl, subst, ◌≡◌, Bool, IsTrue, sym, ◌∙◌}
+use Rattle.std.proofs.Common.{refl, ◌∙◌}
 use Rattle.std.proofs.lemmas.Result.{on_err_weaker}
 use Rattle.outside_io.proofs.Counts.{rose_at_err, true_at_ok, untold, always_ok, always_err}
 use Rattle.outside_io.proofs.host.HostFilesFiles.TheImpl.Goals as goal
