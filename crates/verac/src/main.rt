@@ -7,11 +7,10 @@ mod program;
 mod report;
 mod runs;
 mod status;
-mod tree;
-mod walk;
-
 #[cfg(test)]
 mod tests;
+mod tree;
+mod walk;
 
 use outside_io::{HostFiles, HostOut};
 use runs::run;

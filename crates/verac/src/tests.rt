@@ -9,7 +9,8 @@ use std::test::Fail;
 
 const OVERFLOW: &str = "int main(void) { return 2147483647 + 1; }";
 
-const OVERFLOW_TEXT: &str = "a.c:1:36: Overflow in main\n  shown: value in [2147483648,2147483648]; allowed [-2147483648,2147483647]\n  example: 2147483648\nalarms 1\n";
+const OVERFLOW_TEXT: &str =
+    "a.c:1:36: Overflow in main\n  shown: value in [2147483648,2147483648]; allowed [-2147483648,2147483647]\n  example: 2147483648\nalarms 1\n";
 
 const NO_ALARM_TEXT: &str = "no alarm\n";
 
@@ -56,10 +57,26 @@ fn reports_and_refusals(rt: HostRuntime) -> Result<(), Fail> {
     let rows = [
         (OVERFLOW, Status::Alarms, OVERFLOW_TEXT),
         ("int main(void){return 7;}", Status::NoAlarm, NO_ALARM_TEXT),
-        ("int main(void){return 2147483647+0;}", Status::NoAlarm, NO_ALARM_TEXT),
-        ("int main(void){return -2147483647-1;}", Status::NoAlarm, NO_ALARM_TEXT),
-        ("int main(void){return 7/-2*2;}", Status::NoAlarm, NO_ALARM_TEXT),
-        ("int\tmain\r\n(void)\x0b{\x0creturn\n7 ;\n}\n", Status::NoAlarm, NO_ALARM_TEXT),
+        (
+            "int main(void){return 2147483647+0;}",
+            Status::NoAlarm,
+            NO_ALARM_TEXT,
+        ),
+        (
+            "int main(void){return -2147483647-1;}",
+            Status::NoAlarm,
+            NO_ALARM_TEXT,
+        ),
+        (
+            "int main(void){return 7/-2*2;}",
+            Status::NoAlarm,
+            NO_ALARM_TEXT,
+        ),
+        (
+            "int\tmain\r\n(void)\x0b{\x0creturn\n7 ;\n}\n",
+            Status::NoAlarm,
+            NO_ALARM_TEXT,
+        ),
         (
             "int main(void){return 1/0;}",
             Status::Alarms,
@@ -92,10 +109,26 @@ fn reports_and_refusals(rt: HostRuntime) -> Result<(), Fail> {
         ),
         ("int x;", Status::Refused, NOT_BUILT_TEXT),
         ("", Status::Refused, NOT_BUILT_TEXT),
-        ("int main(void){return 2147483648;}", Status::Refused, NOT_BUILT_TEXT),
-        ("int main(void){return 07;}", Status::Refused, NOT_BUILT_TEXT),
-        ("int main(void){return 1--1;}", Status::Refused, NOT_BUILT_TEXT),
-        ("int main(void){return 1;}1", Status::Refused, NOT_BUILT_TEXT),
+        (
+            "int main(void){return 2147483648;}",
+            Status::Refused,
+            NOT_BUILT_TEXT,
+        ),
+        (
+            "int main(void){return 07;}",
+            Status::Refused,
+            NOT_BUILT_TEXT,
+        ),
+        (
+            "int main(void){return 1--1;}",
+            Status::Refused,
+            NOT_BUILT_TEXT,
+        ),
+        (
+            "int main(void){return 1;}1",
+            Status::Refused,
+            NOT_BUILT_TEXT,
+        ),
     ];
     for (text, status, written) in rows {
         let answer = run_on(rt.alloc(), text.as_bytes(), &[], 1000, &[])?;
@@ -137,7 +170,11 @@ fn faults(rt: HostRuntime) -> Result<(), Fail> {
     let whole = OVERFLOW_TEXT.as_bytes();
     for room in 0..=whole.len() {
         let answer = run_on(alloc, OVERFLOW.as_bytes(), &[], room, &[])?;
-        let status = if room < whole.len() { Status::WriteFault } else { Status::Alarms };
+        let status = if room < whole.len() {
+            Status::WriteFault
+        } else {
+            Status::Alarms
+        };
         assert_eq!(rt; answer.status, status);
         assert_eq!(rt; answer.text.as_slice(), &whole[..room]);
     }
