@@ -1,0 +1,3 @@
+pub mod TypeTrees
+pub mod TypedExprTrees
+pub mod Trees

@@ -1,4 +1,5 @@
 pub mod Types
+pub mod TypedExpr
 pub mod Operand
 pub mod Admission
 pub mod Fact

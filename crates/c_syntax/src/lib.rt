@@ -1,16 +1,27 @@
 //! What the layers of Verac speak of: places, types, tokens and alarms.
-#![tactic(auto)]
+#![tactic(auto, using(crate::proofs::Trees::the_trees))]
 
 mod alarm;
+mod construct;
 mod lists;
+mod op;
+mod operator;
 mod place;
 mod token;
+mod typed;
 mod types;
 
 pub use alarm::{
     Alarm, Alarms, Cell, Check, Example, Fact, Facts, Pointers, Shown, Spot, WrongKind,
 };
+pub use construct::Construct;
 pub use lists::{Bytes, Name, Numbers, Places};
+pub use op::Op;
+pub use operator::{
+    Arithmetic, Comparison, DerefKind, Extent, Shift, StepTime, StepWay, Stride, TBinaryOp,
+    TUnaryOp,
+};
 pub use place::Pos;
 pub use token::{Constant, Keyword, Mark, Marks, Placed, PlacedList, Punctuator, Token, Tokens};
+pub use typed::{TExpr, TExprs, TLvalue};
 pub use types::{CType, IntType, Object, Target};

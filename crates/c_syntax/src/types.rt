@@ -1,6 +1,10 @@
 // Types of C, and the objects that have them.
 
+ghost use Rattle.std.specs.Prelude.{◌≡◌, IfOk};
+ghost use Rattle.c_syntax.specs.Types.{ctype_tree};
+
 use crate::{Name, Pos};
+use std::alloc::{AllocError as NoMemory, Global};
 
 /// The integer types of this profile: char is signed and has 8 bits, short 16, int 32, long and
 /// long long 64.
@@ -48,4 +52,36 @@ pub struct Object {
     pub size: u64,
     pub read_only: bool,
     pub is_static: bool,
+}
+
+impl CType {
+    /// A copy of the type.
+    pub fn copy(&self, alloc: Global) -> Result<CType, NoMemory>
+        ensures { IfOk result (λ copy. ctype_tree copy ≡ ctype_tree self.now) }
+    {
+        match self {
+            CType::Void => Ok(CType::Void),
+            CType::Int(t) => Ok(CType::Int(*t)),
+            CType::Pointer(to) => {
+                let ty = to.ty.copy(alloc)?;
+                let target = Target {
+                    ty,
+                    is_const: to.is_const,
+                };
+                let boxed = Box::new(alloc, target)?;
+                Ok(CType::Pointer(boxed))
+            }
+            CType::Array(of, n) => {
+                let ty = of.ty.copy(alloc)?;
+                let target = Target {
+                    ty,
+                    is_const: of.is_const,
+                };
+                let boxed = Box::new(alloc, target)?;
+                Ok(CType::Array(boxed, *n))
+            }
+            CType::Struct(n) => Ok(CType::Struct(*n)),
+            CType::Function(n) => Ok(CType::Function(*n)),
+        }
+    }
 }

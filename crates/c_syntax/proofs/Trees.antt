@@ -1,0 +1,5 @@
+-- Every equation of a view, for the proofs about code that builds or opens trees.
+use Rattle.c_syntax.proofs.TypeTrees.{type_trees}
+use Rattle.c_syntax.proofs.TypedExprTrees.{typed_expr_trees}
+
+pub ruleset the_trees = (type_trees, typed_expr_trees)
