@@ -1,3 +1,4 @@
 pub mod TypeTrees
 pub mod TypedExprTrees
+pub mod TypedStmtTrees
 pub mod Trees

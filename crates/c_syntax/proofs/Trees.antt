@@ -1,5 +1,6 @@
 -- Every equation of a view, for the proofs about code that builds or opens trees.
 use Rattle.c_syntax.proofs.TypeTrees.{type_trees}
 use Rattle.c_syntax.proofs.TypedExprTrees.{typed_expr_trees}
+use Rattle.c_syntax.proofs.TypedStmtTrees.{typed_stmt_trees}
 
-pub ruleset the_trees = (type_trees, typed_expr_trees)
+pub ruleset the_trees = (type_trees, typed_expr_trees, typed_stmt_trees)

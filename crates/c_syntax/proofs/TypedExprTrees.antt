@@ -139,4 +139,5 @@ pub texprs_push : (items : List TExpr) (last : TExpr) → texprs_from (items ++ 
 unfolding texprs_from texprs_then
 texprs_push [] last = refl
 texprs_push (item ∷ items) last = ap (trees.more (texpr_tree item)) (texprs_push items last)
+
 pub ruleset typed_expr_trees = (texpr_const, texpr_null, texpr_load, texpr_address_of, texpr_decay, texpr_whole, texpr_unary, texpr_binary, texpr_convert, texpr_assign, texpr_assign_struct, texpr_compound, texpr_step, texpr_and, texpr_or, texpr_cond, texpr_comma, texpr_call, texpr_any, texpr_assume, texpr_assert, tlvalue_var, tlvalue_deref, tlvalue_member, texprs_nil, texprs_cons, texprs_push)

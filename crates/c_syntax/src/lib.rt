@@ -7,6 +7,8 @@ mod lists;
 mod op;
 mod operator;
 mod place;
+mod program;
+mod statement;
 mod token;
 mod typed;
 mod types;
@@ -15,13 +17,18 @@ pub use alarm::{
     Alarm, Alarms, Cell, Check, Example, Fact, Facts, Pointers, Shown, Spot, WrongKind,
 };
 pub use construct::Construct;
-pub use lists::{Bytes, Name, Numbers, Places};
+pub use lists::{Bytes, Name, Names, Numbers, Places};
 pub use op::Op;
 pub use operator::{
     Arithmetic, Comparison, DerefKind, Extent, Shift, StepTime, StepWay, Stride, TBinaryOp,
     TUnaryOp,
 };
 pub use place::Pos;
+pub use program::{
+    InitByte, InitBytes, Initial, Initials, Member, Members, Objects, Plan, StructDef, StructDefs,
+    TFunction, TFunctions, TProgram,
+};
+pub use statement::{BlockKind, TBlock, TInit, TInits, TStmt, TStmts};
 pub use token::{Constant, Keyword, Mark, Marks, Placed, PlacedList, Punctuator, Token, Tokens};
 pub use typed::{TExpr, TExprs, TLvalue};
 pub use types::{CType, IntType, Object, Target};

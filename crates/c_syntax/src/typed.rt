@@ -1,9 +1,13 @@
 // Typed expressions and the places that they name.
 
 ghost use Rattle.std.specs.Prelude.{◌≡◌};
-ghost use Rattle.c_syntax.specs.TypedExpr.{none, texprs_from, texprs_tree};
+ghost use Rattle.c_syntax.specs.TypedExpr.{none, texpr_tree, texprs_from, texprs_tree, tlvalue_tree};
+ghost use Rattle.c_syntax.specs.TypedParts.{texpr_pos, tlvalue_is_const, tlvalue_pos, tlvalue_type};
+ghost use Rattle.c_syntax.specs.Types.{ctype_tree};
 
-use crate::{CType, DerefKind, Extent, IntType, Pos, StepTime, StepWay, Stride, TBinaryOp, TUnaryOp};
+use crate::{
+    CType, DerefKind, Extent, IntType, Pos, StepTime, StepWay, Stride, TBinaryOp, TUnaryOp,
+};
 use std::alloc::Global;
 
 /// A typed expression. Every conversion of C stands in it as a node of its own, so that the
@@ -12,16 +16,35 @@ use std::alloc::Global;
 #[derive(Drop)]
 pub enum TExpr {
     /// An integer: a constant, an enumeration constant or a size.
-    Const { pos: Pos, ty: IntType, value: i128 },
+    Const {
+        pos: Pos,
+        ty: IntType,
+        value: i128,
+    },
     /// The null pointer of this pointer type.
-    Null { pos: Pos, ty: CType },
+    Null {
+        pos: Pos,
+        ty: CType,
+    },
     /// The value of an integer or a pointer in a place.
-    Load { pos: Pos, place: Box<TLvalue> },
-    AddressOf { pos: Pos, place: Box<TLvalue> },
+    Load {
+        pos: Pos,
+        place: Box<TLvalue>,
+    },
+    AddressOf {
+        pos: Pos,
+        place: Box<TLvalue>,
+    },
     /// An array as the pointer to its first element.
-    Decay { pos: Pos, place: Box<TLvalue> },
+    Decay {
+        pos: Pos,
+        place: Box<TLvalue>,
+    },
     /// A struct, which is the place of its bytes.
-    Whole { pos: Pos, place: Box<TLvalue> },
+    Whole {
+        pos: Pos,
+        place: Box<TLvalue>,
+    },
     Unary {
         pos: Pos,
         op: TUnaryOp,
@@ -100,9 +123,18 @@ pub enum TExpr {
         args: TExprs,
     },
     /// The next input, wrapped to this type.
-    Any { pos: Pos, ty: IntType },
-    Assume { pos: Pos, operand: Box<TExpr> },
-    Assert { pos: Pos, operand: Box<TExpr> },
+    Any {
+        pos: Pos,
+        ty: IntType,
+    },
+    Assume {
+        pos: Pos,
+        operand: Box<TExpr>,
+    },
+    Assert {
+        pos: Pos,
+        operand: Box<TExpr>,
+    },
 }
 
 /// An expression that names a place. `ty` is the type of what stands there, and `is_const` tells
@@ -142,6 +174,69 @@ pub enum TLvalue {
 #[derive(Drop)]
 pub struct TExprs {
     items: Vec<TExpr>,
+}
+
+impl TExpr {
+    /// The place of the node.
+    pub fn pos(&self) -> Pos
+        ensures { result ≡ texpr_pos (texpr_tree self.now) }
+    {
+        match self {
+            TExpr::Const { pos, .. }
+            | TExpr::Null { pos, .. }
+            | TExpr::Load { pos, .. }
+            | TExpr::AddressOf { pos, .. }
+            | TExpr::Decay { pos, .. }
+            | TExpr::Whole { pos, .. }
+            | TExpr::Unary { pos, .. }
+            | TExpr::Binary { pos, .. }
+            | TExpr::Convert { pos, .. }
+            | TExpr::Assign { pos, .. }
+            | TExpr::AssignStruct { pos, .. }
+            | TExpr::Compound { pos, .. }
+            | TExpr::Step { pos, .. }
+            | TExpr::And { pos, .. }
+            | TExpr::Or { pos, .. }
+            | TExpr::Cond { pos, .. }
+            | TExpr::Comma { pos, .. }
+            | TExpr::Call { pos, .. }
+            | TExpr::Any { pos, .. }
+            | TExpr::Assume { pos, .. }
+            | TExpr::Assert { pos, .. } => *pos,
+        }
+    }
+}
+
+impl TLvalue {
+    /// The place of the node.
+    pub fn pos(&self) -> Pos
+        ensures { result ≡ tlvalue_pos (tlvalue_tree self.now) }
+    {
+        match self {
+            TLvalue::Var { pos, .. } | TLvalue::Deref { pos, .. } | TLvalue::Member { pos, .. } =>
+                *pos,
+        }
+    }
+
+    /// The type of what stands in the place.
+    pub fn ty(&self) -> &CType
+        ensures { ctype_tree result.now ≡ tlvalue_type (tlvalue_tree self.now) }
+    {
+        match self {
+            TLvalue::Var { ty, .. } | TLvalue::Deref { ty, .. } | TLvalue::Member { ty, .. } => ty,
+        }
+    }
+
+    /// Whether what stands in the place is const.
+    pub fn is_const(&self) -> bool
+        ensures { result ≡ tlvalue_is_const (tlvalue_tree self.now) }
+    {
+        match self {
+            TLvalue::Var { is_const, .. }
+            | TLvalue::Deref { is_const, .. }
+            | TLvalue::Member { is_const, .. } => *is_const,
+        }
+    }
 }
 
 impl TExprs {
