@@ -10,7 +10,6 @@ use Rattle.c_syntax.specs.declared.typed.TExpr.{TExpr}
 use Rattle.c_syntax.specs.declared.statement.BlockKind.{BlockKind}
 use Rattle.c_syntax.specs.declared.statement.TInit.{TInit}
 use Rattle.c_syntax.specs.declared.statement.TInit.TheVariants as inits
-use Rattle.c_syntax.specs.declared.statement.TBlock.{TBlock}
 use Rattle.c_syntax.specs.declared.statement.TStmt.{TStmt, Row_of-TStmt, end_of-TStmt, more_of-TStmt, items-the_row-TStmt, items_hidden-the_row-TStmt-0}
 use Rattle.c_syntax.specs.declared.statement.TStmt.TheBlock.{hidden-the_row-TStmt-0}
 use Rattle.c_syntax.specs.declared.statement.TStmt.TheVariants as stmts
@@ -45,9 +44,9 @@ pub tstmt_expr : (at : Pos) (value : TExpr) → tstmt_tree (stmts.Expr at value)
 unfolding tstmt_tree
 tstmt_expr at value = refl
 
-pub tstmt_block : (at : Pos) (kind : BlockKind) (block : TBlock) → tstmt_tree (stmts.Block at kind block) ≡ trees.Block at kind block.objects (tstmts_tree block.items)
+pub tstmt_block : (at : Pos) (kind : BlockKind) (objects : List ℕ) (items : TStmts) → tstmt_tree (stmts.Block at kind objects items) ≡ trees.Block at kind objects (tstmts_tree items)
 unfolding tstmt_tree
-tstmt_block at kind block = ap (trees.Block at kind block.objects) (tstmts_row block.items)
+tstmt_block at kind objects items = ap (trees.Block at kind objects) (tstmts_row items)
 
 pub tstmt_declare : (at : Pos) (object : ℕ) (inits : List TInit) (zeroes_rest : Bool) → tstmt_tree (stmts.Declare at object inits zeroes_rest) ≡ trees.Declare at object (map tinit_tree inits) zeroes_rest
 unfolding tstmt_tree
@@ -69,13 +68,13 @@ pub tstmt_do_while : (at : Pos) (body : Box TStmt Global) (condition : TExpr) �
 unfolding tstmt_tree
 tstmt_do_while at body condition = refl
 
-pub tstmt_for : (at : Pos) (head : TBlock) (condition : Option TExpr) (step : Option TExpr) (body : Box TStmt Global) → tstmt_tree (stmts.For at head condition step body) ≡ trees.For at head.objects (tstmts_tree head.items) (option_map texpr_tree condition) (option_map texpr_tree step) (tstmt_tree body.value)
+pub tstmt_for : (at : Pos) (objects : List ℕ) (head : TStmts) (condition : Option TExpr) (step : Option TExpr) (body : Box TStmt Global) → tstmt_tree (stmts.For at objects head condition step body) ≡ trees.For at objects (tstmts_tree head) (option_map texpr_tree condition) (option_map texpr_tree step) (tstmt_tree body.value)
 unfolding tstmt_tree
-tstmt_for at head condition step body = ap (λ (list : TStmtTrees). trees.For at head.objects list (option_map texpr_tree condition) (option_map texpr_tree step) (tstmt_tree body.value)) (tstmts_row head.items)
+tstmt_for at objects head condition step body = ap (λ (list : TStmtTrees). trees.For at objects list (option_map texpr_tree condition) (option_map texpr_tree step) (tstmt_tree body.value)) (tstmts_row head)
 
-pub tstmt_switch : (at : Pos) (value : TExpr) (kind : BlockKind) (block : TBlock) → tstmt_tree (stmts.Switch at value kind block) ≡ trees.Switch at (texpr_tree value) kind block.objects (tstmts_tree block.items)
+pub tstmt_switch : (at : Pos) (value : TExpr) (kind : BlockKind) (objects : List ℕ) (items : TStmts) → tstmt_tree (stmts.Switch at value kind objects items) ≡ trees.Switch at (texpr_tree value) kind objects (tstmts_tree items)
 unfolding tstmt_tree
-tstmt_switch at value kind block = ap (trees.Switch at (texpr_tree value) kind block.objects) (tstmts_row block.items)
+tstmt_switch at value kind objects items = ap (trees.Switch at (texpr_tree value) kind objects) (tstmts_row items)
 
 pub tstmt_break : (at : Pos) → tstmt_tree (stmts.Break at) ≡ trees.Break at
 unfolding tstmt_tree

@@ -28,7 +28,7 @@ pub use program::{
     InitByte, InitBytes, Initial, Initials, Member, Members, Objects, Plan, StructDef, StructDefs,
     TFunction, TFunctions, TProgram,
 };
-pub use statement::{BlockKind, TBlock, TInit, TInits, TStmt, TStmts};
+pub use statement::{BlockKind, TInit, TInits, TStmt, TStmts};
 pub use token::{Constant, Keyword, Mark, Marks, Placed, PlacedList, Punctuator, Token, Tokens};
 pub use typed::{TExpr, TExprs, TLvalue};
 pub use types::{CType, IntType, Object, Target};

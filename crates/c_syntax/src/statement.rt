@@ -45,10 +45,12 @@ pub enum TStmt {
         pos: Pos,
         value: TExpr,
     },
+    /// A block with the automatic objects that live in it, and its items in the order of the text.
     Block {
         pos: Pos,
         kind: BlockKind,
-        block: TBlock,
+        objects: Numbers,
+        items: TStmts,
     },
     /// The declaration of an automatic object, with the items of its initialiser. `zeroes_rest` tells
     /// that this has a list or a string, so that the bytes that no item names become 0.
@@ -80,21 +82,24 @@ pub enum TStmt {
         body: Box<TStmt>,
         condition: TExpr,
     },
-    /// `head` has the declarations, or the expression, with which the loop begins. Its objects
-    /// live until the loop ends. A condition that is missing is 1.
+    /// `head` has the declarations, or the expression, with which the loop begins. The objects
+    /// that it declares live until the loop ends. A condition that is missing is 1.
     For {
         pos: Pos,
-        head: TBlock,
+        objects: Numbers,
+        head: TStmts,
         condition: Option<TExpr>,
         step: Option<TExpr>,
         body: Box<TStmt>,
     },
-    /// The value has its promoted type. The cases stand right among the items of the block.
+    /// The value has its promoted type. The kind, the objects and the items are those of the block
+    /// below it, and the cases stand right among these items.
     Switch {
         pos: Pos,
         value: TExpr,
         kind: BlockKind,
-        block: TBlock,
+        objects: Numbers,
+        items: TStmts,
     },
     Break {
         pos: Pos,
@@ -123,14 +128,6 @@ pub enum TStmt {
     Default {
         pos: Pos,
     },
-}
-
-/// A block: the automatic objects that live in it, and its items in the order of the text.
-#[cycle(statements)]
-#[derive(Drop)]
-pub struct TBlock {
-    pub objects: Numbers,
-    pub items: TStmts,
 }
 
 /// Statements in their order.
