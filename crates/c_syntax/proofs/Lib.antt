@@ -1,4 +1,5 @@
 pub mod TypeTrees
 pub mod TypedExprTrees
 pub mod TypedStmtTrees
+pub mod WrittenTrees
 pub mod Trees

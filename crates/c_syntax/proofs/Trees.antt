@@ -2,5 +2,6 @@
 use Rattle.c_syntax.proofs.TypeTrees.{type_trees}
 use Rattle.c_syntax.proofs.TypedExprTrees.{typed_expr_trees}
 use Rattle.c_syntax.proofs.TypedStmtTrees.{typed_stmt_trees}
+use Rattle.c_syntax.proofs.WrittenTrees.{written_trees}
 
-pub ruleset the_trees = (type_trees, typed_expr_trees, typed_stmt_trees)
+pub ruleset the_trees = (type_trees, typed_expr_trees, typed_stmt_trees, written_trees)

@@ -3,6 +3,7 @@ pub mod TypedExpr
 pub mod TypedStmt
 pub mod TypedParts
 pub mod Program
+pub mod Written
 pub mod Operand
 pub mod Admission
 pub mod Fact

@@ -12,6 +12,7 @@ mod statement;
 mod token;
 mod typed;
 mod types;
+mod written;
 
 pub use alarm::{
     Alarm, Alarms, Cell, Check, Example, Fact, Facts, Pointers, Shown, Spot, WrongKind,
@@ -32,3 +33,7 @@ pub use statement::{BlockKind, TInit, TInits, TStmt, TStmts};
 pub use token::{Constant, Keyword, Mark, Marks, Placed, PlacedList, Punctuator, Token, Tokens};
 pub use typed::{TExpr, TExprs, TLvalue};
 pub use types::{CType, IntType, Object, Target};
+pub use written::{
+    AssignOp, BinaryOp, Declarator, Declarators, Enumerator, Enumerators, Expr, Exprs, MemberDecl,
+    MemberDecls, Param, Params, Spec, Specs, StorageWord, Tag, TypeWord, UnaryOp,
+};
