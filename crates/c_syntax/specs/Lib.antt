@@ -4,6 +4,8 @@ pub mod TypedStmt
 pub mod TypedParts
 pub mod Program
 pub mod Written
+pub mod WrittenDecl
+pub mod WrittenFile
 pub mod Operand
 pub mod Admission
 pub mod Fact

@@ -3,6 +3,8 @@
 
 mod alarm;
 mod construct;
+mod declaration;
+mod file;
 mod lists;
 mod op;
 mod operator;
@@ -18,6 +20,8 @@ pub use alarm::{
     Alarm, Alarms, Cell, Check, Example, Fact, Facts, Pointers, Shown, Spot, WrongKind,
 };
 pub use construct::Construct;
+pub use declaration::{Decl, Init, InitDeclarator, InitDeclarators, Inits};
+pub use file::{BlockItem, BlockItems, File, ForStart, Outer, Outers, Stmt};
 pub use lists::{Bytes, Name, Names, Numbers, Places};
 pub use op::Op;
 pub use operator::{
