@@ -6,6 +6,7 @@ pub mod Program
 pub mod Written
 pub mod WrittenDecl
 pub mod WrittenFile
+pub mod WrittenParts
 pub mod Operand
 pub mod Admission
 pub mod Fact

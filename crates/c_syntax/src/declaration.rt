@@ -1,7 +1,8 @@
 // Declarations as they are written.
 
 ghost use Rattle.std.specs.Prelude.{◌≡◌};
-ghost use Rattle.c_syntax.specs.WrittenDecl.{inits_from, inits_tree};
+ghost use Rattle.c_syntax.specs.WrittenDecl.{init_tree, inits_from, inits_tree};
+ghost use Rattle.c_syntax.specs.WrittenParts.{init_pos};
 
 use crate::{Declarator, Expr, Pos, Specs};
 use std::alloc::Global;
@@ -35,6 +36,18 @@ pub struct Decl {
     pub pos: Pos,
     pub specs: Specs,
     pub inits: InitDeclarators,
+}
+
+impl Init {
+    /// The place of the expression, or of the brace that opens the list.
+    pub fn pos(&self) -> Pos
+        ensures { result ≡ init_pos (init_tree self.now) }
+    {
+        match self {
+            Init::Value { value } => value.pos(),
+            Init::Braces { pos, .. } => *pos,
+        }
+    }
 }
 
 impl Inits {

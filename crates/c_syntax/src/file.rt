@@ -1,7 +1,8 @@
 // Statements and files as they are written.
 
 ghost use Rattle.std.specs.Prelude.{◌≡◌};
-ghost use Rattle.c_syntax.specs.WrittenFile.{blockitems_from, blockitems_tree, none};
+ghost use Rattle.c_syntax.specs.WrittenFile.{blockitems_from, blockitems_tree, none, stmt_tree};
+ghost use Rattle.c_syntax.specs.WrittenParts.{stmt_pos};
 
 use crate::{Decl, Declarator, Expr, Name, Pos, Specs};
 use std::alloc::Global;
@@ -127,6 +128,32 @@ pub enum Outer {
 #[derive(Drop)]
 pub struct File {
     pub outers: Outers,
+}
+
+impl Stmt {
+    /// The place of the node.
+    pub fn pos(&self) -> Pos
+        ensures { result ≡ stmt_pos (stmt_tree self.now) }
+    {
+        match self {
+            Stmt::Label { pos, .. }
+            | Stmt::Case { pos, .. }
+            | Stmt::Default { pos, .. }
+            | Stmt::Block { pos, .. }
+            | Stmt::Empty { pos, .. }
+            | Stmt::Expression { pos, .. }
+            | Stmt::If { pos, .. }
+            | Stmt::IfElse { pos, .. }
+            | Stmt::Switch { pos, .. }
+            | Stmt::While { pos, .. }
+            | Stmt::DoWhile { pos, .. }
+            | Stmt::For { pos, .. }
+            | Stmt::Goto { pos, .. }
+            | Stmt::Continue { pos, .. }
+            | Stmt::Break { pos, .. }
+            | Stmt::Return { pos, .. } => *pos,
+        }
+    }
 }
 
 impl BlockItems {

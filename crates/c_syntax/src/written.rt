@@ -2,7 +2,8 @@
 // expression types, so all of these hold each other.
 
 ghost use Rattle.std.specs.Prelude.{◌≡◌};
-ghost use Rattle.c_syntax.specs.Written.{declarators_from, declarators_tree, enumerators_from, enumerators_tree, exprs_from, exprs_tree, memberdecls_from, memberdecls_tree, no_exprs, no_params, params_from, params_tree, specs_from, specs_tree};
+ghost use Rattle.c_syntax.specs.Written.{expr_tree, spec_tree, declarators_from, declarators_tree, enumerators_from, enumerators_tree, exprs_from, exprs_tree, memberdecls_from, memberdecls_tree, no_exprs, no_params, params_from, params_tree, specs_from, specs_tree};
+ghost use Rattle.c_syntax.specs.WrittenParts.{expr_pos, spec_pos};
 
 use crate::{Bytes, Constant, Name, Pos, StepWay};
 use std::alloc::Global;
@@ -361,6 +362,54 @@ pub struct Declarators {
 #[derive(Drop)]
 pub struct Params {
     items: Vec<Param>,
+}
+
+impl Expr {
+    /// The place of the node.
+    pub fn pos(&self) -> Pos
+        ensures { result ≡ expr_pos (expr_tree self.now) }
+    {
+        match self {
+            Expr::Word { pos, .. }
+            | Expr::Number { pos, .. }
+            | Expr::Character { pos, .. }
+            | Expr::Strings { pos, .. }
+            | Expr::Enclosed { pos, .. }
+            | Expr::Index { pos, .. }
+            | Expr::Call { pos, .. }
+            | Expr::Dot { pos, .. }
+            | Expr::Arrow { pos, .. }
+            | Expr::PostStep { pos, .. }
+            | Expr::PreStep { pos, .. }
+            | Expr::Unary { pos, .. }
+            | Expr::SizeofExpr { pos, .. }
+            | Expr::SizeofType { pos, .. }
+            | Expr::Cast { pos, .. }
+            | Expr::Binary { pos, .. }
+            | Expr::Cond { pos, .. }
+            | Expr::Assign { pos, .. }
+            | Expr::Compound { pos, .. }
+            | Expr::Comma { pos, .. } => *pos,
+        }
+    }
+}
+
+impl Spec {
+    /// The place of the node.
+    pub fn pos(&self) -> Pos
+        ensures { result ≡ spec_pos (spec_tree self.now) }
+    {
+        match self {
+            Spec::Storage { pos, .. }
+            | Spec::Const { pos, .. }
+            | Spec::Basic { pos, .. }
+            | Spec::TypedefName { pos, .. }
+            | Spec::Struct { pos, .. }
+            | Spec::StructBody { pos, .. }
+            | Spec::Enum { pos, .. }
+            | Spec::EnumBody { pos, .. } => *pos,
+        }
+    }
 }
 
 impl Exprs {
