@@ -11,6 +11,8 @@ mod operator;
 mod place;
 mod program;
 mod statement;
+#[cfg(test)]
+mod tests;
 mod token;
 mod typed;
 mod types;
