@@ -1,4 +1,12 @@
 pub mod Types
+pub mod TypedExpr
+pub mod TypedStmt
+pub mod TypedParts
+pub mod Program
+pub mod Written
+pub mod WrittenDecl
+pub mod WrittenFile
+pub mod WrittenParts
 pub mod Operand
 pub mod Admission
 pub mod Fact

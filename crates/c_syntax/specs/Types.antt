@@ -2,6 +2,9 @@
 use Rattle.std.specs.Prelude.{ℕ, Bool, List}
 use Rattle.c_syntax.specs.declared.place.Pos.{Pos}
 use Rattle.c_syntax.specs.declared.types.IntType.{IntType}
+use Rattle.c_syntax.specs.declared.types.CType.{CType}
+use Rattle.c_syntax.specs.declared.types.CType.TheVariants as types
+use Rattle.c_syntax.specs.declared.types.Object.{Object}
 
 -- a type; a pointer and an array have their target's type, and whether it is const
 pub data CTypeTree : Type 0 where
@@ -20,3 +23,23 @@ pub record ObjectTree : Type 0 where
   pub size : ℕ
   pub read_only : Bool
   pub is_static : Bool
+
+-- the tree of a type
+unfoldable pub ctype_tree : CType → CTypeTree
+ctype_tree types.Void = Void
+ctype_tree (types.Int t) = Int t
+ctype_tree (types.Pointer' place ty is_const) = Pointer (ctype_tree ty) is_const
+ctype_tree (types.Array' place ty is_const n) = Array (ctype_tree ty) is_const n
+ctype_tree (types.Struct n) = Struct n
+ctype_tree (types.Function n) = Function n
+
+-- the tree of an object
+abbrev pub object_tree : Object → ObjectTree
+object_tree object = record {
+  name = object.name;
+  pos = object.pos;
+  ty = ctype_tree object.ty;
+  size = object.size;
+  read_only = object.read_only;
+  is_static = object.is_static;
+}

@@ -196,3 +196,51 @@ impl Places {
         self.items.as_slice()
     }
 }
+
+/// Texts, as the tags of structs.
+#[derive(Debug, Drop)]
+pub struct Names {
+    items: Vec<Name>,
+}
+
+impl Model for Names {
+    ghost use Rattle.std.specs.Prelude.{List, ℕ};
+
+    ghost Value = { List (List ℕ) };
+
+    ghost view = { λ l. l.items.items };
+}
+
+impl Names {
+    ghost use Rattle.std.specs.Prelude.{◌≡◌, []};
+
+    /// The list with nothing in it.
+    pub fn new(alloc: Global) -> Names
+        ensures { result ≡ [] }
+    {
+        Names {
+            items: Vec::new(alloc),
+        }
+    }
+
+    /// The list of these items.
+    pub fn from_vec(items: Vec<Name>) -> Names
+        ensures { result ≡ items.items }
+    {
+        Names { items }
+    }
+
+    /// The items, given back without taking memory.
+    pub fn into_vec(self) -> Vec<Name>
+        ensures { result.items ≡ self }
+    {
+        let Names { items } = self;
+        items
+    }
+
+    pub fn as_slice(&self) -> &[Name]
+        ensures { result.now ≡ self.now }
+    {
+        self.items.as_slice()
+    }
+}

@@ -1,6 +1,10 @@
 // Types of C, and the objects that have them.
 
+ghost use Rattle.std.specs.Prelude.{◌≡◌, ◌↔◌, IfOk, IsTrue};
+ghost use Rattle.c_syntax.specs.Types.{ctype_tree};
+
 use crate::{Name, Pos};
+use std::alloc::{AllocError as NoMemory, Global};
 
 /// The integer types of this profile: char is signed and has 8 bits, short 16, int 32, long and
 /// long long 64.
@@ -48,4 +52,68 @@ pub struct Object {
     pub size: u64,
     pub read_only: bool,
     pub is_static: bool,
+}
+
+impl CType {
+    /// A copy of the type.
+    pub fn copy(&self, alloc: Global) -> Result<CType, NoMemory>
+        ensures { IfOk result (λ copy. ctype_tree copy ≡ ctype_tree self.now) }
+    {
+        match self {
+            CType::Void => Ok(CType::Void),
+            CType::Int(t) => Ok(CType::Int(*t)),
+            CType::Pointer(to) => {
+                let ty = to.ty.copy(alloc)?;
+                let target = Target {
+                    ty,
+                    is_const: to.is_const,
+                };
+                let boxed = Box::new(alloc, target)?;
+                Ok(CType::Pointer(boxed))
+            }
+            CType::Array(of, n) => {
+                let ty = of.ty.copy(alloc)?;
+                let target = Target {
+                    ty,
+                    is_const: of.is_const,
+                };
+                let boxed = Box::new(alloc, target)?;
+                Ok(CType::Array(boxed, *n))
+            }
+            CType::Struct(n) => Ok(CType::Struct(*n)),
+            CType::Function(n) => Ok(CType::Function(*n)),
+        }
+    }
+}
+
+/// Whether the two are one type, const included.
+pub fn same_type(a: &CType, b: &CType) -> bool
+    ensures { IsTrue result ↔ (ctype_tree a.now ≡ ctype_tree b.now) }
+{
+    match a {
+        CType::Void => match b {
+            CType::Void => true,
+            _ => false,
+        },
+        CType::Int(s) => match b {
+            CType::Int(t) => s == t,
+            _ => false,
+        },
+        CType::Pointer(s) => match b {
+            CType::Pointer(t) => s.is_const == t.is_const && same_type(&s.ty, &t.ty),
+            _ => false,
+        },
+        CType::Array(s, m) => match b {
+            CType::Array(t, n) => { m == n && s.is_const == t.is_const && same_type(&s.ty, &t.ty) }
+            _ => false,
+        },
+        CType::Struct(m) => match b {
+            CType::Struct(n) => m == n,
+            _ => false,
+        },
+        CType::Function(m) => match b {
+            CType::Function(n) => m == n,
+            _ => false,
+        },
+    }
 }
