@@ -1,0 +1,11 @@
+pub mod Closing
+pub mod Halving
+pub mod Sizes
+pub mod Entries
+pub mod Places
+pub mod Tables
+pub mod Stages
+pub mod Paths
+pub mod Tight
+pub mod HalfRows
+pub mod Whole

@@ -1,0 +1,18 @@
+use Rattle.std.proofs.Common.{arith, ◌≡◌, ◌<◌, sym, subst, length}
+use Rattle.std.specs.Prelude.{slice_index_or, ◌*◌, ◌+◌, ◌≤◌}
+use Rattle.ext_int.specs.declared.Ext.TheVariants.{Low}
+use Rattle.bound_matrix.specs.Bound.{InRange, entry, place}
+use Rattle.bound_matrix.proofs.Places.{place-below, entry-in, value-in, few-places, place-small}
+use Rattle.bound_matrix.proofs.kept.read_kept.Goals as goal
+
+pub offset_bounds-kept-place_of : goal.offset_bounds-kept-place_of
+offset_bounds-kept-place_of c = let l = place-small c.args.vars c.args.i c.args.j c.requires.kept.few c.requires.row c.requires.column in let e = c.place_of.ensures in omega arith
+
+pub bounds-kept-place_of : goal.bounds-kept-place_of
+bounds-kept-place_of c = let l = place-below c.args.vars c.args.kept.now c.args.i c.args.j c.requires.kept c.requires.row c.requires.column in let e = c.place_of.ensures in omega arith
+
+pub returns-clause-value : goal.returns-clause-value
+returns-clause-value c = value-in c.args.vars c.args.kept.now c.args.i c.args.j c.place_of.result c.requires.row c.requires.column c.place_of.ensures
+
+pub returns-clause-range : goal.returns-clause-range
+returns-clause-range c = subst InRange (sym (value-in c.args.vars c.args.kept.now c.args.i c.args.j c.place_of.result c.requires.row c.requires.column c.place_of.ensures)) (c.requires.kept.range.range c.args.i c.args.j)
