@@ -9,3 +9,4 @@ pub mod Paths
 pub mod Tight
 pub mod HalfRows
 pub mod Whole
+pub mod Storing

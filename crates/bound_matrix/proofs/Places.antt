@@ -1,13 +1,13 @@
 -- Where the kept bounds stand, and what one write changes.
 use Rattle.std.specs.Prelude.{ℕ, zero, suc, ◌≡◌, ◌<◌, ◌≤◌, ◌+◌, ◌-◌, ◌*◌, ◌/◌, ◌%◌, ◌^◌, List, Bool, true, false, ◌&&◌, if◌then◌else◌, length, slice_index_or, slice_set, nat_lt, nat_eq}
-use Rattle.std.proofs.Common.{arith, sym, subst, refl, ap, ◌∙◌, length-set}
-use Rattle.std.proofs.lemmas.List.{get_or-set_same, get_or-set_other}
+use Rattle.std.proofs.Common.{arith, sym, subst, refl, ap, ◌∙◌, length-set, replicate}
+use Rattle.std.proofs.lemmas.List.{get_or-set_same, get_or-set_other, get_or-replicate, length-replicate}
 use Rattle.std.proofs.lemmas.Bool.Decides.{nat_tests}
 use Rattle.std.proofs.lemmas.Int.{ints}
 use Rattle.ext_int.specs.Ext.{lesser}
 use Rattle.ext_int.specs.declared.Ext.{Ext}
 use Rattle.ext_int.specs.declared.Ext.TheVariants.{Low, Fin, High}
-use Rattle.bound_matrix.specs.Bound.{bar, reach, row_start, place, entry, cut, InRange, AllInRange, IsKept, LowersTo}
+use Rattle.bound_matrix.specs.Bound.{bar, reach, row_start, place, entry, cut, InRange, AllInRange, IsKept, LowersTo, MatrixView, bound_at}
 use Rattle.bound_matrix.proofs.Entries.{lesser-range}
 
 -- ---- cases
@@ -69,7 +69,7 @@ one-side i j h g = by (sign i) (sign j)
     by (odd a p q r s t) (even b p2 q2 r2 s2 t2) = omega arith
     by (odd a p q r s t) (odd b p2 q2 r2 s2 t2) = absurd (omega arith)
 
-other-side : (i j : ℕ) → reach i ≤ j → bar i < reach (bar j)
+pub other-side : (i j : ℕ) → reach i ≤ j → bar i < reach (bar j)
 other-side i j h = by (sign i) (sign j)
   where
     by : Sign i → Sign j → bar i < reach (bar j)
@@ -274,3 +274,32 @@ written-lowers n s i j b p c e k h g x y z = rw (written s i j p b c e x y z) (s
 pub written-kept : (n : ℕ) (s : List Ext) (i j : ℕ) (b : Ext) (p : ℕ) (c e : Ext) → IsKept n s → i < n + n → j < n + n → p ≡ place i j → c ≡ cut b → e ≡ lesser (slice_index_or s p Low) c → InRange c → IsKept n (slice_set s p e)
 unfolding after
 written-kept n s i j b p c e k h g x y z r = rw (written s i j p b c e x y z) (set-kept n s i j b k h g (subst InRange y r))
+
+pub bound-mirror : (m : MatrixView) (i j : ℕ) → bound_at m i j ≡ bound_at m (bar j) (bar i)
+bound-mirror m i j = sym (entry-mirror m.vars m.kept i j)
+
+-- ---- a list of no bounds
+
+module _ (n : ℕ) (s : List Ext) (e : s ≡ replicate (2 * n * (n + 1)) High) where
+  pub none-in : (i j : ℕ) → entry n s i j ≡ High
+  none-in i j = inside-or n i j
+      (λ h g. entry-in n s i j h g ∙ (rw e (get_or-replicate (2 * n * (n + 1)) (place i j) High Low (place-less n i j h g))))
+      (λ o. entry-out n s i j o)
+
+  pub none-kept : n ≤ 24 → IsKept n s
+  none-kept few = record {
+    few = few;
+    size = rw e (length-replicate (2 * n * (n + 1)) High);
+    range = record { range = λ i j. subst InRange (sym (none-in i j)) tt };
+  }
+
+-- a row keeps no more columns than it has places
+pub row-cost : (i : ℕ) → row_start i + reach i ≤ row_start (i + 1)
+row-cost i = by (sign i)
+  where
+    next : row_start (i + 1) ≡ row_start i + (i + 2 - i % 2)
+    next = ap row_start (omega arith) ∙ row_start-next i
+
+    by : Sign i → row_start i + reach i ≤ row_start (i + 1)
+    by (even a p q r s t) = let e = next in omega arith
+    by (odd a p q r s t) = let e = next in omega arith

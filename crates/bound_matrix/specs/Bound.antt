@@ -33,8 +33,8 @@ pub record MatrixView : Type 0 where
   pub kept : List Ext
 
 -- the bound of V(j) - V(i)
-abbrev pub bound : MatrixView → ℕ → ℕ → Ext
-bound m i j = entry m.vars m.kept i j
+abbrev pub bound_at : MatrixView → ℕ → ℕ → Ext
+bound_at m i j = entry m.vars m.kept i j
 
 -- the bounds that a matrix may have: none, or a number of at most 2^100 in size
 abbrev pub InRange : Ext → Type 0

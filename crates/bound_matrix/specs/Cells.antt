@@ -3,8 +3,8 @@ use Rattle.std.specs.Prelude.{ℕ, ℤ, ◌≡◌, ◌<◌, ◌≤◌, ◌+◌, 
 use Rattle.ext_int.specs.Ext.{Above}
 use Rattle.ext_int.specs.declared.Ext.{Ext}
 use Rattle.ext_int.specs.declared.Ext.TheVariants.{Low, Fin, High}
-use Rattle.bound_matrix.specs.Bound.{bar, InRange}
-use Rattle.bound_matrix.specs.Points.{IsUpTo}
+use Rattle.bound_matrix.specs.Bound.{bar, reach, InRange, AllInRange}
+use Rattle.bound_matrix.specs.Points.{IsUpTo, Meets}
 use Rattle.bound_matrix.specs.Rel.{Through, Within}
 use Rattle.bound_matrix.specs.Entry.{Near, Bounds, Staged, Relaxed}
 
@@ -100,3 +100,19 @@ pub record HalvesOf (n : ℕ) (m : ℕ → ℕ → Ext) (h : List Ext) : Type 0 
 -- an index and its partner have opposite values
 pub record IsSigned (v : ℕ → ℤ) : Type 0 where
   pub signed : (p : ℕ) → v (bar p) ≡ neg_ℤ (v p)
+
+-- the columns of row i before j were taken over from f, where m became w, and f bounds w from below where it may
+pub record RowStored (i j : ℕ) (f m w : ℕ → ℕ → Ext) : Type 0 where
+  pub row : (q : ℕ) → q < j → (x : ℤ) → IsUpTo (f i q) x → IsUpTo (w i q) x
+  pub range : AllInRange w
+  pub lower : Lowered m w
+  pub sound : (v : ℕ → ℤ) → IsSigned v → Meets v m → Meets v f → Meets v w
+  pub above : ((p q : ℕ) → f (bar q) (bar p) ≡ f p q) → Lowered m f → Lowered w f
+
+-- the kept columns of the rows before i were taken over from f
+pub record Stored (i : ℕ) (f m w : ℕ → ℕ → Ext) : Type 0 where
+  pub rows : (p q : ℕ) → p < i → q < reach p → (x : ℤ) → IsUpTo (f p q) x → IsUpTo (w p q) x
+  pub range : AllInRange w
+  pub lower : Lowered m w
+  pub sound : (v : ℕ → ℤ) → IsSigned v → Meets v m → Meets v f → Meets v w
+  pub above : ((p q : ℕ) → f (bar q) (bar p) ≡ f p q) → Lowered m f → Lowered w f

@@ -3,7 +3,7 @@ use Rattle.std.specs.Prelude.{ℕ, zero, suc, ℤ, pos, neg_ℤ, ◌≡◌, ◌<
 use Rattle.ext_int.specs.Ext.{Above}
 use Rattle.ext_int.specs.declared.Ext.{Ext}
 use Rattle.ext_int.specs.declared.Ext.TheVariants.{Low, Fin, High}
-use Rattle.bound_matrix.specs.Bound.{MatrixView, bound, bar}
+use Rattle.bound_matrix.specs.Bound.{MatrixView, bound_at, bar}
 
 -- the number that a valuation gives a variable: 0 past its end
 abbrev pub value_at : List ℤ → ℕ → ℤ
@@ -21,7 +21,7 @@ pub record Meets (v : ℕ → ℤ) (m : ℕ → ℕ → Ext) : Type 0 where
 
 -- the valuation is an integer point of the matrix: it meets all its bounds
 abbrev pub IsPoint : List ℤ → MatrixView → Type 0
-IsPoint v m = Meets (signed v) (bound m)
+IsPoint v m = Meets (signed v) (bound_at m)
 
 -- the bound is a number, and at most x
 abbrev pub IsUpTo : Ext → ℤ → Type 0
