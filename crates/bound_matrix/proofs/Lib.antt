@@ -10,3 +10,4 @@ pub mod Tight
 pub mod HalfRows
 pub mod Whole
 pub mod Storing
+pub mod Promises

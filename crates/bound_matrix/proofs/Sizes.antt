@@ -28,12 +28,12 @@ between High z x = false
 pub record Sized (B k : ℕ) (m : ℕ → ℕ → Ext) : Type 0 where
   pub size : (i j : ℕ) (x : ℤ) → m i j ≡ Fin x → (x ≤ℤ pos (tally B (λ (a : ℕ). between (m i a) (m a j) (m i j)) k + B)) × (neg_ℤ (pos (tally B (λ (a : ℕ). between (m i a) (m a j) (m i j)) k + B)) ≤ℤ x)
 
-record IsFinite (e : Ext) (x : ℤ) : Type 0 where
-  value : ℤ
-  is : e ≡ Fin value
-  most : value ≤ℤ x
+pub record IsFinite (e : Ext) (x : ℤ) : Type 0 where
+  pub value : ℤ
+  pub is : e ≡ Fin value
+  pub most : value ≤ℤ x
 
-finite : (e : Ext) (x : ℤ) → IsUpTo e x → IsFinite e x
+pub finite : (e : Ext) (x : ℤ) → IsUpTo e x → IsFinite e x
 finite Low x h = absurd h
 finite (Fin w) x h = record { value = w; is = refl; most = h }
 finite High x h = absurd h

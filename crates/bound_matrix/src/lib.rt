@@ -1,8 +1,20 @@
-//! Bounds of differences of signed variables, and their tight closing.
+//! Bounds of differences of signed variables (octagons): matrices of which half is kept, and their
+//! tight closing over whole numbers.
+//!
+//! Variable k stands as two indices, `V(2k) = v(k)` and `V(2k + 1) = -v(k)`. The bound of `i` and
+//! `j` is one of `V(j) - V(i)`, and so also of `V(i xor 1) - V(j xor 1)`. A matrix keeps such a pair
+//! of bounds once, so it is always coherent. A finite bound is at most 2^100 in size.
 #![tactic(auto)]
 
-mod half;
+mod counting;
+mod halves;
 mod kept;
-mod steps;
+mod matrices;
 mod table;
+mod tighten;
 mod transfer;
+
+pub use counting::Steps;
+pub use halves::Half;
+pub use matrices::{Matrix, close};
+pub use tighten::Live;

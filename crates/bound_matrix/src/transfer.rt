@@ -6,9 +6,9 @@ ghost use Rattle.bound_matrix.specs.Cells.{IsTable, cell, RowStored, Stored};
 use ext_int::Ext;
 use std::sync::ledger::Ledger;
 
-use crate::half::Half;
+use crate::halves::Half;
 use crate::kept::columns;
-use crate::steps::Steps;
+use crate::counting::Steps;
 use crate::table::{read, write};
 
 /// Copies the row of `i` into the table.

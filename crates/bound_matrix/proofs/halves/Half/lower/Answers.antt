@@ -3,7 +3,7 @@ use Rattle.std.specs.Vec.{with_items}
 use Rattle.std.proofs.lemmas.List.{with_items_is}
 use Rattle.ext_int.specs.declared.Ext.{Ext}
 use Rattle.bound_matrix.specs.Bound.{entry, bound_at, MatrixView, LowersTo}
-use Rattle.bound_matrix.proofs.half.Half.lower.Goals as goal
+use Rattle.bound_matrix.proofs.halves.Half.lower.Goals as goal
 
 pub returns-clause-lowered : goal.returns-clause-lowered
 returns-clause-lowered g c =

@@ -9,7 +9,7 @@ use std::marker::Model;
 use std::sync::ledger::Ledger;
 
 use crate::kept::{lower_kept, read_kept};
-use crate::steps::Steps;
+use crate::counting::Steps;
 
 /// Upper bounds of the differences of signed variables, of which half are kept. Variable k stands
 /// as `V(2k) = v(k)` and `V(2k + 1) = -v(k)`, and the bound of `i` and `j` is one of `V(j) - V(i)`.
@@ -48,6 +48,13 @@ impl Half {
         ensures range { AllInRange (bound_at self.now) }
     {
         self.vars + self.vars
+    }
+
+    /// How many bounds are kept.
+    pub fn stored(&self) -> u32
+        ensures { result ≡ 2 * self.now.vars * (self.now.vars + 1) }
+    {
+        2 * self.vars * (self.vars + 1)
     }
 
     /// The bound of `V(j) - V(i)`: `High` where there is none, and else at most 2^100 in size. The

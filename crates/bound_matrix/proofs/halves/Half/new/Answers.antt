@@ -1,7 +1,7 @@
 use Rattle.std.proofs.Common.{rules, ◌≡◌, ◌+◌, ◌*◌, replicate}
 use Rattle.ext_int.specs.declared.Ext.TheVariants.{High}
 use Rattle.bound_matrix.proofs.Places.{none-kept, none-in}
-use Rattle.bound_matrix.proofs.half.Half.new.Goals as goal
+use Rattle.bound_matrix.proofs.halves.Half.new.Goals as goal
 
 pub invariant_of-result : goal.invariant_of-result
 invariant_of-result c = none-kept c.args.vars c.in_ok-kept.kept.items (c.in_ok-kept.ensures.items_if_clones_equal (λ y e. e)) c.requires

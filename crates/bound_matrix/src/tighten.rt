@@ -1,0 +1,40 @@
+//! Closing of half matrices, by way of a table of all bounds.
+ghost use Rattle.std.specs.Prelude.{◌≡◌, ℕ, ℤ, List, ◌≤◌, ◌+◌, ◌*◌, ◌↔◌};
+ghost use Rattle.ext_int.specs.Ext.{AtMost};
+ghost use Rattle.bound_matrix.specs.Bound.{bound_at};
+ghost use Rattle.bound_matrix.specs.Points.{IsPoint, IsSmall, IsTight};
+
+use ext_int::Ext;
+use std::sync::ledger::Ledger;
+
+use crate::counting::Steps;
+use crate::halves::Half;
+use crate::table::close_cells;
+use crate::transfer::{load, store};
+
+/// Whether there may be a point.
+#[derive(Clone, Copy, Debug, PartialEq, Eq)]
+pub enum Live {
+    /// There may be one.
+    Live,
+    /// There is none.
+    Dead,
+}
+
+/// Closes a matrix tightly.
+pub fn close_counted<L: Ledger>(m: &mut Half, steps: &mut Steps<L>) -> Live
+    ensures vars { m.new.vars ≡ m.old.vars }
+    ensures lower { (i j : ℕ) → AtMost (bound_at m.new i j) (bound_at m.old i j) }
+    ensures points { (v : List ℤ) → IsPoint v m.old ↔ IsPoint v m.new }
+    ensures dead { result ≡ Live.Dead → (v : List ℤ) → IsPoint v m.old → ⊥ }
+    ensures tight { result ≡ Live.Live → IsSmall (bound_at m.old) → IsTight (m.old.vars + m.old.vars) (bound_at m.new) }
+{
+    let n = m.indices();
+    let mut cells = [Ext::High; 2304];
+    load(m, n, &mut cells, steps);
+    if !close_cells(&mut cells, n as usize) {
+        return Live::Dead;
+    }
+    store(m, n, &cells, steps);
+    Live::Live
+}
