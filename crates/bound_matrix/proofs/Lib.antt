@@ -11,3 +11,4 @@ pub mod HalfRows
 pub mod Whole
 pub mod Storing
 pub mod Promises
+pub mod Pivots

@@ -20,11 +20,11 @@ use Rattle.bound_matrix.proofs.Sizes.{Sized, between}
 pub Bounds-up : (m : ℕ → ℕ → Ext) → Up (Bounds m)
 Bounds-up m = record { up = λ i j x y h l. at-most-up (m i j) x y h l }
 
-staged-into : (m w : ℕ → ℕ → Ext) (k i j : ℕ) (x : ℤ) → Staged m w k i j → IsUpTo (w i j) x → Added (Bounds m) k k (pos 0) i j x
+pub staged-into : (m w : ℕ → ℕ → Ext) (k i j : ℕ) (x : ℤ) → Staged m w k i j → IsUpTo (w i j) x → Added (Bounds m) k k (pos 0) i j x
 staged-into m w k i j x (kept e g) h = old (subst (λ (f : Ext). IsUpTo f x) e h)
 staged-into m w k i j x (better y z p q e never) h = via y z (subst (λ (f : Ext). IsUpTo f y) (sym p) (omega (arith, ints))) (subst (λ (f : Ext). IsUpTo f z) (sym q) (omega (arith, ints))) (let l : (y +ℤ z) ≤ℤ x = subst (λ (f : Ext). IsUpTo f x) e h in omega (arith, ints))
 
-staged-from : (m w : ℕ → ℕ → Ext) (k i j : ℕ) (x : ℤ) → Lowered m w → Staged m w k i j → Added (Bounds m) k k (pos 0) i j x → IsUpTo (w i j) x
+pub staged-from : (m w : ℕ → ℕ → Ext) (k i j : ℕ) (x : ℤ) → Lowered m w → Staged m w k i j → Added (Bounds m) k k (pos 0) i j x → IsUpTo (w i j) x
 staged-from m w k i j x l s (old h) = l.lower i j x h
 staged-from m w k i j x l (kept e g) (via y z p q h) = at-most-up (w i j) (y +ℤ z) x (subst (λ (f : Ext). IsUpTo f (y +ℤ z)) (sym e) (g y z p q)) (omega (arith, ints))
 staged-from m w k i j x l (better v u r s e never) (via y z p q h) = subst (λ (f : Ext). IsUpTo f x) (sym e) (let a : v ≤ℤ y = subst (λ (f : Ext). IsUpTo f y) r p in let b : u ≤ℤ z = subst (λ (f : Ext). IsUpTo f z) s q in omega (arith, ints))

@@ -1,5 +1,5 @@
 -- What closing promises, from what the passes over the table do.
-use Rattle.std.specs.Prelude.{ℕ, ℤ, pos, neg_ℤ, ◌≡◌, ◌<◌, ◌≤◌, ◌+◌, ◌/◌, ◌%◌, ◌+ℤ◌, ◌≤ℤ◌, ◌⊎◌, ◌↔◌, List, Bool, true, false, nat_eq}
+use Rattle.std.specs.Prelude.{ℕ, ℤ, pos, neg_ℤ, ◌≡◌, ◌<◌, ◌≤◌, ◌+◌, ◌*◌, ◌/◌, ◌%◌, ◌+ℤ◌, ◌≤ℤ◌, ◌⊎◌, ◌↔◌, List, Bool, true, false, nat_eq}
 use Rattle.std.specs.Int.{int_div_euclid}
 use Rattle.std.proofs.Common.{arith, sym, subst, refl, ap, ◌∙◌, inl, inr}
 use Rattle.std.proofs.lemmas.Int.{ints}
@@ -7,11 +7,11 @@ use Rattle.std.proofs.lemmas.Bool.Decides.{nat_tests}
 use Rattle.ext_int.specs.Ext.{Above, AtMost}
 use Rattle.ext_int.specs.declared.Ext.{Ext}
 use Rattle.ext_int.specs.declared.Ext.TheVariants.{Low, Fin, High}
-use Rattle.bound_matrix.specs.Bound.{bar, InRange, AllInRange, MatrixView, bound_at}
-use Rattle.bound_matrix.specs.Points.{IsUpTo, Meets, IsSmall, IsTight, IsPoint, signed, value_at}
-use Rattle.bound_matrix.specs.Cells.{cell, Lowered, IsSigned, IsMirrored, IsTightly, Stored}
+use Rattle.bound_matrix.specs.Bound.{bar, row_start, InRange, AllInRange, MatrixView, bound_at}
+use Rattle.bound_matrix.specs.Points.{IsUpTo, Meets, IsSmall, IsTight, IsPoint, WasTight, signed, value_at}
+use Rattle.bound_matrix.specs.Cells.{cell, Lowered, IsSigned, IsMirrored, IsTightly, WasTightly, Stored}
 use Rattle.bound_matrix.proofs.Entries.{at-most-up}
-use Rattle.bound_matrix.proofs.Places.{Sign, even, odd, sign, bar-twice, bound-mirror}
+use Rattle.bound_matrix.proofs.Places.{Sign, even, odd, sign, bar-twice, bound-mirror, row_start-end}
 use Rattle.bound_matrix.proofs.Sizes.{IsFinite, finite}
 use Rattle.bound_matrix.proofs.Storing.{stored-same}
 use Rattle.bound_matrix.proofs.Whole.{tight-same}
@@ -126,3 +126,24 @@ module _ (m w : MatrixView) (n : ℕ) (t u : List Ext) (size : n ≡ m.vars + m.
 
       all : (p q : ℕ) → bound_at w p q ≡ cell n u p q
       all = stored-same n m.vars u (bound_at m) (bound_at w) size inside (λ p q. tight.coherent p q) (λ p q. sym (bound-mirror w p q)) lowered st
+
+-- ---- after one bound was lowered
+
+pub was-tightly : (m : MatrixView) (n i j : ℕ) (w : ℕ → ℕ → Ext) → n ≡ m.vars + m.vars → ((p q : ℕ) → w p q ≡ bound_at m p q) → WasTight i j m → WasTightly n i j w
+was-tightly m n i j w size same t = record {
+  before = bound_at t.before;
+  new = t.new;
+  tight = subst (λ (n : ℕ). IsTightly n (bound_at t.before)) (sym size) (IsTightly-from (m.vars + m.vars) (bound_at t.before) t.tight);
+  lowered = record {
+    here = same i j ∙ t.lowered.here;
+    mirror = same (bar j) (bar i) ∙ t.lowered.mirror;
+    others = λ p q f g. same p q ∙ t.lowered.others p q f g;
+  };
+}
+
+-- the steps of reading all bounds once, and of lowering each kept bound once
+pub cost-whole : (v n a b c : ℕ) → n ≡ v + v → b ≡ a + n * n → c ≤ b + row_start n → c ≤ a + (6 * v * v + 40 * v + 20)
+cost-whole v n a b c e f h = let r : row_start n ≡ 2 * v * (v + 1) = ap row_start e ∙ row_start-end v in let s : n * n ≡ (v + v) * (v + v) = rw e refl in let t : (v + v) * (v + v) ≡ 4 * v * v = grind arith in let u : 2 * v * (v + 1) ≡ 2 * v * v + 2 * v = grind arith in omega arith
+
+pub cost-read : (v n a b : ℕ) → n ≡ v + v → b ≡ a + n * n → b ≤ a + (6 * v * v + 40 * v + 20)
+cost-read v n a b e f = cost-whole v n a b b e f (omega arith)

@@ -48,18 +48,18 @@ load-end m n i s size l h p q = inside-or m.vars p q
 
 -- ---- one lowering
 
-module _ (i j : ℕ) (b : Ext) (w u : ℕ → ℕ → Ext) (l : LowersTo i j b w u) (range : AllInRange w) where
+module _ (i j : ℕ) (b : Ext) (w u : ℕ → ℕ → Ext) (l : LowersTo i j b w u) where
   at-places : (P : ℕ → ℕ → Type 0) → P i j → P (bar j) (bar i) → ((p q : ℕ) → u p q ≡ w p q → P p q) → (p q : ℕ) → P p q
   at-places P here there same p q = nat-either p i (λ d. nat-either q j (λ e. subst (λ (p : ℕ). P p q) (sym d) (subst (λ (q : ℕ). P i q) (sym e) here)) (λ e. second (λ _ k. e k))) (λ d. second (λ k _. d k))
     where
       second : (p ≡ i → q ≡ j → ⊥) → P p q
       second far = nat-either p (bar j) (λ d. nat-either q (bar i) (λ e. subst (λ (p : ℕ). P p q) (sym d) (subst (λ (q : ℕ). P (bar j) q) (sym e) there)) (λ e. same p q (l.others p q far (λ _ k. e k)))) (λ d. same p q (l.others p q far (λ k _. d k)))
 
-  new-range : InRange (lesser (w i j) (cut b))
-  new-range = lesser-range (w i j) (cut b) (range.range i j) (cut-range b)
+  new-range : AllInRange w → InRange (lesser (w i j) (cut b))
+  new-range range = lesser-range (w i j) (cut b) (range.range i j) (cut-range b)
 
-  pub lowering-range : AllInRange u
-  lowering-range = record { range = at-places (λ p q. InRange (u p q)) (subst InRange (sym l.here) new-range) (subst InRange (sym l.mirror) new-range) (λ p q e. subst InRange (sym e) (range.range p q)) }
+  pub lowering-range : AllInRange w → AllInRange u
+  lowering-range range = record { range = at-places (λ p q. InRange (u p q)) (subst InRange (sym l.here) (new-range range)) (subst InRange (sym l.mirror) (new-range range)) (λ p q e. subst InRange (sym e) (range.range p q)) }
 
   pub lowering-lower : w (bar j) (bar i) ≡ w i j → Lowered w u
   lowering-lower m = record { lower = at-places (λ p q. (x : ℤ) → IsUpTo (w p q) x → IsUpTo (u p q) x)
@@ -67,8 +67,8 @@ module _ (i j : ℕ) (b : Ext) (w u : ℕ → ℕ → Ext) (l : LowersTo i j b w
       (λ x h. subst (λ (e : Ext). IsUpTo e x) (sym l.mirror) (lesser-lowers (w i j) (cut b) x (cut-range b) (subst (λ (e : Ext). IsUpTo e x) m h)))
       (λ p q e x h. subst (λ (e : Ext). IsUpTo e x) (sym e) h) }
 
-  pub lowering-takes : InRange b → (x : ℤ) → IsUpTo b x → IsUpTo (u i j) x
-  lowering-takes r x h = subst (λ (e : Ext). IsUpTo e x) (sym l.here) (lesser-takes (w i j) (cut b) x (range.range i j) (subst (λ (e : Ext). IsUpTo e x) (sym (cut-same b r)) h))
+  pub lowering-takes : AllInRange w → InRange b → (x : ℤ) → IsUpTo b x → IsUpTo (u i j) x
+  lowering-takes range r x h = subst (λ (e : Ext). IsUpTo e x) (sym l.here) (lesser-takes (w i j) (cut b) x (range.range i j) (subst (λ (e : Ext). IsUpTo e x) (sym (cut-same b r)) h))
 
   pub lowering-meets : (v : ℕ → ℤ) → IsSigned v → Meets v w → Above b (v j +ℤ neg_ℤ (v i)) → Meets v u
   lowering-meets v k m a = record { meets = at-places (λ p q. Above (u p q) (v q +ℤ neg_ℤ (v p))) (subst (λ (e : Ext). Above e (v j +ℤ neg_ℤ (v i))) (sym l.here) new) (subst (λ (e : Ext). Above e (v (bar i) +ℤ neg_ℤ (v (bar j)))) (sym l.mirror) (subst (λ (x : ℤ). Above (lesser (w i j) (cut b)) x) (sym turn) new)) (λ p q e. subst (λ (e : Ext). Above e (v q +ℤ neg_ℤ (v p))) (sym e) (m.meets p q)) }
@@ -106,15 +106,15 @@ row-stored-step i j f m w u b e r c s l = record {
       (λ d. lower.lower i q x (s.row q (omega arith) x h));
   range = lowering-range i j b w u l s.range;
   lower = record { lower = λ p q x h. lower.lower p q x (s.lower.lower p q x h) };
-  sound = λ v k h g. lowering-meets i j b w u l s.range v k (s.sound v k h g) (subst (λ (a : Ext). Above a (v j +ℤ neg_ℤ (v i))) (sym e) (g.meets i j));
-  above = λ o h. lowering-above i j b w u l s.range f o (s.above o h) inside (λ x a. subst (λ (a : Ext). IsUpTo a x) e a);
+  sound = λ v k h g. lowering-meets i j b w u l v k (s.sound v k h g) (subst (λ (a : Ext). Above a (v j +ℤ neg_ℤ (v i))) (sym e) (g.meets i j));
+  above = λ o h. lowering-above i j b w u l f o (s.above o h) inside (λ x a. subst (λ (a : Ext). IsUpTo a x) e a);
 }
   where
     inside : InRange b
     inside = subst InRange (sym e) r
 
     lower : Lowered w u
-    lower = lowering-lower i j b w u l s.range c
+    lower = lowering-lower i j b w u l c
 
 pub stored-start : (f m : ℕ → ℕ → Ext) → AllInRange m → Stored 0 f m m
 stored-start f m r = record {

@@ -5,8 +5,8 @@ use Rattle.std.proofs.lemmas.Int.{ints}
 use Rattle.ext_int.specs.declared.Ext.{Ext}
 use Rattle.ext_int.specs.declared.Ext.TheVariants.{Low, Fin, High}
 use Rattle.bound_matrix.specs.Rel.{Through, NotBelowZero}
-use Rattle.bound_matrix.specs.Entry.{Relaxed, Bounds, kept}
-use Rattle.bound_matrix.specs.Cells.{cell, Lowered, IsClosed, IsLeast, IsMirrored, IsTightly, IsSigned, half_at, HalvesAbove, IsHalves, RowHalved, IsHalf, HalvesOf}
+use Rattle.bound_matrix.specs.Entry.{Near, Relaxed, Bounds, kept}
+use Rattle.bound_matrix.specs.Cells.{cell, Lowered, IsClosed, IsLeast, IsMirrored, IsTightly, IsSigned, half_at, HalvesAbove, IsHalves, RowHalved, IsHalf, HalvesOf, IsReady}
 use Rattle.bound_matrix.proofs.Tables.{cell-out}
 use Rattle.bound_matrix.proofs.HalfRows.{bar-inside}
 use Rattle.bound_matrix.proofs.Tight.{closed-mirror, tight}
@@ -50,9 +50,13 @@ module _ (n : ℕ) (t s : List Ext) (h : List Ext) (few : n ≤ 48) (even : n % 
       (λ g. kept (cell-out n s i j (λ _ r. absurd (omega arith)) ∙ sym (cell-out n t i j (λ _ r. absurd (omega arith)))) (λ y w a b. absurd (z.of_out (bar j) (bar-out j g) w b))))
       (λ l. kept (cell-out n s i j (λ r _. absurd (omega arith)) ∙ sym (cell-out n t i j (λ r _. absurd (omega arith)))) (λ y w a b. absurd (z.of_out i l y a)))
 
-pub tight-all : (n : ℕ) (r t s : List Ext) (h : List Ext) → n ≤ 48 → n % 2 ≡ 0 → HalvesOf n (cell n t) h → IsClosed n (cell n t) → ((p : ℕ) → p < n → RowHalved n p h (cell n t) (cell n s)) → IsMirrored n (cell n r) → Lowered (cell n r) (cell n t) → IsLeast n (cell n r) (cell n t) → NotBelowZero (Bounds (cell n t)) → AllInRange (cell n s) → Lowered (cell n t) (cell n s) → NotBelowZero (Bounds (cell n s)) → IsTightly n (cell n s)
-tight-all n r t s h few even z c halved f l least up range lower clash =
-    tight n (cell n t) (cell n s) (closed-mirror n (λ i g. bar-inside n i even g) (cell n r) (cell n t) f l c least) (all-through n t s h few even z c halved) up c.zero range lower (half_at h) (all-half n t s h few even z c halved) (all-by n t s h few even z c halved) clash
+pub tight-all : (n : ℕ) (t s : List Ext) (h : List Ext) → n ≤ 48 → n % 2 ≡ 0 → HalvesOf n (cell n t) h → IsReady n (cell n t) → ((p : ℕ) → p < n → RowHalved n p h (cell n t) (cell n s)) → AllInRange (cell n s) → Lowered (cell n t) (cell n s) → NotBelowZero (Bounds (cell n s)) → IsTightly n (cell n s)
+tight-all n t s h few even z r halved range lower clash =
+    tight n (cell n t) (cell n s) r.mirror (all-through n t s h few even z r.closed halved) r.up r.closed.zero range lower (half_at h) (all-half n t s h few even z r.closed halved) (all-by n t s h few even z r.closed halved) clash
+
+-- what was closed from mirrored bounds is ready for the halves
+pub ready : (n : ℕ) (m w : ℕ → ℕ → Ext) → n % 2 ≡ 0 → IsMirrored n m → Lowered m w → IsClosed n w → IsLeast n m w → ((i j : ℕ) → Near (w i j)) → NotBelowZero (Bounds w) → IsReady n w
+ready n m w even f l c least near up = record { closed = c; near = near; up = up; mirror = closed-mirror n (λ i g. bar-inside n i even g) m w f l c least }
 
 pub tight-same : (n : ℕ) (w u : ℕ → ℕ → Ext) → ((p q : ℕ) → u p q ≡ w p q) → IsTightly n w → IsTightly n u
 tight-same n w u h t = record {

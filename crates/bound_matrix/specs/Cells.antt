@@ -1,11 +1,11 @@
 -- A whole matrix of at most 48 rows of 48 cells, in which bounds are closed, and what the passes over it do.
-use Rattle.std.specs.Prelude.{ℕ, ℤ, ◌≡◌, ◌<◌, ◌≤◌, ◌+◌, ◌*◌, ◌%◌, ◌+ℤ◌, ◌≤ℤ◌, pos, neg_ℤ, List, length, slice_index_or, nat_lt, ◌&&◌, if◌then◌else◌}
+use Rattle.std.specs.Prelude.{ℕ, ℤ, ◌≡◌, ◌<◌, ◌≤◌, ◌+◌, ◌*◌, ◌%◌, ◌+ℤ◌, ◌≤ℤ◌, pos, neg_ℤ, List, length, slice_index, slice_index_or, nat_lt, ◌&&◌, if◌then◌else◌}
 use Rattle.ext_int.specs.Ext.{Above}
 use Rattle.ext_int.specs.declared.Ext.{Ext}
 use Rattle.ext_int.specs.declared.Ext.TheVariants.{Low, Fin, High}
-use Rattle.bound_matrix.specs.Bound.{bar, reach, InRange, AllInRange}
+use Rattle.bound_matrix.specs.Bound.{bar, reach, InRange, AllInRange, LowersTo}
 use Rattle.bound_matrix.specs.Points.{IsUpTo, Meets}
-use Rattle.bound_matrix.specs.Rel.{Through, Within}
+use Rattle.bound_matrix.specs.Rel.{Through, Within, NotBelowZero, Mirrored}
 use Rattle.bound_matrix.specs.Entry.{Near, Bounds, Staged, Relaxed}
 
 -- the bound of i and j
@@ -116,3 +116,22 @@ pub record Stored (i : ℕ) (f m w : ℕ → ℕ → Ext) : Type 0 where
   pub lower : Lowered m w
   pub sound : (v : ℕ → ℤ) → IsSigned v → Meets v m → Meets v f → Meets v w
   pub above : ((p q : ℕ) → f (bar q) (bar p) ≡ f p q) → Lowered m f → Lowered w f
+
+-- closed under composing, mirrored, and of a size whose sums are exact: what the halves need
+pub record IsReady (n : ℕ) (m : ℕ → ℕ → Ext) : Type 0 where
+  pub closed : IsClosed n m
+  pub near : (i j : ℕ) → Near (m i j)
+  pub up : NotBelowZero (Bounds m)
+  pub mirror : Mirrored bar (Bounds m)
+
+-- bounds compose through each index but these, and none says more than 0 of an index and itself
+pub record ComposesBut (n : ℕ) (pivots : List ℕ) (m : ℕ → ℕ → Ext) : Type 0 where
+  pub zero : (i : ℕ) → i < n → IsUpTo (m i i) (pos 0)
+  pub composes : (p : ℕ) → p < n → ((k : ℕ) → k < length pivots → p ≡ slice_index pivots k → ⊥) → Through (Bounds m) p
+
+-- m is what lowering one bound made of tightly closed ones
+pub record WasTightly (n i j : ℕ) (m : ℕ → ℕ → Ext) : Type 0 where
+  pub before : ℕ → ℕ → Ext
+  pub new : Ext
+  pub tight : IsTightly n before
+  pub lowered : LowersTo i j new before m

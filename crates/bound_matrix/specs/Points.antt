@@ -3,7 +3,7 @@ use Rattle.std.specs.Prelude.{ℕ, zero, suc, ℤ, pos, neg_ℤ, ◌≡◌, ◌<
 use Rattle.ext_int.specs.Ext.{Above}
 use Rattle.ext_int.specs.declared.Ext.{Ext}
 use Rattle.ext_int.specs.declared.Ext.TheVariants.{Low, Fin, High}
-use Rattle.bound_matrix.specs.Bound.{MatrixView, bound_at, bar}
+use Rattle.bound_matrix.specs.Bound.{MatrixView, bound_at, bar, LowersTo}
 
 -- the number that a valuation gives a variable: 0 past its end
 abbrev pub value_at : List ℤ → ℕ → ℤ
@@ -40,3 +40,10 @@ pub record IsTight (n : ℕ) (m : ℕ → ℕ → Ext) : Type 0 where
   pub triangle : (i j k : ℕ) (x y : ℤ) → m i k ≡ Fin x → m k j ≡ Fin y → IsUpTo (m i j) (x +ℤ y)
   pub even : (i : ℕ) (x : ℤ) → m i (bar i) ≡ Fin x → (h : ℤ) × (x ≡ h +ℤ h)
   pub strong : (i j : ℕ) (h g : ℤ) → m i (bar i) ≡ Fin (h +ℤ h) → m (bar j) j ≡ Fin (g +ℤ g) → IsUpTo (m i j) (h +ℤ g)
+
+-- the matrix is what lowering one bound made of a tightly closed one
+pub record WasTight (i j : ℕ) (m : MatrixView) : Type 0 where
+  pub before : MatrixView
+  pub new : Ext
+  pub tight : IsTight (m.vars + m.vars) (bound_at before)
+  pub lowered : LowersTo i j new (bound_at before) (bound_at m)

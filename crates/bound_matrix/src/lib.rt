@@ -16,5 +16,8 @@ mod transfer;
 
 pub use counting::Steps;
 pub use halves::Half;
-pub use matrices::{Matrix, close};
-pub use tighten::Live;
+pub use matrices::{Matrix, close, close_one};
+pub use tighten::{Live, close_one_counted};
+
+#[cfg(test)]
+mod tests;

@@ -3,7 +3,7 @@ ghost use Rattle.std.specs.Prelude.{◌≡◌, ℕ, ℤ, List, ◌≤◌, ◌<�
 ghost use Rattle.ext_int.specs.Ext.{AtMost};
 ghost use Rattle.ext_int.specs.declared.Ext.TheVariants.{High};
 ghost use Rattle.bound_matrix.specs.Bound.{bar, bound_at, InRange, LowersTo};
-ghost use Rattle.bound_matrix.specs.Points.{IsPoint, IsSmall, IsTight};
+ghost use Rattle.bound_matrix.specs.Points.{IsPoint, IsSmall, IsTight, WasTight};
 
 use ext_int::Ext;
 use std::alloc::{AllocError as NoMemory, Global};
@@ -12,7 +12,7 @@ use std::sync::ledger::{Blank, Ledger};
 
 use crate::counting::Steps;
 use crate::halves::Half;
-use crate::tighten::{Live, close_counted};
+use crate::tighten::{Live, close_counted, close_one_counted};
 
 /// Upper bounds of the differences of signed variables. Variable k stands as `V(2k) = v(k)` and
 /// `V(2k + 1) = -v(k)`, and the bound of `i` and `j` is one of `V(j) - V(i)`.
@@ -86,6 +86,21 @@ pub fn close(m: &mut Matrix) -> Live
     close_uncounted::<Brand>(&mut m.half, Blank::new(1))
 }
 
+/// Closes a matrix again of which one bound, that of `i` and `j`, was lowered since it was tightly
+/// closed. It promises what `close` promises, and takes time quadratic in the variables.
+pub fn close_one(m: &mut Matrix, i: u32, j: u32) -> Live
+    requires row { i < 2 * m.old.vars }
+    requires column { j < 2 * m.old.vars }
+    requires lowered { WasTight i j m.old }
+    ensures vars { m.new.vars ≡ m.old.vars }
+    ensures lower { (p q : ℕ) → AtMost (bound_at m.new p q) (bound_at m.old p q) }
+    ensures points { (v : List ℤ) → IsPoint v m.old ↔ IsPoint v m.new }
+    ensures dead { result ≡ Live.Dead → (v : List ℤ) → IsPoint v m.old → ⊥ }
+    ensures tight { result ≡ Live.Live → IsSmall (bound_at m.old) → IsTight (m.old.vars + m.old.vars) (bound_at m.new) }
+{
+    close_one_uncounted::<Brand>(&mut m.half, i, j, Blank::new(1))
+}
+
 /// The bound, on a count that ends with the call.
 fn get_uncounted<L: Ledger>(m: &Half, i: u32, j: u32, blank: Blank) -> Ext
     requires row { i < 2 * m.now.vars }
@@ -125,4 +140,21 @@ fn close_uncounted<L: Ledger>(m: &mut Half, blank: Blank) -> Live
     ensures tight { result ≡ Live.Live → IsSmall (bound_at m.old) → IsTight (m.old.vars + m.old.vars) (bound_at m.new) }
 {
     close_counted(m, &mut Steps::<L>::start(blank))
+}
+
+/// Closes a matrix after one bound was lowered, on a count that ends with the call.
+fn close_one_uncounted<L: Ledger>(m: &mut Half, i: u32, j: u32, blank: Blank) -> Live
+    requires row { i < 2 * m.old.vars }
+    requires column { j < 2 * m.old.vars }
+    requires lowered { WasTight i j m.old }
+    requires name { blank.name ≡ L.name }
+    requires parts { blank.parts ≡ L.parts }
+    requires some_part { 0 < blank.parts }
+    ensures vars { m.new.vars ≡ m.old.vars }
+    ensures lower { (p q : ℕ) → AtMost (bound_at m.new p q) (bound_at m.old p q) }
+    ensures points { (v : List ℤ) → IsPoint v m.old ↔ IsPoint v m.new }
+    ensures dead { result ≡ Live.Dead → (v : List ℤ) → IsPoint v m.old → ⊥ }
+    ensures tight { result ≡ Live.Live → IsSmall (bound_at m.old) → IsTight (m.old.vars + m.old.vars) (bound_at m.new) }
+{
+    close_one_counted(m, i, j, &mut Steps::<L>::start(blank))
 }

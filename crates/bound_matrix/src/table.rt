@@ -1,18 +1,15 @@
 //! Closing the bounds of a whole matrix, in place and without allocating.
-ghost use Rattle.std.specs.Prelude.{◌≤◌, ◌%◌, ◌≡◌, ℕ, ℤ, ◌+ℤ◌, ◌≤ℤ◌, pos, ◌<◌, false, true};
+ghost use Rattle.std.specs.Prelude.{◌≤◌, ◌%◌, ◌≡◌, ℕ, ℤ, ◌+ℤ◌, ◌≤ℤ◌, pos, ◌<◌, false, true, length, slice_index};
 ghost use Rattle.ext_int.specs.Ext.{Above};
 ghost use Rattle.bound_matrix.specs.Bound.{InRange, AllInRange};
 ghost use Rattle.bound_matrix.specs.Points.{IsUpTo, Meets, IsSmall};
 ghost use Rattle.bound_matrix.specs.Entry.{Near, Relaxed, Staged, Bounds};
 ghost use Rattle.bound_matrix.specs.Rel.{NotBelowZero};
-ghost use Rattle.bound_matrix.specs.Cells.{IsTable, cell, SameBut, NearAt, Lowered, RowStaged, PivotUp, IsClosed, IsLeast, IsHalf, HalvesAbove, IsHalves, NearHalves, RowHalved, HalvesOf, IsSigned, IsMirrored, IsTightly};
+ghost use Rattle.bound_matrix.specs.Cells.{IsTable, cell, SameBut, NearAt, Lowered, RowStaged, PivotUp, IsClosed, IsLeast, IsHalf, HalvesAbove, IsHalves, NearHalves, RowHalved, HalvesOf, IsSigned, IsMirrored, IsTightly, IsReady, ComposesBut, WasTightly};
 
 use ext_int::{Ext, half_floor, min};
 
 use crate::kept::{cut_bound, partner};
-
-/// The most indices that a matrix has: two for each of 24 variables.
-pub const MOST: usize = 48;
 
 /// The lesser of `e` and the sum of `a` and `b`.
 fn relax(a: Ext, b: Ext, e: Ext) -> Ext
@@ -221,6 +218,25 @@ fn halve(cells: &mut [Ext], n: usize, halves: &[Ext])
     }
 }
 
+/// Lowers bounds that are closed under composing by the sums of their halves: false where these
+/// clash.
+fn close_halves(cells: &mut [Ext], n: usize) -> bool
+    requires table { IsTable n cells.old }
+    requires even { n % 2 ≡ 0 }
+    requires range { AllInRange (cell n cells.old) }
+    ensures table { IsTable n cells.new }
+    ensures range { AllInRange (cell n cells.new) }
+    ensures lower { Lowered (cell n cells.old) (cell n cells.new) }
+    ensures sound { (v : ℕ → ℤ) → IsSigned v → Meets v (cell n cells.old) → Meets v (cell n cells.new) }
+    ensures dead { result ≡ false → (v : ℕ → ℤ) → IsSigned v → Meets v (cell n cells.old) → ⊥ }
+    ensures tight { result ≡ true → IsReady n (cell n cells.old) → IsTightly n (cell n cells.new) }
+{
+    let halves = take_halves(cells, n);
+    halve(cells, n, &halves);
+    let clash = below_zero(cells, n);
+    !clash
+}
+
 /// Closes the bounds: false where there is no point.
 pub fn close_cells(cells: &mut [Ext], n: usize) -> bool
     requires table { IsTable n cells.old }
@@ -236,8 +252,54 @@ pub fn close_cells(cells: &mut [Ext], n: usize) -> bool
     if !close_paths(cells, n) {
         return false;
     }
-    let halves = take_halves(cells, n);
-    halve(cells, n, &halves);
-    let clash = below_zero(cells, n);
-    !clash
+    close_halves(cells, n)
+}
+
+/// Closes bounds that compose through every other index: false where they clash.
+fn close_through(cells: &mut [Ext], n: usize, pivots: &[usize]) -> bool
+    requires table { IsTable n cells.old }
+    requires range { AllInRange (cell n cells.old) }
+    requires few { length pivots.now ≤ 4 }
+    requires inside { (k : ℕ) → k < length pivots.now → slice_index pivots.now k < n }
+    ensures table { IsTable n cells.new }
+    ensures range { AllInRange (cell n cells.new) }
+    ensures lower { Lowered (cell n cells.old) (cell n cells.new) }
+    ensures sound { (v : ℕ → ℤ) → Meets v (cell n cells.old) → Meets v (cell n cells.new) }
+    ensures dead { result ≡ false → (v : ℕ → ℤ) → Meets v (cell n cells.old) → ⊥ }
+    ensures live { result ≡ true → NotBelowZero (Bounds (cell n cells.new)) }
+    ensures closed { result ≡ true → IsSmall (cell n cells.old) → ComposesBut n pivots.now (cell n cells.old) → IsClosed n (cell n cells.new) }
+    ensures near { result ≡ true → IsSmall (cell n cells.old) → (i j : ℕ) → Near (cell n cells.new i j) }
+    ensures least { result ≡ true → IsSmall (cell n cells.old) → IsLeast n (cell n cells.old) (cell n cells.new) }
+{
+    if below_zero(cells, n) {
+        return false;
+    }
+    for at in 0..pivots.len() {
+        stage(cells, n, pivots[at]);
+        if below_zero(cells, n) {
+            return false;
+        }
+    }
+    true
+}
+
+/// Closes bounds of which that of `i` and `j`, and its mirror image, was lowered since they were
+/// tightly closed: false where there is no point.
+pub fn close_lowered(cells: &mut [Ext], n: usize, i: usize, j: usize) -> bool
+    requires table { IsTable n cells.old }
+    requires even { n % 2 ≡ 0 }
+    requires range { AllInRange (cell n cells.old) }
+    requires row { i < n }
+    requires column { j < n }
+    ensures table { IsTable n cells.new }
+    ensures range { AllInRange (cell n cells.new) }
+    ensures lower { Lowered (cell n cells.old) (cell n cells.new) }
+    ensures sound { (v : ℕ → ℤ) → IsSigned v → Meets v (cell n cells.old) → Meets v (cell n cells.new) }
+    ensures dead { result ≡ false → (v : ℕ → ℤ) → IsSigned v → Meets v (cell n cells.old) → ⊥ }
+    ensures tight { result ≡ true → IsSmall (cell n cells.old) → IsMirrored n (cell n cells.old) → WasTightly n i j (cell n cells.old) → IsTightly n (cell n cells.new) }
+{
+    if !close_through(cells, n, &[i, j, partner(i), partner(j)]) {
+        return false;
+    }
+    close_halves(cells, n)
 }
