@@ -29,9 +29,13 @@ IsUpTo Low x = ⊥
 IsUpTo (Fin w) x = w ≤ℤ x
 IsUpTo High x = ⊥
 
+-- at most 2^90 in size
+abbrev pub IsSmallNumber : ℤ → Type 0
+IsSmallNumber x = (x ≤ℤ pos (2 ^ 90)) × (neg_ℤ (pos (2 ^ 90)) ≤ℤ x)
+
 -- every finite bound is at most 2^90 in size
 pub record IsSmall (m : ℕ → ℕ → Ext) : Type 0 where
-  pub small : (i j : ℕ) (x : ℤ) → m i j ≡ Fin x → (x ≤ℤ pos (2 ^ 90)) × (neg_ℤ (pos (2 ^ 90)) ≤ℤ x)
+  pub small : (i j : ℕ) (x : ℤ) → m i j ≡ Fin x → IsSmallNumber x
 
 -- tightly closed over n indices: coherent, 0 from each index to itself, no bound above the sum of two on a way between its ends, each finite bound between the two signs of a variable even, and no bound above half of the sum of those of its two ends
 pub record IsTight (n : ℕ) (m : ℕ → ℕ → Ext) : Type 0 where
