@@ -1,19 +1,19 @@
 -- What closing promises, from what the passes over the table do.
 use Rattle.std.specs.Prelude.{ℕ, ℤ, pos, neg_ℤ, ◌≡◌, ◌<◌, ◌≤◌, ◌+◌, ◌*◌, ◌/◌, ◌%◌, ◌+ℤ◌, ◌≤ℤ◌, ◌⊎◌, ◌↔◌, List, Bool, true, false, nat_eq}
-use Rattle.std.specs.Int.{int_div_euclid}
+use Rattle.std.specs.Int.{int_div_euclid, int_min}
 use Rattle.std.proofs.Common.{arith, sym, subst, refl, ap, ◌∙◌, inl, inr}
 use Rattle.std.proofs.lemmas.Int.{ints}
 use Rattle.std.proofs.lemmas.Bool.Decides.{nat_tests}
-use Rattle.ext_int.specs.Ext.{Above, AtMost}
+use Rattle.ext_int.specs.Ext.{Above, AtMost, lesser}
 use Rattle.ext_int.specs.declared.Ext.{Ext}
 use Rattle.ext_int.specs.declared.Ext.TheVariants.{Low, Fin, High}
-use Rattle.bound_matrix.specs.Bound.{bar, row_start, InRange, AllInRange, MatrixView, bound_at}
-use Rattle.bound_matrix.specs.Points.{IsUpTo, Meets, IsSmall, IsTight, IsPoint, WasTight, signed, value_at}
+use Rattle.bound_matrix.specs.Bound.{bar, row_start, InRange, AllInRange, cut, LowersTo, MatrixView, bound_at}
+use Rattle.bound_matrix.specs.Points.{IsUpTo, Meets, IsSmall, IsSmallNumber, IsTight, IsPoint, WasTight, signed, value_at}
 use Rattle.bound_matrix.specs.Cells.{cell, Lowered, IsSigned, IsMirrored, IsTightly, WasTightly, Stored}
-use Rattle.bound_matrix.proofs.Entries.{at-most-up}
+use Rattle.bound_matrix.proofs.Entries.{at-most-up, cut-same}
 use Rattle.bound_matrix.proofs.Places.{Sign, even, odd, sign, bar-twice, bound-mirror, row_start-end}
 use Rattle.bound_matrix.proofs.Sizes.{IsFinite, finite}
-use Rattle.bound_matrix.proofs.Storing.{stored-same}
+use Rattle.bound_matrix.proofs.Storing.{stored-same, at-places}
 use Rattle.bound_matrix.proofs.Whole.{tight-same}
 
 -- ---- the signed numbers of a valuation
@@ -147,3 +147,30 @@ cost-whole v n a b c e f h = let r : row_start n ≡ 2 * v * (v + 1) = ap row_st
 
 pub cost-read : (v n a b : ℕ) → n ≡ v + v → b ≡ a + n * n → b ≤ a + (6 * v * v + 40 * v + 20)
 cost-read v n a b e f = cost-whole v n a b b e f (omega arith)
+
+-- ---- what a caller shows to close again
+
+lesser-small : (e : Ext) (b x : ℤ) → ((x : ℤ) → e ≡ Fin x → IsSmallNumber x) → IsSmallNumber b → lesser e (Fin b) ≡ Fin x → IsSmallNumber x
+lesser-small Low b x h s e = absurd cc
+lesser-small (Fin w) b x h s e = let g = h w refl in let d : int_min w b ≡ x = cc in (grind (arith, ints), grind (arith, ints))
+lesser-small High b x h s e = let d : b ≡ x = cc in subst IsSmallNumber d s
+
+-- a matrix with no bounds is small
+pub none-small : (m : MatrixView) → ((i j : ℕ) → bound_at m i j ≡ High) → IsSmall (bound_at m)
+none-small m h = record { small = λ i j x e. absurd (let d = h i j in cc) }
+
+-- so is one of which a bound was lowered to a small number
+pub lowered-small : (i j : ℕ) (b : ℤ) (w u : ℕ → ℕ → Ext) → IsSmallNumber b → LowersTo i j (Fin b) w u → IsSmall w → IsSmall u
+lowered-small i j b w u s l h = record { small = at-places i j (Fin b) w u l (λ p q. (x : ℤ) → u p q ≡ Fin x → IsSmallNumber x) (λ x e. new x (sym l.here ∙ e)) (λ x e. new x (sym l.mirror ∙ e)) (λ p q d x e. h.small p q x (sym d ∙ e)) }
+  where
+    new : (x : ℤ) → lesser (w i j) (cut (Fin b)) ≡ Fin x → IsSmallNumber x
+    new x e = lesser-small (w i j) b x (h.small i j) s (ap (λ (c : Ext). lesser (w i j) c) (sym (cut-same (Fin b) (omega (arith, ints), omega (arith, ints)))) ∙ e)
+
+-- a matrix that was tightly closed, and then lowered at one place
+pub was-tight : (old closed m : MatrixView) (i j : ℕ) (b : Ext) → IsTight (old.vars + old.vars) (bound_at closed) → closed.vars ≡ old.vars → m.vars ≡ closed.vars → LowersTo i j b (bound_at closed) (bound_at m) → WasTight i j m
+was-tight old closed m i j b t e f l = record {
+  before = closed;
+  new = b;
+  tight = subst (λ (n : ℕ). IsTight n (bound_at closed)) (let d : old.vars ≡ m.vars = sym (f ∙ e) in ap (λ (v : ℕ). v + v) d) t;
+  lowered = l;
+}

@@ -49,7 +49,7 @@ load-end m n i s size l h p q = inside-or m.vars p q
 -- ---- one lowering
 
 module _ (i j : ℕ) (b : Ext) (w u : ℕ → ℕ → Ext) (l : LowersTo i j b w u) where
-  at-places : (P : ℕ → ℕ → Type 0) → P i j → P (bar j) (bar i) → ((p q : ℕ) → u p q ≡ w p q → P p q) → (p q : ℕ) → P p q
+  pub at-places : (P : ℕ → ℕ → Type 0) → P i j → P (bar j) (bar i) → ((p q : ℕ) → u p q ≡ w p q → P p q) → (p q : ℕ) → P p q
   at-places P here there same p q = nat-either p i (λ d. nat-either q j (λ e. subst (λ (p : ℕ). P p q) (sym d) (subst (λ (q : ℕ). P i q) (sym e) here)) (λ e. second (λ _ k. e k))) (λ d. second (λ k _. d k))
     where
       second : (p ≡ i → q ≡ j → ⊥) → P p q

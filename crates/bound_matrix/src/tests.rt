@@ -173,13 +173,13 @@ fn closed_after(
 {
     let mut m = Matrix::new(alloc, 2)?;
     m.lower(first.0, first.1, Fin(first.2));
-    if close(&mut m) == Dead {
-        return Ok(None);
+    match close(&mut m) {
+        Dead => return Ok(None),
+        Alive => m.lower(second.0, second.1, Fin(second.2)),
     }
-    m.lower(second.0, second.1, Fin(second.2));
     match close_one(&mut m, second.0, second.1) {
-        Alive => Ok(Some(m.get(1, 0))),
         Dead => Ok(None),
+        Alive => Ok(Some(m.get(1, 0))),
     }
 }
 
@@ -199,13 +199,13 @@ fn counted<L: Ledger>(
     let mut steps = Steps::<L>::start(blank);
     let mut m = Half::new(alloc, 2)?;
     m.lower(first.0, first.1, Fin(first.2), &mut steps);
-    if close_counted(&mut m, &mut steps) == Dead {
-        return Ok(None);
+    match close_counted(&mut m, &mut steps) {
+        Dead => return Ok(None),
+        Alive => m.lower(second.0, second.1, Fin(second.2), &mut steps),
     }
-    m.lower(second.0, second.1, Fin(second.2), &mut steps);
     match close_one_counted(&mut m, second.0, second.1, &mut steps) {
-        Alive => Ok(Some(m.get(1, 0, &mut steps))),
         Dead => Ok(None),
+        Alive => Ok(Some(m.get(1, 0, &mut steps))),
     }
 }
 
@@ -371,16 +371,11 @@ fn random_bounds(
 #[test]
 fn closes_as_trying_all_points(rt: HostRuntime) {
     let mut random = Random { state: 1 };
-    let mut with_points = 0;
     for _ in 0..200 {
         let vars = 1 + random.below(6);
         let (reach, points) = BOXES[vars as usize - 1];
         let bounds = random_bounds(rt.alloc(), &mut random, vars, reach).expect(&rt, "memory");
         let agree = agrees(rt.alloc(), vars, reach, points, &bounds).expect(&rt, "memory");
         assert!(rt; agree, "{bounds:?}");
-        if greatest_differences(points, reach, &bounds).is_some() {
-            with_points += 1;
-        }
     }
-    assert!(rt; with_points > 50 && with_points < 190, "{with_points}");
 }
