@@ -2,13 +2,10 @@
 use Rattle.std.specs.Prelude.{ℕ, ℤ, pos, ◌+ℤ◌, ◌≤ℤ◌}
 use Rattle.std.proofs.Common.{arith}
 use Rattle.std.proofs.lemmas.Int.{ints}
-use Rattle.bound_matrix.specs.Rel.{Up, Through, Within, NotBelowZero, Added, old, via, Halved, whole, halves}
+use Rattle.bound_matrix.specs.Rel.{Through, Within, NotBelowZero}
+use Rattle.bound_matrix.proofs.Ways.{Up, Added, old, via}
 
 module _ (L : ℕ → ℕ → ℤ → Type 0) (u : Up L) where
-  added-up : (a b : ℕ) (c : ℤ) (i j : ℕ) (x y : ℤ) → Added L a b c i j x → x ≤ℤ y → Added L a b c i j y
-  added-up a b c i j x y (old l) h = old (u.up i j x y l h)
-  added-up a b c i j x y (via p q l m g) h = via p q l m (omega (arith, ints))
-
   -- a pivot that composed still does
   joined-still : (a b : ℕ) (c : ℤ) → ((x : ℤ) → L b a x → pos 0 ≤ℤ (c +ℤ x)) → (p : ℕ) → Through L p → (i j : ℕ) (x y : ℤ) → Added L a b c i p x → Added L a b c p j y → Added L a b c i j (x +ℤ y)
   joined-still a b c n p t i j x y (old l) (old m) = old (t.joined i j x y l m)
@@ -22,13 +19,6 @@ module _ (L : ℕ → ℕ → ℤ → Type 0) (u : Up L) where
   joined-now k n i j x y (old l) (via q r m s h) = let e = n q m in via x r l s (omega (arith, ints))
   joined-now k n i j x y (via q r l m h) (old s) = let e = n r m in via q y l s (omega (arith, ints))
   joined-now k n i j x y (via q r l m h) (via v w s o g) = let e = n r m in let f = n v s in via q w l o (omega (arith, ints))
-
-  halved-up : (bar : ℕ → ℕ) (i j : ℕ) (x y : ℤ) → Halved bar L i j x → x ≤ℤ y → Halved bar L i j y
-  halved-up bar i j x y (whole l) h = whole (u.up i j x y l h)
-  halved-up bar i j x y (halves p q l m g) h = halves p q l m (omega (arith, ints))
-
-pub Added-up : {L : ℕ → ℕ → ℤ → Type 0} {a b : ℕ} {c : ℤ} → Up L → Up (Added L a b c)
-Added-up {L} {a} {b} {c} u = record { up = added-up L u a b c }
 
 pub Added-through : {L : ℕ → ℕ → ℤ → Type 0} {a b p : ℕ} {c : ℤ} → Up L → ((x : ℤ) → L b a x → pos 0 ≤ℤ (c +ℤ x)) → Through L p → Through (Added L a b c) p
 Added-through {L} {a} {b} {p} {c} u n t = record { joined = joined-still L u a b c n p t }

@@ -1,14 +1,13 @@
 -- Bounds, and the lesser of a bound and a sum.
-use Rattle.std.specs.Prelude.{ℤ, pos, neg_ℤ, ◌≡◌, ◌^◌, ◌+ℤ◌, ◌≤ℤ◌, ◌<ℤ◌, Bool, true, false}
+use Rattle.std.specs.Prelude.{ℤ, pos, ◌≡◌, ◌^◌, ◌+ℤ◌, ◌≤ℤ◌, ◌<ℤ◌, Bool, true, false}
 use Rattle.std.specs.Int.RustNames.{int_le}
 use Rattle.std.proofs.Common.{arith, sym, subst, refl, ap, ◌∙◌}
 use Rattle.std.proofs.lemmas.Int.{ints, by_lt_z}
-use Rattle.ext_int.specs.Ext.{Above, lesser, half}
+use Rattle.ext_int.specs.Ext.{Above, lesser}
 use Rattle.ext_int.specs.declared.Ext.{Ext}
 use Rattle.ext_int.specs.declared.Ext.TheVariants.{Low, Fin, High}
 use Rattle.bound_matrix.specs.Bound.{InRange, cut}
 use Rattle.bound_matrix.specs.Points.{IsUpTo}
-use Rattle.bound_matrix.specs.Cells.{IsHalf}
 use Rattle.bound_matrix.specs.Entry.{Near, Relaxed, kept, better}
 
 pub at-most-up : (e : Ext) (x y : ℤ) → IsUpTo e x → x ≤ℤ y → IsUpTo e y
@@ -101,23 +100,6 @@ cut-above (Fin w) x h = by (int_le w (pos (2 ^ 100))) refl
     by true e = rw e (grind (arith, ints))
     by false e = rw e tt
 cut-above High x h = tt
-
--- ---- halves
-
-pub half-range : (e : Ext) → InRange e → InRange (half e)
-half-range Low h = absurd h
-half-range (Fin x) h = (grind (arith, ints), grind (arith, ints))
-half-range High h = tt
-
-pub half-near : (e : Ext) → Near e → Near (half e)
-half-near Low h = absurd h
-half-near (Fin x) h = (grind (arith, ints), grind (arith, ints))
-half-near High h = tt
-
-pub half-is : (e : Ext) → IsHalf e (half e)
-half-is Low = record { half_into = λ h g. g; half_from = λ h g. g }
-half-is (Fin x) = record { half_into = λ h g. grind (arith, ints); half_from = λ h g. grind (arith, ints) }
-half-is High = record { half_into = λ h g. g; half_from = λ h g. g }
 
 -- ---- the lesser of a bound and a sum of two
 

@@ -2,7 +2,8 @@
 use Rattle.std.specs.Prelude.{ℕ, ℤ, pos, ◌≡◌, ◌+ℤ◌, ◌≤ℤ◌, ◌<ℤ◌}
 use Rattle.std.proofs.Common.{arith, sym, subst}
 use Rattle.std.proofs.lemmas.Int.{ints, by_lt_z}
-use Rattle.bound_matrix.specs.Rel.{Up, Through, NotBelowZero, Mirrored, Half, Halved, whole, halves, NoClash}
+use Rattle.bound_matrix.specs.Rel.{Through, Mirrored}
+use Rattle.bound_matrix.proofs.Ways.{Up, Half, Halved, whole, halves, NoClash}
 
 module _ (bar : ℕ → ℕ) (twice : (i : ℕ) → bar (bar i) ≡ i) (L : ℕ → ℕ → ℤ → Type 0) (u : Up L) (m : Mirrored bar L) (t : (p : ℕ) → Through L p) where
   -- a bound from i to k moves a half from k to i
@@ -18,10 +19,6 @@ module _ (bar : ℕ → ℕ) (twice : (i : ℕ) → bar (bar i) ≡ i) (L : ℕ 
     halved-joined k i j x y (whole l) (halves h g p q e) = halves (h +ℤ x) g (half-before i k x h l p) q (omega (arith, ints))
     halved-joined k i j x y (halves h g p q e) (whole l) = halves h (g +ℤ y) p (half-after k j y g l q) (omega (arith, ints))
     halved-joined k i j x y (halves h g p q e) (halves h2 g2 p2 q2 e2) = let z = apart.apart k h2 g p2 q in halves h g2 p q2 (omega (arith, ints))
-
-    pub halved-zero_up : NotBelowZero L → (i : ℕ) (x : ℤ) → Halved bar L i i x → pos 0 ≤ℤ x
-    halved-zero_up n i x (whole l) = n.zero_up i x l
-    halved-zero_up n i x (halves h g p q e) = let z = apart.apart i h g p q in omega (arith, ints)
 
   -- a half of the new matrix is a half of the old one
   pub half-same : (i : ℕ) (h : ℤ) → Half bar (Halved bar L) i h → Half bar L i h

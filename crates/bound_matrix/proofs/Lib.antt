@@ -1,3 +1,4 @@
+pub mod Ways
 pub mod Closing
 pub mod Halving
 pub mod Sizes

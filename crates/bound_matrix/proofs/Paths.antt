@@ -4,7 +4,8 @@ use Rattle.std.proofs.Common.{arith, sym, subst, refl, ◌∙◌}
 use Rattle.std.proofs.lemmas.Int.{ints}
 use Rattle.ext_int.specs.declared.Ext.{Ext}
 use Rattle.ext_int.specs.declared.Ext.TheVariants.{Low, Fin, High}
-use Rattle.bound_matrix.specs.Rel.{Up, Through, Within, NotBelowZero, Added, old, via}
+use Rattle.bound_matrix.specs.Rel.{Through, Within, NotBelowZero}
+use Rattle.bound_matrix.proofs.Ways.{Up, Added, old, via}
 use Rattle.bound_matrix.specs.Entry.{Near, Staged, Bounds, kept, better}
 use Rattle.bound_matrix.specs.Cells.{cell, IsTable, SameBut, NearAt, Lowered, PivotUp, IsClosed, IsLeast}
 use Rattle.bound_matrix.proofs.Tables.{cell-out}

@@ -6,10 +6,11 @@ use Rattle.ext_int.specs.declared.Ext.{Ext}
 use Rattle.ext_int.specs.declared.Ext.TheVariants.{Low, Fin, High}
 use Rattle.bound_matrix.specs.Bound.{bar, InRange, AllInRange}
 use Rattle.bound_matrix.specs.Points.{IsUpTo, Meets, IsSmall}
-use Rattle.bound_matrix.specs.Rel.{Through, Within, NotBelowZero, Added}
+use Rattle.bound_matrix.specs.Rel.{Through, NotBelowZero}
+use Rattle.bound_matrix.proofs.Ways.{Added}
 use Rattle.bound_matrix.specs.Entry.{Near, Staged, Bounds, kept, better}
 use Rattle.bound_matrix.specs.Cells.{NearAt, Lowered, PivotUp, IsClosed, IsLeast, ComposesBut, WasTightly}
-use Rattle.bound_matrix.proofs.Places.{nat-either, nat-less_or}
+use Rattle.bound_matrix.proofs.Places.{nat-either}
 use Rattle.bound_matrix.proofs.Paths.{Bounds-up, staged-into, staged-from}
 use Rattle.bound_matrix.proofs.Storing.{lowering-lower}
 use Rattle.bound_matrix.proofs.Closing.{Added-through, Added-through_new, Added-within}
@@ -84,8 +85,8 @@ module _ (n at : ℕ) (ps : List ℕ) (k : ℕ) (here : k ≡ slice_index ps at)
     through = λ h c a l f. nat-either a k
         (λ e. subst (λ (a : ℕ). Through (Bounds u) a) (sym e) (through-step h k (Added-through_new (Bounds-up w) p.up)))
         (λ d. through-step h a (Added-through (Bounds-up w) pivot-ok (p.through h c a l (λ b g o e. nat-either b at
-            (λ s. d (e ∙ (ap (λ (q : ℕ). slice_index ps q) s ∙ sym here)))
-            (λ s. f b (omega arith) o e)))));
+        (λ s. d (e ∙ (ap (λ (q : ℕ). slice_index ps q) s ∙ sym here)))
+        (λ s. f b (omega arith) o e)))));
     least = λ h. record { least = λ c f g. record { into = λ i j x l. (Added-within ((p.least h).least c f g) (Bounds-up c) (f.through k inside) (f.through k inside) (f.zero k inside)).into i j x (staged-into w u k i j x (all-staged h i j) l) } };
   }
 
@@ -109,7 +110,9 @@ module _ (n i j ib jb : ℕ) (first : ib ≡ bar i) (second : jb ≡ bar j) (m :
   pub composes-but : ComposesBut n (i ∷ j ∷ ib ∷ jb ∷ []) m
   composes-but = record {
     zero = λ p l. lowered.lower p p (pos 0) (at-zero (t.before p p) (t.tight.zero p l));
-    composes = λ p l f. record { joined = λ a b x y h g. lowered.lower a b (x +ℤ y) (t.tight.triangle a b p x y
-        (subst (λ (e : Ext). IsUpTo e x) (into-same p a (f 1 (omega arith)) (f 2 (omega arith))) h)
-        (subst (λ (e : Ext). IsUpTo e y) (out-same p b (f 0 (omega arith)) (f 3 (omega arith))) g)) };
+    composes = λ p l f. record {
+      joined = λ a b x y h g. lowered.lower a b (x +ℤ y) (t.tight.triangle a b p x y
+          (subst (λ (e : Ext). IsUpTo e x) (into-same p a (f 1 (omega arith)) (f 2 (omega arith))) h)
+          (subst (λ (e : Ext). IsUpTo e y) (out-same p b (f 0 (omega arith)) (f 3 (omega arith))) g));
+    };
   }

@@ -1,13 +1,12 @@
 -- Where the kept bounds stand, and what one write changes.
-use Rattle.std.specs.Prelude.{ℕ, zero, suc, ◌≡◌, ◌<◌, ◌≤◌, ◌+◌, ◌-◌, ◌*◌, ◌/◌, ◌%◌, ◌^◌, List, Bool, true, false, ◌&&◌, if◌then◌else◌, length, slice_index_or, slice_set, nat_lt, nat_eq}
+use Rattle.std.specs.Prelude.{ℕ, zero, suc, ◌≡◌, ◌<◌, ◌≤◌, ◌+◌, ◌-◌, ◌*◌, ◌/◌, ◌%◌, List, Bool, true, false, ◌&&◌, if◌then◌else◌, length, slice_index_or, slice_set, nat_lt, nat_eq}
 use Rattle.std.proofs.Common.{arith, sym, subst, refl, ap, ◌∙◌, length-set, replicate}
 use Rattle.std.proofs.lemmas.List.{get_or-set_same, get_or-set_other, get_or-replicate, length-replicate}
 use Rattle.std.proofs.lemmas.Bool.Decides.{nat_tests}
-use Rattle.std.proofs.lemmas.Int.{ints}
 use Rattle.ext_int.specs.Ext.{lesser}
 use Rattle.ext_int.specs.declared.Ext.{Ext}
-use Rattle.ext_int.specs.declared.Ext.TheVariants.{Low, Fin, High}
-use Rattle.bound_matrix.specs.Bound.{bar, reach, row_start, place, entry, cut, InRange, AllInRange, IsKept, LowersTo, MatrixView, bound_at}
+use Rattle.ext_int.specs.declared.Ext.TheVariants.{Low, High}
+use Rattle.bound_matrix.specs.Bound.{bar, reach, row_start, place, entry, cut, InRange, IsKept, LowersTo, MatrixView, bound_at}
 use Rattle.bound_matrix.proofs.Entries.{lesser-range}
 
 -- ---- cases
@@ -54,9 +53,6 @@ bar-less n i h = by (sign i)
     by (even a p q r s t) = omega arith
     by (odd a p q r s t) = omega arith
 
-pub bar-not_less : (n i : ℕ) → n + n ≤ i → n + n ≤ bar i
-bar-not_less n i h = nat-less_or (bar i) (n + n) (λ l. absurd (let k = bar-less n (bar i) l in let e = bar-twice i in omega arith)) (λ l. l)
-
 -- ---- places
 
 -- a place that is kept, and whose mirror image is kept too, mirrors itself
@@ -82,13 +78,6 @@ pub reach-most : (i j : ℕ) → j < reach i → j < i + 2 - i % 2
 reach-most i j h = by (sign i)
   where
     by : Sign i → j < i + 2 - i % 2
-    by (even a p q r s t) = omega arith
-    by (odd a p q r s t) = omega arith
-
-pub reach-less : (n i j : ℕ) → i < n + n → j < reach i → j < n + n
-reach-less n i j h g = by (sign i)
-  where
-    by : Sign i → j < n + n
     by (even a p q r s t) = omega arith
     by (odd a p q r s t) = omega arith
 
@@ -121,8 +110,8 @@ rows-apart : {P : Type 0} (i j p q : ℕ) → j < i + 2 - i % 2 → q < p + 2 - 
 rows-apart i j p q h g e f = nat-less_or p i
     (λ l. absurd (let k = start-after p i l in omega arith))
     (λ l. nat-less_or i p
-        (λ m. absurd (let k = start-after i p m in omega arith))
-        (λ m. let d : p ≡ i = omega arith in f d (let k = ap row_start d in omega arith)))
+    (λ m. absurd (let k = start-after i p m in omega arith))
+    (λ m. let d : p ≡ i = omega arith in f d (let k = ap row_start d in omega arith)))
 
 -- the kept place of i and j
 data Placed (i j : ℕ) : Type 0 where
@@ -249,8 +238,8 @@ module _ (n : ℕ) (s : List Ext) (i j : ℕ) (b : Ext) (kept : IsKept n s) (row
       mirrored : (p q : ℕ) → (p ≡ i → q ≡ j → ⊥) → InRange (entry n after p q)
       mirrored p q f = nat-either p (bar j)
           (λ d. nat-either q (bar i)
-              (λ e. subst InRange (sym (rw (d, e) (entry-mirror n after i j))) new)
-              (λ e. subst InRange (sym (elsewhere p q f (λ _ k. e k))) (kept.range.range p q)))
+          (λ e. subst InRange (sym (rw (d, e) (entry-mirror n after i j))) new)
+          (λ e. subst InRange (sym (elsewhere p q f (λ _ k. e k))) (kept.range.range p q)))
           (λ d. subst InRange (sym (elsewhere p q f (λ k _. d k))) (kept.range.range p q))
 
 -- ---- as the code has it

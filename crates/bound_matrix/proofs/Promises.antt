@@ -1,9 +1,8 @@
 -- What closing promises, from what the passes over the table do.
-use Rattle.std.specs.Prelude.{ℕ, ℤ, pos, neg_ℤ, ◌≡◌, ◌<◌, ◌≤◌, ◌+◌, ◌*◌, ◌/◌, ◌%◌, ◌+ℤ◌, ◌≤ℤ◌, ◌⊎◌, ◌↔◌, List, Bool, true, false, nat_eq}
+use Rattle.std.specs.Prelude.{ℕ, ℤ, pos, neg_ℤ, ◌≡◌, ◌≤◌, ◌+◌, ◌*◌, ◌/◌, ◌%◌, ◌+ℤ◌, ◌≤ℤ◌, ◌⊎◌, ◌↔◌, List}
 use Rattle.std.specs.Int.{int_div_euclid, int_min}
 use Rattle.std.proofs.Common.{arith, sym, subst, refl, ap, ◌∙◌, inl, inr}
 use Rattle.std.proofs.lemmas.Int.{ints}
-use Rattle.std.proofs.lemmas.Bool.Decides.{nat_tests}
 use Rattle.ext_int.specs.Ext.{Above, AtMost, lesser}
 use Rattle.ext_int.specs.declared.Ext.{Ext}
 use Rattle.ext_int.specs.declared.Ext.TheVariants.{Low, Fin, High}
@@ -12,7 +11,7 @@ use Rattle.bound_matrix.specs.Points.{IsUpTo, Meets, IsSmall, IsSmallNumber, IsT
 use Rattle.bound_matrix.specs.Cells.{cell, Lowered, IsSigned, IsMirrored, IsTightly, WasTightly, Stored}
 use Rattle.bound_matrix.proofs.Entries.{at-most-up, cut-same}
 use Rattle.bound_matrix.proofs.Places.{Sign, even, odd, sign, bar-twice, bound-mirror, row_start-end}
-use Rattle.bound_matrix.proofs.Sizes.{IsFinite, finite}
+use Rattle.bound_matrix.proofs.Sizes.{finite}
 use Rattle.bound_matrix.proofs.Storing.{stored-same, at-places}
 use Rattle.bound_matrix.proofs.Whole.{tight-same}
 
@@ -53,9 +52,6 @@ Lowered-at_most m w r l i j = at-most-of (m i j) (w i j) (r.range i j) (l.lower 
 pub Lowered-meets : (m w : ℕ → ℕ → Ext) (v : ℕ → ℤ) → AllInRange m → Lowered m w → Meets v w → Meets v m
 Lowered-meets m w v r l h = record { meets = λ i j. above-of (m i j) (w i j) _ (r.range i j) (l.lower i j) (h.meets i j) }
 
-pub AtMost-itself : (m : ℕ → ℕ → Ext) → AllInRange m → (i j : ℕ) → AtMost (m i j) (m i j)
-AtMost-itself m r i j = at-most-of (m i j) (m i j) (r.range i j) (λ x h. h)
-
 -- ---- matrices with the same bounds
 
 pub Meets-same : (m w : ℕ → ℕ → Ext) (v : ℕ → ℤ) → ((p q : ℕ) → w p q ≡ m p q) → Meets v m → Meets v w
@@ -63,9 +59,6 @@ Meets-same m w v e h = record { meets = λ i j. subst (λ (x : Ext). Above x (v 
 
 pub IsSmall-same : (m w : ℕ → ℕ → Ext) → ((p q : ℕ) → w p q ≡ m p q) → IsSmall m → IsSmall w
 IsSmall-same m w e h = record { small = λ i j x d. h.small i j x (sym (e i j) ∙ d) }
-
-pub AllInRange-same : (m w : ℕ → ℕ → Ext) → ((p q : ℕ) → w p q ≡ m p q) → AllInRange m → AllInRange w
-AllInRange-same m w e h = record { range = λ i j. subst InRange (sym (e i j)) (h.range i j) }
 
 pub mirrored-same : (n : ℕ) (m : MatrixView) (w : ℕ → ℕ → Ext) → ((p q : ℕ) → w p q ≡ bound_at m p q) → IsMirrored n w
 mirrored-same n m w e = record { mirrored = λ i j. e (bar j) (bar i) ∙ (sym (bound-mirror m i j) ∙ sym (e i j)) }

@@ -41,9 +41,6 @@ finite High x h = absurd h
 at-most : {e : Ext} {w : ℤ} (x : ℤ) → e ≡ Fin w → w ≤ℤ x → IsUpTo e x
 at-most {e} {w} x p h = subst (λ (f : Ext). IsUpTo f x) (sym p) h
 
-at-fin : {e : Ext} {w x : ℤ} → e ≡ Fin w → IsUpTo e x → w ≤ℤ x
-at-fin {e} {w} {x} p h = subst (λ (f : Ext). IsUpTo f x) p h
-
 record IsBetween (e f g : Ext) : Type 0 where
   first : ℤ
   second : ℤ

@@ -1,12 +1,12 @@
 -- Copying bounds into a table and lowering the kept bounds to those of the table.
 use Rattle.std.specs.Prelude.{ℕ, ℤ, neg_ℤ, ◌≡◌, ◌<◌, ◌≤◌, ◌+◌, ◌+ℤ◌, List}
-use Rattle.std.proofs.Common.{arith, sym, subst, refl, ap, ◌∙◌}
+use Rattle.std.proofs.Common.{arith, sym, subst, ◌∙◌}
 use Rattle.std.proofs.lemmas.Int.{ints}
 use Rattle.ext_int.specs.Ext.{Above, lesser}
 use Rattle.ext_int.specs.declared.Ext.{Ext}
 use Rattle.bound_matrix.specs.Bound.{bar, reach, InRange, AllInRange, LowersTo, cut, MatrixView, bound_at}
 use Rattle.bound_matrix.specs.Points.{IsUpTo, Meets}
-use Rattle.bound_matrix.specs.Cells.{IsTable, cell, SameBut, Lowered, IsSigned, RowStored, Stored}
+use Rattle.bound_matrix.specs.Cells.{IsTable, cell, Lowered, IsSigned, RowStored, Stored}
 use Rattle.bound_matrix.proofs.Places.{nat-either, nat-less_or, bar-less, other-side, inside-or, entry-out}
 use Rattle.bound_matrix.proofs.Entries.{lesser-range, lesser-lowers, lesser-takes, lesser-of, lesser-above, cut-range, cut-same, cut-above}
 use Rattle.bound_matrix.proofs.Tables.{cell-out}
@@ -20,26 +20,10 @@ pub record LoadRow (n i j : ℕ) (m : ℕ → ℕ → Ext) (t s : List Ext) : Ty
   pub done : (q : ℕ) → q < j → cell n s i q ≡ m i q
   pub others : (p q : ℕ) → (p ≡ i → ⊥) → cell n s p q ≡ cell n t p q
 
-pub load-row-start : (n i : ℕ) (m : ℕ → ℕ → Ext) (t : List Ext) → IsTable n t → LoadRow n i 0 m t t
-load-row-start n i m t h = record { table = h; done = λ q l. absurd (omega arith); others = λ p q _. refl }
-
-pub load-row-step : (n i j : ℕ) (m : ℕ → ℕ → Ext) (t s u : List Ext) (e : Ext) → LoadRow n i j m t s → IsTable n u → e ≡ m i j → cell n u i j ≡ e → SameBut i j (cell n s) (cell n u) → LoadRow n i (j + 1) m t u
-load-row-step n i j m t s u e h k v here o = record {
-  table = k;
-  done = λ q l. nat-either q j (λ d. subst (λ (q : ℕ). cell n u i q ≡ m i q) (sym d) (here ∙ v)) (λ d. o.other_place i q d ∙ h.done q (omega arith));
-  others = λ p q d. o.other_row p q d ∙ h.others p q d;
-}
-
 -- the rows up to i
 pub record LoadRows (n i : ℕ) (m : ℕ → ℕ → Ext) (s : List Ext) : Type 0 where
   pub table : IsTable n s
   pub done : (p q : ℕ) → p < i → q < n → cell n s p q ≡ m p q
-
-pub load-rows-step : (n i : ℕ) (m : ℕ → ℕ → Ext) (s u : List Ext) → LoadRows n i m s → IsTable n u → ((q : ℕ) → q < n → cell n u i q ≡ m i q) → ((p q : ℕ) → (p ≡ i → ⊥) → cell n u p q ≡ cell n s p q) → LoadRows n (i + 1) m u
-load-rows-step n i m s u h k row others = record {
-  table = k;
-  done = λ p q l g. nat-either p i (λ d. subst (λ (p : ℕ). cell n u p q ≡ m p q) (sym d) (row q g)) (λ d. others p q d ∙ h.done p q (omega arith) g);
-}
 
 pub load-end : (m : MatrixView) (n i : ℕ) (s : List Ext) → n ≡ m.vars + m.vars → n ≤ i → LoadRows n i (bound_at m) s → (p q : ℕ) → cell n s p q ≡ bound_at m p q
 load-end m n i s size l h p q = inside-or m.vars p q
@@ -62,10 +46,12 @@ module _ (i j : ℕ) (b : Ext) (w u : ℕ → ℕ → Ext) (l : LowersTo i j b w
   lowering-range range = record { range = at-places (λ p q. InRange (u p q)) (subst InRange (sym l.here) (new-range range)) (subst InRange (sym l.mirror) (new-range range)) (λ p q e. subst InRange (sym e) (range.range p q)) }
 
   pub lowering-lower : w (bar j) (bar i) ≡ w i j → Lowered w u
-  lowering-lower m = record { lower = at-places (λ p q. (x : ℤ) → IsUpTo (w p q) x → IsUpTo (u p q) x)
-      (λ x h. subst (λ (e : Ext). IsUpTo e x) (sym l.here) (lesser-lowers (w i j) (cut b) x (cut-range b) h))
-      (λ x h. subst (λ (e : Ext). IsUpTo e x) (sym l.mirror) (lesser-lowers (w i j) (cut b) x (cut-range b) (subst (λ (e : Ext). IsUpTo e x) m h)))
-      (λ p q e x h. subst (λ (e : Ext). IsUpTo e x) (sym e) h) }
+  lowering-lower m = record {
+    lower = at-places (λ p q. (x : ℤ) → IsUpTo (w p q) x → IsUpTo (u p q) x)
+        (λ x h. subst (λ (e : Ext). IsUpTo e x) (sym l.here) (lesser-lowers (w i j) (cut b) x (cut-range b) h))
+        (λ x h. subst (λ (e : Ext). IsUpTo e x) (sym l.mirror) (lesser-lowers (w i j) (cut b) x (cut-range b) (subst (λ (e : Ext). IsUpTo e x) m h)))
+        (λ p q e x h. subst (λ (e : Ext). IsUpTo e x) (sym e) h);
+  }
 
   pub lowering-takes : AllInRange w → InRange b → (x : ℤ) → IsUpTo b x → IsUpTo (u i j) x
   lowering-takes range r x h = subst (λ (e : Ext). IsUpTo e x) (sym l.here) (lesser-takes (w i j) (cut b) x (range.range i j) (subst (λ (e : Ext). IsUpTo e x) (sym (cut-same b r)) h))
@@ -80,24 +66,17 @@ module _ (i j : ℕ) (b : Ext) (w u : ℕ → ℕ → Ext) (l : LowersTo i j b w
       turn = let ei = k.signed i in let ej = k.signed j in omega (arith, ints)
 
   pub lowering-above : (f : ℕ → ℕ → Ext) → ((p q : ℕ) → f (bar q) (bar p) ≡ f p q) → Lowered w f → InRange b → ((x : ℤ) → IsUpTo b x → IsUpTo (f i j) x) → Lowered u f
-  lowering-above f m g r t = record { lower = at-places (λ p q. (x : ℤ) → IsUpTo (u p q) x → IsUpTo (f p q) x)
-      (λ x h. new x (subst (λ (e : Ext). IsUpTo e x) l.here h))
-      (λ x h. subst (λ (e : Ext). IsUpTo e x) (sym (m i j)) (new x (subst (λ (e : Ext). IsUpTo e x) l.mirror h)))
-      (λ p q e x h. g.lower p q x (subst (λ (e : Ext). IsUpTo e x) e h)) }
+  lowering-above f m g r t = record {
+    lower = at-places (λ p q. (x : ℤ) → IsUpTo (u p q) x → IsUpTo (f p q) x)
+        (λ x h. new x (subst (λ (e : Ext). IsUpTo e x) l.here h))
+        (λ x h. subst (λ (e : Ext). IsUpTo e x) (sym (m i j)) (new x (subst (λ (e : Ext). IsUpTo e x) l.mirror h)))
+        (λ p q e x h. g.lower p q x (subst (λ (e : Ext). IsUpTo e x) e h));
+  }
     where
       new : (x : ℤ) → IsUpTo (lesser (w i j) (cut b)) x → IsUpTo (f i j) x
       new x h = lesser-of (w i j) (cut b) x h (λ a. g.lower i j x a) (λ a. t x (subst (λ (e : Ext). IsUpTo e x) (cut-same b r) a))
 
 -- ---- storing
-
-pub row-stored-start : (i : ℕ) (f m : ℕ → ℕ → Ext) → AllInRange m → RowStored i 0 f m m
-row-stored-start i f m r = record {
-  row = λ q l. absurd (omega arith);
-  range = r;
-  lower = record { lower = λ p q x h. h };
-  sound = λ v _ h _. h;
-  above = λ _ h. h;
-}
 
 pub row-stored-step : (i j : ℕ) (f m w u : ℕ → ℕ → Ext) (b : Ext) → b ≡ f i j → InRange (f i j) → w (bar j) (bar i) ≡ w i j → RowStored i j f m w → LowersTo i j b w u → RowStored i (j + 1) f m u
 row-stored-step i j f m w u b e r c s l = record {
@@ -115,15 +94,6 @@ row-stored-step i j f m w u b e r c s l = record {
 
     lower : Lowered w u
     lower = lowering-lower i j b w u l c
-
-pub stored-start : (f m : ℕ → ℕ → Ext) → AllInRange m → Stored 0 f m m
-stored-start f m r = record {
-  rows = λ p q l. absurd (omega arith);
-  range = r;
-  lower = record { lower = λ p q x h. h };
-  sound = λ v _ h _. h;
-  above = λ _ h. h;
-}
 
 pub stored-step : (i : ℕ) (f m w u : ℕ → ℕ → Ext) → Stored i f m w → RowStored i (reach i) f w u → Stored (i + 1) f m u
 stored-step i f m w u s r = record {
@@ -143,8 +113,8 @@ stored-same n v t m w size r o c low s p q = same-bounds (w p q) (cell n t p q) 
     from : (x : ℤ) → IsUpTo (cell n t p q) x → IsUpTo (w p q) x
     from x h = nat-less_or p n
         (λ a. nat-less_or q n
-            (λ b. nat-less_or q (reach p)
-                (λ g. s.rows p q a g x h)
-                (λ g. subst (λ (e : Ext). IsUpTo e x) (c p q) (s.rows (bar q) (bar p) (let k = bar-less v q (omega arith) in omega arith) (other-side p q g) x (subst (λ (e : Ext). IsUpTo e x) (sym (o p q)) h))))
-            (λ b. absurd (subst (λ (e : Ext). IsUpTo e x) (cell-out n t p q (λ _ k. absurd (omega arith))) h)))
+        (λ b. nat-less_or q (reach p)
+        (λ g. s.rows p q a g x h)
+        (λ g. subst (λ (e : Ext). IsUpTo e x) (c p q) (s.rows (bar q) (bar p) (let k = bar-less v q (omega arith) in omega arith) (other-side p q g) x (subst (λ (e : Ext). IsUpTo e x) (sym (o p q)) h))))
+        (λ b. absurd (subst (λ (e : Ext). IsUpTo e x) (cell-out n t p q (λ _ k. absurd (omega arith))) h)))
         (λ a. absurd (subst (λ (e : Ext). IsUpTo e x) (cell-out n t p q (λ k _. absurd (omega arith))) h))

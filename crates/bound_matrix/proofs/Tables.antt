@@ -1,5 +1,5 @@
 -- Reading and writing cells that stand row by row.
-use Rattle.std.specs.Prelude.{ℕ, suc, ◌≡◌, ◌<◌, ◌≤◌, ◌+◌, ◌*◌, List, Bool, true, false, if◌then◌else◌, length, slice_index_or, slice_set, nat_lt, ◌&&◌}
+use Rattle.std.specs.Prelude.{ℕ, ◌≡◌, ◌<◌, ◌≤◌, ◌+◌, ◌*◌, List, Bool, true, false, if◌then◌else◌, length, slice_index_or, slice_set, nat_lt, ◌&&◌}
 use Rattle.std.proofs.Common.{arith, sym, refl, ◌∙◌}
 use Rattle.std.proofs.lemmas.List.{get_or-set_same, get_or-set_other}
 use Rattle.std.proofs.lemmas.Bool.Decides.{nat_tests}
@@ -27,8 +27,8 @@ write-here n s i j e l few h g = cell-in n _ i j h g ∙ get_or-set_same s (i * 
 write-other : (n : ℕ) (s : List Ext) (i j : ℕ) (e : Ext) → (p q : ℕ) → (p < n → q < n → p * 48 + q ≡ i * 48 + j → ⊥) → cell n (slice_set s (i * 48 + j) e) p q ≡ cell n s p q
 write-other n s i j e p q d = nat-less_or p n
     (λ h. nat-less_or q n
-        (λ g. cell-in n _ p q h g ∙ (get_or-set_other s (i * 48 + j) (p * 48 + q) e Low (d h g) ∙ sym (cell-in n s p q h g)))
-        (λ l. cell-out n _ p q (λ _ g. absurd (omega arith)) ∙ sym (cell-out n s p q (λ _ g. absurd (omega arith)))))
+    (λ g. cell-in n _ p q h g ∙ (get_or-set_other s (i * 48 + j) (p * 48 + q) e Low (d h g) ∙ sym (cell-in n s p q h g)))
+    (λ l. cell-out n _ p q (λ _ g. absurd (omega arith)) ∙ sym (cell-out n s p q (λ _ g. absurd (omega arith)))))
     (λ l. cell-out n _ p q (λ g _. absurd (omega arith)) ∙ sym (cell-out n s p q (λ g _. absurd (omega arith))))
 
 flat-row : (n i j p q : ℕ) → n ≤ 48 → j < n → q < n → p * 48 + q ≡ i * 48 + j → p ≡ i

@@ -1,11 +1,11 @@
 -- A closed coherent matrix with its halves added is tightly closed.
-use Rattle.std.specs.Prelude.{ℕ, ℤ, pos, ◌≡◌, ◌<◌, ◌+◌, ◌%◌, ◌+ℤ◌, ◌≤ℤ◌, Bool, true, false, nat_eq}
+use Rattle.std.specs.Prelude.{ℕ, ℤ, pos, ◌≡◌, ◌<◌, ◌+ℤ◌, ◌≤ℤ◌}
 use Rattle.std.proofs.Common.{arith, sym, subst, refl}
-use Rattle.std.proofs.lemmas.Bool.Decides.{nat_tests}
 use Rattle.std.proofs.lemmas.Int.{ints}
 use Rattle.ext_int.specs.declared.Ext.{Ext}
 use Rattle.ext_int.specs.declared.Ext.TheVariants.{Low, Fin, High}
-use Rattle.bound_matrix.specs.Rel.{Through, Within, NotBelowZero, Mirrored, Half, Halved, whole, halves, NoClash}
+use Rattle.bound_matrix.specs.Rel.{Through, Within, NotBelowZero, Mirrored}
+use Rattle.bound_matrix.proofs.Ways.{Half, Halved, whole, halves, NoClash}
 use Rattle.bound_matrix.specs.Entry.{Relaxed, Bounds, kept, better}
 use Rattle.bound_matrix.specs.Cells.{Lowered, IsClosed, IsLeast, IsHalf, IsMirrored, IsTightly}
 use Rattle.bound_matrix.proofs.Entries.{at-most-up}

@@ -72,6 +72,3 @@ tight-same n w u h t = record {
 
     down : (p q : ℕ) (x : ℤ) → IsUpTo (u p q) x → IsUpTo (w p q) x
     down p q x a = subst (λ (e : Ext). IsUpTo e x) (h p q) a
-
-pub tight-mirrored : {n : ℕ} {w : ℕ → ℕ → Ext} → IsTightly n w → IsMirrored n w
-tight-mirrored t = record { mirrored = t.coherent }

@@ -3,13 +3,12 @@ ghost use Rattle.std.specs.Prelude.{◌≡◌, ℕ, ◌≤◌, ◌<◌, ◌+◌,
 ghost use Rattle.ext_int.specs.declared.Ext.TheVariants.{High};
 ghost use Rattle.bound_matrix.specs.Bound.{bar, bound_at, InRange, AllInRange, LowersTo};
 
+use crate::counting::Steps;
+use crate::kept::{lower_kept, read_kept};
 use ext_int::Ext;
 use std::alloc::{AllocError as NoMemory, Global};
 use std::marker::Model;
 use std::sync::ledger::Ledger;
-
-use crate::kept::{lower_kept, read_kept};
-use crate::counting::Steps;
 
 /// Upper bounds of the differences of signed variables, of which half are kept. Variable k stands
 /// as `V(2k) = v(k)` and `V(2k + 1) = -v(k)`, and the bound of `i` and `j` is one of `V(j) - V(i)`.
@@ -42,7 +41,7 @@ impl Half {
     }
 
     /// How many indices there are: two for each variable.
-    pub fn indices(&self) -> u32
+    pub(crate) fn indices(&self) -> u32
         ensures value { result ≡ self.now.vars + self.now.vars }
         ensures few { result ≤ 48 }
         ensures range { AllInRange (bound_at self.now) }
@@ -82,6 +81,12 @@ impl Half {
         ensures step { steps.new ≡ steps.old + 1 }
     {
         steps.tick();
-        lower_kept(&mut self.kept, self.vars as usize, i as usize, j as usize, bound);
+        lower_kept(
+            &mut self.kept,
+            self.vars as usize,
+            i as usize,
+            j as usize,
+            bound,
+        );
     }
 }

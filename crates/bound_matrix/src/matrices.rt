@@ -5,14 +5,13 @@ ghost use Rattle.ext_int.specs.declared.Ext.TheVariants.{High};
 ghost use Rattle.bound_matrix.specs.Bound.{bar, bound_at, InRange, LowersTo};
 ghost use Rattle.bound_matrix.specs.Points.{IsPoint, IsSmall, IsTight, WasTight};
 
+use crate::counting::Steps;
+use crate::halves::Half;
+use crate::tighten::{Live, close_counted, close_one_counted};
 use ext_int::Ext;
 use std::alloc::{AllocError as NoMemory, Global};
 use std::marker::{Brand, Model};
 use std::sync::ledger::{Blank, Ledger};
-
-use crate::counting::Steps;
-use crate::halves::Half;
-use crate::tighten::{Live, close_counted, close_one_counted};
 
 /// Upper bounds of the differences of signed variables. Variable k stands as `V(2k) = v(k)` and
 /// `V(2k + 1) = -v(k)`, and the bound of `i` and `j` is one of `V(j) - V(i)`.

@@ -7,9 +7,8 @@ ghost use Rattle.bound_matrix.specs.Entry.{Near, Relaxed, Staged, Bounds};
 ghost use Rattle.bound_matrix.specs.Rel.{NotBelowZero};
 ghost use Rattle.bound_matrix.specs.Cells.{IsTable, cell, SameBut, NearAt, Lowered, RowStaged, PivotUp, IsClosed, IsLeast, IsHalf, HalvesAbove, IsHalves, NearHalves, RowHalved, HalvesOf, IsSigned, IsMirrored, IsTightly, IsReady, ComposesBut, WasTightly};
 
-use ext_int::{Ext, half_floor, min};
-
 use crate::kept::{cut_bound, partner};
+use ext_int::{Ext, half_floor, min};
 
 /// The lesser of `e` and the sum of `a` and `b`.
 fn relax(a: Ext, b: Ext, e: Ext) -> Ext

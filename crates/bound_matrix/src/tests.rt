@@ -1,15 +1,14 @@
 ghost use Rattle.std.specs.Prelude.{◌≡◌, ◌≤◌, ◌<◌, ◌≤ℤ◌, pos};
 ghost use Rattle.bound_matrix.specs.Points.{IsSmallNumber};
 
+use super::Live::{Dead, Live as Alive};
+use super::*;
+use crate::tighten::close_counted;
 use ext_int::Ext;
 use ext_int::Ext::{Fin, High};
 use std::alloc::{AllocError, Global};
 use std::marker::Brand;
 use std::sync::ledger::{Blank, Ledger};
-
-use super::Live::{Dead, Live as Alive};
-use super::*;
-use crate::tighten::close_counted;
 
 const LIMIT: i128 = 1 << 100;
 
@@ -250,9 +249,7 @@ fn difference(numbers: &[i32; 12], i: u32, j: u32) -> i64 {
 }
 
 fn is_point(numbers: &[i32; 12], bounds: &[(u32, u32, i128)]) -> bool {
-    bounds
-        .iter()
-        .all(|(i, j, bound)| i128::from(difference(numbers, *i, *j)) <= *bound)
+    bounds.iter().all(|(i, j, bound)| i128::from(difference(numbers, *i, *j)) <= *bound)
 }
 
 // Raises each difference to that of the point.
@@ -265,11 +262,7 @@ fn raise(greatest: &mut [i64; 144], numbers: &[i32; 12]) {
 }
 
 // The greatest differences over the points of the box that meet the bounds, where there is one.
-fn greatest_differences(
-    points: u32,
-    reach: i32,
-    bounds: &[(u32, u32, i128)],
-) -> Option<[i64; 144]>
+fn greatest_differences(points: u32, reach: i32, bounds: &[(u32, u32, i128)]) -> Option<[i64; 144]>
     requires low { pos 1 ≤ℤ reach }
     requires high { reach ≤ℤ pos 13 }
 {

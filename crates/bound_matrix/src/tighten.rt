@@ -4,13 +4,12 @@ ghost use Rattle.ext_int.specs.Ext.{AtMost};
 ghost use Rattle.bound_matrix.specs.Bound.{bound_at};
 ghost use Rattle.bound_matrix.specs.Points.{IsPoint, IsSmall, IsTight, WasTight};
 
-use ext_int::Ext;
-use std::sync::ledger::Ledger;
-
 use crate::counting::Steps;
 use crate::halves::Half;
 use crate::table::{close_cells, close_lowered};
 use crate::transfer::{load, store};
+use ext_int::Ext;
+use std::sync::ledger::Ledger;
 
 /// Whether there may be a point.
 #[derive(Clone, Copy, Debug, PartialEq, Eq)]

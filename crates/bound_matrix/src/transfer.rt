@@ -3,13 +3,12 @@ ghost use Rattle.std.specs.Prelude.{◌≡◌, ℕ, ◌≤◌, ◌<◌, ◌+◌,
 ghost use Rattle.bound_matrix.specs.Bound.{reach, row_start, bound_at, AllInRange};
 ghost use Rattle.bound_matrix.specs.Cells.{IsTable, cell, RowStored, Stored};
 
-use ext_int::Ext;
-use std::sync::ledger::Ledger;
-
+use crate::counting::Steps;
 use crate::halves::Half;
 use crate::kept::columns;
-use crate::counting::Steps;
 use crate::table::{read, write};
+use ext_int::Ext;
+use std::sync::ledger::Ledger;
 
 /// Copies the row of `i` into the table.
 fn load_row<L: Ledger>(m: &Half, n: u32, i: u32, cells: &mut [Ext], steps: &mut Steps<L>)

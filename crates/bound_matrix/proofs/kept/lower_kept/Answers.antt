@@ -1,6 +1,4 @@
-use Rattle.std.proofs.Common.{arith, ◌≡◌, ◌<◌, sym, subst, length}
-use Rattle.std.specs.Prelude.{slice_index_or, ◌*◌, ◌+◌, ◌≤◌}
-use Rattle.bound_matrix.specs.Bound.{InRange, entry, place, cut}
+use Rattle.std.proofs.Common.{arith}
 use Rattle.bound_matrix.proofs.Places.{place-below, place-small, written-kept, written-lowers}
 use Rattle.bound_matrix.proofs.kept.lower_kept.Goals as goal
 

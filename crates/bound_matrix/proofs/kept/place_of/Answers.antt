@@ -1,5 +1,5 @@
-use Rattle.std.proofs.Common.{arith, ◌≡◌, ◌<◌, ◌+◌, ◌∙◌}
-use Rattle.bound_matrix.specs.Bound.{reach, bar, row_start, place}
+use Rattle.std.proofs.Common.{arith, ◌≡◌, ◌+◌, ◌∙◌}
+use Rattle.bound_matrix.specs.Bound.{bar, row_start}
 use Rattle.bound_matrix.proofs.Places.{place-direct, place-mirrored}
 use Rattle.bound_matrix.proofs.kept.place_of.Goals as goal
 

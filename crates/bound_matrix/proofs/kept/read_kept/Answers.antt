@@ -1,8 +1,6 @@
-use Rattle.std.proofs.Common.{arith, ◌≡◌, ◌<◌, sym, subst, length}
-use Rattle.std.specs.Prelude.{slice_index_or, ◌*◌, ◌+◌, ◌≤◌}
-use Rattle.ext_int.specs.declared.Ext.TheVariants.{Low}
-use Rattle.bound_matrix.specs.Bound.{InRange, entry, place}
-use Rattle.bound_matrix.proofs.Places.{place-below, entry-in, value-in, few-places, place-small}
+use Rattle.std.proofs.Common.{arith, sym, subst}
+use Rattle.bound_matrix.specs.Bound.{InRange}
+use Rattle.bound_matrix.proofs.Places.{place-below, value-in, place-small}
 use Rattle.bound_matrix.proofs.kept.read_kept.Goals as goal
 
 pub offset_bounds-kept-place_of : goal.offset_bounds-kept-place_of

@@ -1,4 +1,4 @@
-use Rattle.std.proofs.Common.{arith, refl, ◌≤◌, length}
+use Rattle.std.proofs.Common.{arith, refl}
 use Rattle.std.specs.Prelude.{slice_index}
 use Rattle.bound_matrix.specs.Cells.{cell}
 use Rattle.bound_matrix.proofs.Pivots.{pivoting-start, pivoting-step, pivoting-closed, pivoting-near}

@@ -16,5 +16,5 @@ returns-clause-points g c = gone-points c.args.m.now c.store.new.m c.indices-n.r
 pub returns-clause-tight : goal.returns-clause-tight
 returns-clause-tight g c _ small = gone-tight c.args.m.now c.store.new.m c.indices-n.result c.load.new.cells c.close_cells.new.cells c.indices-n.ensures.value c.indices-n.ensures.range c.load.ensures.same c.close_cells.ensures.range c.close_cells.ensures.lower c.close_cells.ensures.sound c.store.ensures.stored
     (c.close_cells.ensures.tight c.if-not-close_cells.false
-        (IsSmall-same (bound_at c.args.m.now) (cell c.indices-n.result c.load.new.cells) c.load.ensures.same small)
-        (mirrored-same c.indices-n.result c.args.m.now (cell c.indices-n.result c.load.new.cells) c.load.ensures.same))
+    (IsSmall-same (bound_at c.args.m.now) (cell c.indices-n.result c.load.new.cells) c.load.ensures.same small)
+    (mirrored-same c.indices-n.result c.args.m.now (cell c.indices-n.result c.load.new.cells) c.load.ensures.same))

@@ -16,9 +16,9 @@ returns-clause-points g c = gone-points c.args.m.now c.store.new.m c.indices-n.r
 pub returns-clause-tight : goal.returns-clause-tight
 returns-clause-tight g c _ small = gone-tight c.args.m.now c.store.new.m c.indices-n.result c.load.new.cells c.close_lowered.new.cells c.indices-n.ensures.value c.indices-n.ensures.range c.load.ensures.same c.close_lowered.ensures.range c.close_lowered.ensures.lower c.close_lowered.ensures.sound c.store.ensures.stored
     (c.close_lowered.ensures.tight c.if-not-close_lowered.false
-        (IsSmall-same (bound_at c.args.m.now) (cell c.indices-n.result c.load.new.cells) c.load.ensures.same small)
-        (mirrored-same c.indices-n.result c.args.m.now (cell c.indices-n.result c.load.new.cells) c.load.ensures.same)
-        (was-tightly c.args.m.now c.indices-n.result c.args.i c.args.j (cell c.indices-n.result c.load.new.cells) c.indices-n.ensures.value c.load.ensures.same c.requires.lowered))
+    (IsSmall-same (bound_at c.args.m.now) (cell c.indices-n.result c.load.new.cells) c.load.ensures.same small)
+    (mirrored-same c.indices-n.result c.args.m.now (cell c.indices-n.result c.load.new.cells) c.load.ensures.same)
+    (was-tightly c.args.m.now c.indices-n.result c.args.i c.args.j (cell c.indices-n.result c.load.new.cells) c.indices-n.ensures.value c.load.ensures.same c.requires.lowered))
 
 pub returns-clause-cost : goal.returns-clause-cost
 returns-clause-cost g c = cost-whole c.args.m.now.vars c.indices-n.result c.args.steps.now c.load.new.steps c.store.new.steps c.indices-n.ensures.value c.load.ensures.cost c.store.ensures.cost

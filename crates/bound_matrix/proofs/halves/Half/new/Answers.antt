@@ -1,5 +1,3 @@
-use Rattle.std.proofs.Common.{rules, ◌≡◌, ◌+◌, ◌*◌, replicate}
-use Rattle.ext_int.specs.declared.Ext.TheVariants.{High}
 use Rattle.bound_matrix.proofs.Places.{none-kept, none-in}
 use Rattle.bound_matrix.proofs.halves.Half.new.Goals as goal
 
