@@ -1,0 +1,15 @@
+pub mod Ways
+pub mod Closing
+pub mod Halving
+pub mod Sizes
+pub mod Entries
+pub mod Places
+pub mod Tables
+pub mod Stages
+pub mod Paths
+pub mod Tight
+pub mod HalfRows
+pub mod Whole
+pub mod Storing
+pub mod Promises
+pub mod Pivots

@@ -1,0 +1,5 @@
+pub mod Bound
+pub mod Points
+pub mod Rel
+pub mod Entry
+pub mod Cells
