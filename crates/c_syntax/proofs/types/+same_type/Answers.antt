@@ -1,4 +1,4 @@
-use Rattle.std.proofs.Common.{rules, ◌≡◌, sym, ap, ◌∙◌}
+use Rattle.std.proofs.Common.{rules, sym, ap, ◌∙◌}
 use Rattle.c_syntax.specs.Types.{ctype_tree}
 use Rattle.c_syntax.proofs.TypeTrees.{ctype_void, ctype_int, ctype_pointer, ctype_array, ctype_struct, ctype_function, not_void, not_int, not_pointer, not_array, not_struct, not_function}
 use Rattle.c_syntax.proofs.types.+same_type.Goals as goal
