@@ -10,6 +10,12 @@ ghost use Rattle.bound_matrix.specs.Cells.{IsTable, cell, SameBut, NearAt, Lower
 use crate::kept::{cut_bound, partner};
 use ext_int::{Ext, half_floor, min};
 
+/// How many indices a matrix has at most: two for each of 24 variables.
+pub const SIDE: usize = 48;
+
+/// How many cells a table has.
+pub const CELLS: usize = SIDE * SIDE;
+
 /// The lesser of `e` and the sum of `a` and `b`.
 fn relax(a: Ext, b: Ext, e: Ext) -> Ext
     requires first { InRange a }
@@ -33,7 +39,7 @@ pub fn read(cells: &[Ext], n: usize, i: usize, j: usize) -> Ext
     requires column { j < n }
     ensures { result ≡ cell n cells.now i j }
 {
-    cells[i * 48 + j]
+    cells[i * SIDE + j]
 }
 
 /// Writes the bound of `i` and `j`.
@@ -45,7 +51,7 @@ pub fn write(cells: &mut [Ext], n: usize, i: usize, j: usize, e: Ext)
     ensures here { cell n cells.new i j ≡ e }
     ensures others { SameBut i j (cell n cells.old) (cell n cells.new) }
 {
-    cells[i * 48 + j] = e;
+    cells[i * SIDE + j] = e;
 }
 
 /// Lowers the row of `i` by the bounds through `k`.
@@ -188,13 +194,13 @@ fn halve_row(cells: &mut [Ext], n: usize, i: usize, halves: &[Ext])
 }
 
 /// The halves of the bounds from each index to its partner.
-fn take_halves(cells: &[Ext], n: usize) -> [Ext; 48]
+fn take_halves(cells: &[Ext], n: usize) -> [Ext; SIDE]
     requires table { IsTable n cells.now }
     requires even { n % 2 ≡ 0 }
     requires range { AllInRange (cell n cells.now) }
     ensures { HalvesOf n (cell n cells.now) result }
 {
-    let mut halves = [Ext::High; 48];
+    let mut halves = [Ext::High; SIDE];
     for i in 0..n {
         halves[i] = half_of(read(cells, n, i, partner(i)));
     }

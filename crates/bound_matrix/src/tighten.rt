@@ -6,7 +6,7 @@ ghost use Rattle.bound_matrix.specs.Points.{IsPoint, IsSmall, IsTight, WasTight}
 
 use crate::counting::Steps;
 use crate::halves::Half;
-use crate::table::{close_cells, close_lowered};
+use crate::table::{CELLS, close_cells, close_lowered};
 use crate::transfer::{load, store};
 use ext_int::Ext;
 use std::sync::ledger::Ledger;
@@ -29,7 +29,7 @@ pub fn close_counted<L: Ledger>(m: &mut Half, steps: &mut Steps<L>) -> Live
     ensures tight { result ≡ Live.Live → IsSmall (bound_at m.old) → IsTight (m.old.vars + m.old.vars) (bound_at m.new) }
 {
     let n = m.indices();
-    let mut cells = [Ext::High; 2304];
+    let mut cells = [Ext::High; CELLS];
     load(m, n, &mut cells, steps);
     if !close_cells(&mut cells, n as usize) {
         return Live::Dead;
@@ -53,7 +53,7 @@ pub fn close_one_counted<L: Ledger>(m: &mut Half, i: u32, j: u32, steps: &mut St
     ensures cost { steps.new ≤ steps.old + (6 * m.old.vars * m.old.vars + 40 * m.old.vars + 20) }
 {
     let n = m.indices();
-    let mut cells = [Ext::High; 2304];
+    let mut cells = [Ext::High; CELLS];
     load(m, n, &mut cells, steps);
     if !close_lowered(&mut cells, n as usize, i as usize, j as usize) {
         return Live::Dead;
