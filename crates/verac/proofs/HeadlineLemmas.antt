@@ -1,5 +1,5 @@
 -- From the cut and the file of its tokens to the program, and from the alarms to the report.
-use Rattle.std.proofs.Common.{arith, ◌≡◌, ◌≢◌, ◌≤◌, List, ℕ, [], ◌∷◌, ◌++◌, length, Option, Some, None, refl, sym, ap, subst, ◌∙◌}
+use Rattle.std.proofs.Common.{arith, ◌≡◌, ◌≤◌, List, ℕ, [], length, Option, Some, None, refl, sym, ap, subst, ◌∙◌}
 use Rattle.std.specs.Prelude.{MatchOption, IfSome, All, AllPairs}
 use Rattle.c_syntax.specs.declared.token.Tokens.{Tokens}
 use Rattle.c_syntax.specs.declared.alarm.Alarm.{Alarm}

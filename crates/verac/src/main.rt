@@ -18,21 +18,36 @@ use status::Status;
 use std::process::ExitCode;
 use std::{env, io};
 
-fn main(rt: HostRuntime) -> io::Result<ExitCode> {
-    let alloc = rt.alloc();
-    let mut words = Vec::new(alloc);
-    for word in env::args(&rt)? {
+fn main(rt: HostRuntime) -> ExitCode {
+    let status = match words(&rt) {
+        Ok(words) => {
+            let mut files = HostFiles::new(&rt);
+            let mut out = HostOut::new(&rt);
+            run(rt.alloc(), &words, &mut files, &mut out)
+        }
+        // A word that is no text is no word of a command.
+        Err(error) => match error.kind() {
+            io::ErrorKind::OutOfMemory => Status::NoMemory,
+            _ => Status::Usage,
+        },
+    };
+    let told = match status {
+        Status::NoAlarm | Status::Alarms | Status::Refused => Ok(()),
+        Status::Usage => eprintln!(rt; "verac: usage"),
+        Status::ReadFault => eprintln!(rt; "verac: read fault"),
+        Status::WriteFault => eprintln!(rt; "verac: write fault"),
+        Status::NoMemory => eprintln!(rt; "verac: out of memory"),
+    };
+    // The status tells it too, where standard error takes nothing.
+    drop(told);
+    ExitCode::from(status.code())
+}
+
+// The words of the command line, the program's own name first.
+fn words(rt: &HostRuntime) -> io::Result<Vec<String>> {
+    let mut words = Vec::new(rt.alloc());
+    for word in env::args(rt)? {
         words.push(word)?;
     }
-    let mut files = HostFiles::new(&rt);
-    let mut out = HostOut::new(&rt);
-    let status = run(alloc, &words, &mut files, &mut out);
-    match status {
-        Status::NoAlarm | Status::Alarms | Status::Refused => {}
-        Status::Usage => eprintln!(rt; "verac: usage")?,
-        Status::ReadFault => eprintln!(rt; "verac: read fault")?,
-        Status::WriteFault => eprintln!(rt; "verac: write fault")?,
-        Status::NoMemory => eprintln!(rt; "verac: out of memory")?,
-    }
-    Ok(ExitCode::from(status.code()))
+    Ok(words)
 }

@@ -1,12 +1,12 @@
 // The expression that the tokens of a file return, by a descent that looks one token ahead.
 
-ghost use Rattle.std.specs.Prelude.{◌≡◌, ◌≤◌, ◌<◌, ◌↔◌, List, [], ◌∷◌, ◌++◌, length, map, codes, IsTrue, IfOk, IfSome, MatchOption};
+ghost use Rattle.std.specs.Prelude.{◌≡◌, ◌≤◌, ◌<◌, ◌↔◌, List, [], ◌∷◌, length, map, codes, IsTrue, IfOk, IfSome, MatchOption};
 ghost use Rattle.c_syntax.specs.declared.token.Placed.{Placed};
 ghost use Rattle.c_syntax.specs.declared.token.Punctuator.{Punctuator};
 ghost use Rattle.verac.specs.declared.tree.Operator.{Operator};
 ghost use Rattle.verac.specs.Tree.{ExprTree, expr_tree, HasConstants};
 ghost use Rattle.verac.specs.Tree as trees;
-ghost use Rattle.verac.specs.Grammar.{Part, Run, Rest, Unary, Primary, operand_of, IsOperator, IsFile, tail};
+ghost use Rattle.verac.specs.Grammar.{Run, Rest, Unary, Primary, operand_of, IsOperator, IsFile, tail};
 ghost use Rattle.verac.specs.Descent.{Goes, NotFirst, IsFirst, NoConstant, IsConstant, IsConstantFirst, NoOperator, IsOperatorAt, IsOperatorFirst, Begins, Returns};
 ghost use Rattle.verac.specs.Answers.{level_of, token_of, outcome_of};
 

@@ -1,5 +1,5 @@
 // A run of the tool, from the words to the status.
-ghost use Rattle.std.specs.Prelude.{◌≡◌, ◌⊎◌, ◌<◌, ◌≤◌, ◌++◌, List, ℕ, Option, Some, length, IfOk, string_bytes};
+ghost use Rattle.std.specs.Prelude.{◌≡◌, ◌⊎◌, ◌<◌, ◌≤◌, ◌++◌, List, ℕ, Some, length, IfOk, string_bytes};
 ghost use Rattle.outside_io.specs.Io.{Rose, IsFront};
 ghost use Rattle.verac.specs.Command.{IsCommand, texts};
 ghost use Rattle.verac.specs.Headline.{IsAnswer, OnWhole, OnNothing, IsWhole, Completes};

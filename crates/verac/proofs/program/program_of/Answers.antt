@@ -1,4 +1,4 @@
-use Rattle.std.proofs.Common.{rules, ◌≡◌}
+use Rattle.std.proofs.Common.{◌≡◌}
 use Rattle.std.specs.Prelude.{MatchOption, IfSome}
 use Rattle.verac.specs.Tree.{ExprTree, expr_tree}
 use Rattle.verac.specs.Grammar.{IsFile}

@@ -1,4 +1,4 @@
-use Rattle.std.proofs.Common.{◌≡◌, [], List, refl, subst}
+use Rattle.std.proofs.Common.{[], List, refl, subst}
 use Rattle.c_syntax.specs.declared.alarm.Alarm.{Alarm}
 use Rattle.verac.specs.Tree.{expr_tree}
 use Rattle.verac.specs.Outcome.{found_of}

@@ -9,6 +9,7 @@ begin-tells g c = record {
   told = λ n. refl;
   later = λ n. c.ensures.later;
   «open» = true_at_ok c.result c.new.self.now.is_open c.ensures.«open»;
+  closed = always_ok c.result (λ _ n b o e. untold b e);
   given = always_ok c.result (λ _ b e. untold b e);
   there = λ n b o e. untold b e;
   failed = rose_at_err c.result c.args.self.now.faults c.new.self.now.faults c.ensures.faults;
