@@ -1,5 +1,5 @@
 -- The numbers of the places that share a byte with a part of an object are those of the cells that do.
-use Rattle.std.proofs.Common.{◌≡◌, ◌≢◌, ℕ, zero, suc, ◌+◌, ◌-◌, ◌<◌, ◌≤◌, ◌==◌, ◌&&◌, nat_lt, Bool, true, false, List, [], ◌∷◌, ◌++◌, Some, slice_get, refl, sym, ap, subst, ◌∙◌, arith, rules}
+use Rattle.std.proofs.Common.{◌≡◌, ◌≢◌, ℕ, zero, suc, ◌+◌, ◌-◌, ◌<◌, ◌≤◌, ◌==◌, ◌&&◌, nat_lt, Bool, true, false, List, [], ◌∷◌, ◌++◌, Some, length, get_or, slice_get, Contains, refl, sym, ap, subst, ◌∙◌, arith, rules}
 use Rattle.std.specs.Prelude.{if◌then◌else◌}
 use Rattle.std.specs.List.{AllByRecursion}
 use Rattle.std.specs.List.Sorted.{IsStrictlySortedBy}
@@ -10,7 +10,7 @@ use Rattle.std.specs.BTreeMap.{BTreeMap, get, is_at, IsOrdered}
 use Rattle.std.specs.Map.{lookup}
 use Rattle.c_syntax.specs.declared.alarm.Cell.{Cell}
 use Rattle.cell_table.specs.declared.places.Place.{Place}
-use Rattle.cell_table.specs.Cells.{Slot, cell_at, HasByte, IsInUse, IsAmong, Overlaps, AreOverlapping}
+use Rattle.cell_table.specs.Cells.{Slot, cell_at, HasByte, IsInUse, IsApartFrom, Overlaps, AreOverlapping}
 use Rattle.cell_table.specs.Places.{place_cmp, has_byte_in, numbers_in}
 use Rattle.cell_table.specs.Kept.{IsKept}
 use Rattle.cell_table.proofs.Slots.{by_bool}
@@ -53,6 +53,20 @@ stands (e ∷ es) k p h =
     let value : e.1 ≡ p = cc in
     record { place = zero; at = λ i. Some (key i, value i) })
     (λ q. let rest = stands es k p (rw q at h) in record { place = suc rest.place; at = rest.at })
+
+-- a number stands at an index
+abbrev IsAmong : ℕ → List ℕ → Type 0
+IsAmong n ns = (i : ℕ) × (slice_get ns i ≡ Some n)
+
+among-contains : (ns : List ℕ) (n i : ℕ) → i < length ns → get_or ns i n ≡ n → IsAmong n ns
+among-contains [] n i l h = absurd (omega arith)
+among-contains (m ∷ ns) n zero l h = (zero, ap (λ (k : ℕ). Some k) h)
+among-contains (m ∷ ns) n (suc i) l h = let rest = among-contains ns n i (omega arith) h in (suc rest.0, rest.1)
+
+contains-among : (ns : List ℕ) (n i : ℕ) → slice_get ns i ≡ Some n → Contains ns n
+contains-among [] n i h = cc
+contains-among (m ∷ ns) n zero h = (zero, omega arith, cc)
+contains-among (m ∷ ns) n (suc i) h = let rest = contains-among ns n i h in (suc rest.0, omega (arith, rest.1), rest.2)
 
 -- a number comes from a place that has a byte there
 record Picked (object from to : ℕ) (es : List Entry) (n : ℕ) : Type 0 where
@@ -217,6 +231,27 @@ module _ (ss : List Slot) (places : BTreeMap (ℕ × ℕ) Place) (kept : IsKept 
 
   pub are-overlapping : AreOverlapping ss object from to (numbers_in object from to places.entries)
   are-overlapping = record {
-    each = λ n. (overlaps-number n, number-overlaps n);
+    each = λ n. (
+      λ h. overlaps-number n (among-contains _ n h.0 h.1 h.2),
+      λ o. let a = number-overlaps n o in contains-among _ n a.0 a.1,
+    );
     by_offset = λ i j m n c d l h k p q. rising m n c d (pair object from to places.entries ordered i j m n l h k) p q;
   }
+
+-- where only the cell itself shares bytes with it, it is apart from the others
+pub apart-overlapping : (ss : List Slot) (c : Cell) (ns : List ℕ) → AreOverlapping ss c.object c.offset (c.offset + c.size) ns
+    → ((n : ℕ) → Contains ns n → cell_at ss n ≡ Some c) → IsApartFrom ss c
+apart-overlapping ss c ns are only = record {
+  none = λ n d u differ o b x y.
+      let there : Contains ns n = (are.each n).1 (record {
+        cell = d;
+        in_use = u;
+        byte = b;
+        has = record { same = y.same ∙ sym x.same; low = y.low; high = y.high };
+        low = x.low;
+        high = x.high;
+      }) in
+      let both : Some d ≡ Some c = sym u.cell ∙ only n there in
+      let same : d ≡ c = cc in
+      differ same;
+}

@@ -76,10 +76,10 @@ number-new es key h =
     (λ q. let past : length (keys_of es) ≤ n = search rules in
     omega (arith, same, past, number-within (slots_of es) (cell_of key), length-slots_of es, length-keys_of es))
 
-same_cell-true : (c d : Cell) → same_cell c d ≡ true → d ≡ c
+pub same_cell-true : (c d : Cell) → same_cell c d ≡ true → d ≡ c
 same_cell-true c d h = grind (arith, common_steps)
 
-same_cell-self : (c : Cell) → same_cell c c ≡ true
+pub same_cell-self : (c : Cell) → same_cell c c ≡ true
 same_cell-self c = grind (arith, common_steps)
 
 pub cell-with : (ss : List Slot) (c : Cell) → cell_at (in_use_with ss c) (number_of ss c) ≡ Some c

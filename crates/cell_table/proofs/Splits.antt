@@ -1,8 +1,8 @@
 -- The one-byte cells that come into use one after another in the place of a cell.
 use Rattle.std.proofs.Common.{◌≡◌, ◌≢◌, ℕ, zero, suc, ◌+◌, ◌-◌, ◌<◌, ◌≤◌, ◌^◌, Bool, true, false, List, [], ◌∷◌, ◌++◌, Some, refl, sym, ap, subst, ◌∙◌, arith, rules}
 use Rattle.c_syntax.specs.declared.alarm.Cell.{Cell}
-use Rattle.cell_table.specs.Cells.{Slot, cell_at, used_at, number_of, in_use_with, in_use_without, byte_cells, HasByte, IsInUse, IsApartFrom, IsTable}
-use Rattle.cell_table.proofs.Slots.{by_nat, cell-with, cell-with_other, used-with_other, used-without}
+use Rattle.cell_table.specs.Cells.{Slot, cell_at, used_at, number_of, in_use_with, in_use_with_all, in_use_without, same_cell, byte_cells, HasByte, IsInUse, IsApartFrom, IsTable}
+use Rattle.cell_table.proofs.Slots.{by_bool, by_nat, same_cell-true, same_cell-self, cell-with, cell-with_other, used-with_other, used-without}
 use Rattle.cell_table.proofs.Steps.{was-in_use}
 
 -- no cell in use has a byte of the object from one offset up to before another
@@ -51,3 +51,30 @@ byte_cells-from object from to l =
     let count : to - from ≡ suc (to - (from + 1)) = omega arith in
     let next : suc from ≡ from + 1 = omega arith in
     ap (byte_cells object from) count ∙ ap (λ (x : ℕ). byte_cell object from ∷ byte_cells object x (to - (from + 1))) next
+
+same_cell-other : (c : Cell) (s : Slot) → s.cell ≢ c → same_cell c s.cell ≡ false
+same_cell-other c s h = by_bool (same_cell c s.cell) (λ q. absurd (h (same_cell-true c s.cell q))) (λ q. q)
+
+-- a cell that goes out of use and comes back leaves all as it was
+pub back-in-use : (ss : List Slot) (n : ℕ) (c : Cell) → ((m : ℕ) → cell_at ss m ≡ Some c → m ≡ n) → IsInUse ss n c → in_use_with (in_use_without ss n) c ≡ ss
+back-in-use [] n c only u = let no = u.cell in cc
+back-in-use (s ∷ ss) zero c only u =
+    let cell : Some s.cell ≡ Some c = u.cell in
+    let used : Some s.used ≡ Some true = u.used in
+    let is : s.cell ≡ c = cc in
+    let on : s.used ≡ true = cc in
+    let q : same_cell c s.cell ≡ true = subst (λ (d : Cell). same_cell c d ≡ true) (sym is) (same_cell-self c) in
+    rw q (λ i. record { cell = s.cell; used = sym on i } ∷ ss)
+back-in-use (s ∷ ss) (suc n) c only u =
+    let differ : s.cell ≢ c = λ e. (let no : zero ≡ suc n = only zero (ap (λ (d : Cell). Some d) e) in omega (arith, no)) in
+    let in_use : IsInUse ss n c = record { cell = u.cell; used = u.used } in
+    let only' : (m : ℕ) → cell_at ss m ≡ Some c → m ≡ n = λ m h. omega (arith, only (suc m) h) in
+    rw (same_cell-other c s differ) (ap (λ (us : List Slot). s ∷ us) (back-in-use ss n c only' in_use))
+
+-- a split of a cell of one byte leaves all as it was
+pub one-byte : (ss : List Slot) (n : ℕ) (c : Cell) → IsTable ss → IsInUse ss n c → c.size ≡ 1
+    → in_use_with_all (in_use_without ss n) (byte_cells c.object c.offset c.size) ≡ ss
+one-byte ss n c table u h =
+    let is : byte_cell c.object c.offset ≡ c = λ i. record { object = c.object; offset = c.offset; size = sym h i } in
+    ap (λ (k : ℕ). in_use_with_all (in_use_without ss n) (byte_cells c.object c.offset k)) h
+    ∙ ap (in_use_with (in_use_without ss n)) is ∙ back-in-use ss n c (λ m k. table.one_number m n c k u.cell) u

@@ -1,5 +1,5 @@
 -- Cells by number, and which of them are in use.
-use Rattle.std.specs.Prelude.{◌≡◌, ◌≢◌, ℕ, zero, suc, ◌+◌, ◌-◌, ◌*◌, ◌^◌, ◌<◌, ◌≤◌, ◌==◌, ◌&&◌, ◌↔◌, Bool, true, false, List, [], ◌∷◌, ◌++◌, length, map, Option, None, Some, slice_get, if◌then◌else◌}
+use Rattle.std.specs.Prelude.{◌≡◌, ◌≢◌, ℕ, zero, suc, ◌+◌, ◌-◌, ◌*◌, ◌^◌, ◌<◌, ◌≤◌, ◌==◌, ◌&&◌, ◌↔◌, Bool, true, false, List, [], ◌∷◌, ◌++◌, length, map, Option, None, Some, slice_get, Contains, if◌then◌else◌}
 use Rattle.std.specs.Ordering.{nat_cmp, ordering_then}
 use Rattle.std.specs.declared.cmp.Ordering.{Ordering}
 use Rattle.c_syntax.specs.declared.alarm.Cell.{Cell}
@@ -95,13 +95,9 @@ pub record Overlaps (ss : List Slot) (object from to n : ℕ) : Type 0 where
   pub low : from ≤ byte
   pub high : byte < to
 
--- the number stands in the list
-abbrev pub IsAmong : ℕ → List ℕ → Type 0
-IsAmong n ns = (i : ℕ) × (slice_get ns i ≡ Some n)
-
 -- these are the cells in use that share a byte with a part of an object, by rising offset
 pub record AreOverlapping (ss : List Slot) (object from to : ℕ) (ns : List ℕ) : Type 0 where
-  pub each : (n : ℕ) → IsAmong n ns ↔ Overlaps ss object from to n
+  pub each : (n : ℕ) → Contains ns n ↔ Overlaps ss object from to n
   pub by_offset : (i j m n : ℕ) (c d : Cell) → i < j → slice_get ns i ≡ Some m → slice_get ns j ≡ Some n
       → cell_at ss m ≡ Some c → cell_at ss n ≡ Some d → c.offset < d.offset
 

@@ -150,6 +150,10 @@ impl Cells {
             → self.new.slots ≡ in_use_with_all (in_use_without self.old.slots n) (byte_cells c.object c.offset c.size)) }
         ensures numbers { OnOk result ((c : Cell) → cell_at self.old.slots n ≡ Some c
             → out.new ≡ out.old ++ numbers_of (in_use_without self.old.slots n) (byte_cells c.object c.offset c.size)) }
+
+        // It follows that a cell of one byte stays.
+        ensures one_byte { OnOk result ((c : Cell) → cell_at self.old.slots n ≡ Some c
+            → c.size ≡ 1 → self.new.slots ≡ self.old.slots) }
     {
         let mut numbers = mem::replace(out, Numbers::new(*self.cells.allocator())).into_vec();
         let whole = self.cell(n);
@@ -176,3 +180,6 @@ fn number_for(cells: &IndexMap<(u64, u64, u64), bool>, key: (u64, u64, u64)) -> 
         None => cells.len() as u64,
     }
 }
+
+#[cfg(test)]
+mod tests;

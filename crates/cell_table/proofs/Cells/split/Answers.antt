@@ -2,7 +2,7 @@ use Rattle.std.proofs.Common.{◌≡◌, ◌<◌, ◌+◌, ◌-◌, ℕ, List, [
 use Rattle.c_syntax.specs.declared.alarm.Cell.{Cell}
 use Rattle.cell_table.specs.Cells.{Slot, IsInUse, in_use_with, in_use_with_all, in_use_without, number_of, numbers_of, byte_cells}
 use Rattle.cell_table.proofs.Slots.{used-within}
-use Rattle.cell_table.proofs.Splits.{IsClear, byte_cell, clear-without, apart-clear, clear-with, byte_cells-from}
+use Rattle.cell_table.proofs.Splits.{IsClear, byte_cell, clear-without, apart-clear, clear-with, byte_cells-from, one-byte}
 use Rattle.cell_table.proofs.Cells.split.Goals as goal
 
 pub cell-whole-requires : goal.cell-whole-requires
@@ -48,3 +48,14 @@ loop-offset-preserved c =
           ∙ ap (λ (m : ℕ). items ++ m ∷ numbers_of (in_use_with ss byte) left) number
           ∙ ap (λ (cs : List Cell). items ++ numbers_of ss cs) (sym step) ∙ c.loop-offset.invariant.numbers;
     }
+
+pub returns-clause-one_byte : goal.returns-clause-one_byte
+returns-clause-one_byte c = λ d at one.
+    let whole = c.cell-whole.result in
+    let none : whole.offset + whole.size - c.loop-offset.offset ≡ 0 = omega arith in
+    let done : c.loop-offset.self.slots ≡ in_use_with_all c.retire.new.self.slots (byte_cells whole.object whole.offset whole.size) = rw none at c.loop-offset.invariant.slots in
+    let both : Some whole ≡ Some d = sym c.cell-whole.ensures.cell ∙ at in
+    let same : whole ≡ d = cc in
+    let in_use : IsInUse c.args.self.now.slots c.args.n whole = record { cell = c.cell-whole.ensures.cell; used = c.requires } in
+    done ∙ ap (λ (ss : List Slot). in_use_with_all ss (byte_cells whole.object whole.offset whole.size)) c.retire.ensures
+    ∙ one-byte c.args.self.now.slots c.args.n whole c.cell-whole.ensures.table in_use (ap (λ (e : Cell). e.size) same ∙ one)
