@@ -1,16 +1,15 @@
 -- The numbers of the places that share a byte with a part of an object are those of the cells that do.
-use Rattle.std.proofs.Common.{◌≡◌, ◌≢◌, ℕ, zero, suc, ◌+◌, ◌-◌, ◌<◌, ◌≤◌, ◌==◌, ◌&&◌, nat_lt, Bool, true, false, List, [], ◌∷◌, ◌++◌, Some, length, get_or, slice_get, Contains, refl, sym, ap, subst, ◌∙◌, arith, rules}
-use Rattle.std.specs.Prelude.{if◌then◌else◌}
+use Rattle.std.proofs.Common.{◌≡◌, ◌≢◌, ℕ, zero, suc, ◌+◌, ◌-◌, ◌<◌, ◌≤◌, ◌==◌, ◌&&◌, nat_lt, Bool, true, false, List, [], ◌∷◌, Some, length, get_or, slice_get, Contains, refl, sym, ap, subst, ◌∙◌, arith, rules}
 use Rattle.std.specs.List.{AllByRecursion}
 use Rattle.std.specs.List.Sorted.{IsStrictlySortedBy}
 use Rattle.std.specs.Map.{keys_of}
-use Rattle.std.specs.Ordering.{nat_cmp, ordering_then, is_eq}
+use Rattle.std.specs.Ordering.{is_eq}
 use Rattle.std.specs.declared.cmp.Ordering.TheVariants.{Less, Equal, Greater}
-use Rattle.std.specs.BTreeMap.{BTreeMap, get, is_at, IsOrdered}
+use Rattle.std.specs.BTreeMap.{BTreeMap, is_at, IsOrdered}
 use Rattle.std.specs.Map.{lookup}
 use Rattle.c_syntax.specs.declared.alarm.Cell.{Cell}
 use Rattle.cell_table.specs.declared.places.Place.{Place}
-use Rattle.cell_table.specs.Cells.{Slot, cell_at, HasByte, IsInUse, IsApartFrom, Overlaps, AreOverlapping}
+use Rattle.cell_table.specs.Cells.{Slot, cell_at, IsInUse, IsApartFrom, Overlaps, AreOverlapping}
 use Rattle.cell_table.specs.Places.{place_cmp, has_byte_in, numbers_in}
 use Rattle.cell_table.specs.Kept.{IsKept}
 use Rattle.cell_table.proofs.Slots.{by_bool}

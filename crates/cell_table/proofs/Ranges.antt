@@ -1,12 +1,10 @@
 -- What a range of the places holds, and what its numbers are.
-use Rattle.std.proofs.Common.{◌≡◌, ◌≢◌, ℕ, zero, suc, ◌+◌, ◌-◌, ◌<◌, ◌≤◌, ◌==◌, ◌&&◌, not, nat_lt, Bool, true, false, List, [], ◌∷◌, ◌++◌, filter, refl, sym, ap, subst, ◌∙◌, arith, rules}
+use Rattle.std.proofs.Common.{◌≡◌, ◌≢◌, ℕ, ◌-◌, ◌<◌, ◌≤◌, ◌==◌, ◌&&◌, nat_lt, true, false, List, [], ◌∷◌, refl, sym, ap, arith, rules}
 use Rattle.std.specs.Prelude.{if◌then◌else◌}
-use Rattle.std.specs.Ordering.{nat_cmp, ordering_then, is_le, is_lt}
-use Rattle.std.specs.declared.cmp.Ordering.TheVariants.{Less, Equal, Greater}
 use Rattle.std.specs.declared.ops.Bound.TheVariants.{Included, Excluded}
 use Rattle.std.specs.BTreeMap.Range.{range_contains, entries_between}
 use Rattle.cell_table.specs.declared.places.Place.{Place}
-use Rattle.cell_table.specs.Places.{place_cmp, has_byte_in, numbers_in}
+use Rattle.cell_table.specs.Places.{place_cmp, numbers_in}
 use Rattle.cell_table.proofs.Slots.{by_bool}
 use Rattle.cell_table.proofs.Steps.{by_cmp}
 

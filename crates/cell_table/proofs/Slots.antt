@@ -1,12 +1,11 @@
 -- The slots that entries stand for, and what comes into use or goes out of it.
-use Rattle.std.proofs.Common.{◌≡◌, ◌≢◌, ℕ, zero, suc, ◌+◌, ◌<◌, ◌≤◌, ◌==◌, ◌&&◌, not, nat_lt, Bool, true, false, cond, List, [], ◌∷◌, length, Option, None, Some, slice_get, refl, sym, ap, subst, ◌∙◌, arith, rules}
-use Rattle.std.specs.Prelude.{if◌then◌else◌}
+use Rattle.std.proofs.Common.{◌≡◌, ◌≢◌, ℕ, zero, suc, ◌<◌, ◌≤◌, ◌==◌, ◌&&◌, nat_lt, Bool, true, false, List, [], ◌∷◌, length, None, Some, slice_get, refl, sym, ap, subst, ◌∙◌, arith, rules}
 use Rattle.std.specs.List.{position_or_len, position}
 use Rattle.std.specs.Map.{keys_of, values_of}
 use Rattle.indexmap.specs.IndexMap.{insert_entry, set_value_at}
 use Rattle.std.proofs.lemmas.Grind.{common_steps}
 use Rattle.c_syntax.specs.declared.alarm.Cell.{Cell}
-use Rattle.cell_table.specs.Cells.{Slot, same_cell, cell_at, used_at, number_of, in_use_with, in_use_without, IsInUse}
+use Rattle.cell_table.specs.Cells.{Slot, same_cell, cell_at, used_at, number_of, in_use_with, in_use_without}
 use Rattle.cell_table.specs.Kept.{cell_of, slots_of}
 
 pub by_bool : {P : Type 0} (b : Bool) → (b ≡ true → P) → (b ≡ false → P) → P

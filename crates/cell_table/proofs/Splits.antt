@@ -1,5 +1,5 @@
 -- The one-byte cells that come into use one after another in the place of a cell.
-use Rattle.std.proofs.Common.{◌≡◌, ◌≢◌, ℕ, zero, suc, ◌+◌, ◌-◌, ◌<◌, ◌≤◌, ◌^◌, Bool, true, false, List, [], ◌∷◌, ◌++◌, Some, refl, sym, ap, subst, ◌∙◌, arith, rules}
+use Rattle.std.proofs.Common.{◌≡◌, ◌≢◌, ℕ, zero, suc, ◌+◌, ◌-◌, ◌<◌, ◌≤◌, true, false, List, [], ◌∷◌, Some, refl, sym, ap, subst, ◌∙◌, arith}
 use Rattle.c_syntax.specs.declared.alarm.Cell.{Cell}
 use Rattle.cell_table.specs.Cells.{Slot, cell_at, used_at, number_of, in_use_with, in_use_with_all, in_use_without, same_cell, byte_cells, HasByte, IsInUse, IsApartFrom, IsTable}
 use Rattle.cell_table.proofs.Slots.{by_bool, by_nat, same_cell-true, same_cell-self, cell-with, cell-with_other, used-with_other, used-without}

@@ -1,5 +1,5 @@
 -- How a table of cells is kept: by number, and those in use by place.
-use Rattle.std.specs.Prelude.{◌≡◌, ℕ, Bool, true, List, [], ◌∷◌, Some, map}
+use Rattle.std.specs.Prelude.{◌≡◌, ℕ, Bool, List, [], ◌∷◌, Some}
 use Rattle.std.specs.BTreeMap.{BTreeMap, get}
 use Rattle.c_syntax.specs.declared.alarm.Cell.{Cell}
 use Rattle.cell_table.specs.declared.places.Place.{Place}

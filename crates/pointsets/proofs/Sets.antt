@@ -1,10 +1,10 @@
 -- What joins and covers come to.
-use Rattle.std.proofs.Common.{◌≡◌, ◌≢◌, ℕ, ◌≤◌, ◌<◌, Bool, true, false, List, [], ◌∷◌, length, nat_le, refl, sym, ap, subst, ◌∙◌, arith, rules, ◌⊎◌, inl, inr, ◌||◌, ◌&&◌, not, ◌==◌}
-use Rattle.std.specs.Prelude.{if◌then◌else◌, IsTrue}
+use Rattle.std.proofs.Common.{◌≡◌, ℕ, ◌≤◌, ◌<◌, Bool, true, false, List, [], ◌∷◌, length, nat_le, refl, subst, arith, rules, inl, inr, ◌||◌, ◌&&◌, not, ◌==◌}
+use Rattle.std.specs.Prelude.{IsTrue}
 use Rattle.std.specs.List.{list_all}
 use Rattle.pointsets.specs.declared.Base.{Base}
 use Rattle.pointsets.specs.declared.Base.TheVariants.{Null, Dead, Object}
-use Rattle.pointsets.specs.Targets.{BaseSet, Any, Among, has_name, has_base, put, put_all, at_most_16, with_base, with_objects, joined, Covers}
+use Rattle.pointsets.specs.Targets.{BaseSet, Any, Among, has_name, has_base, put, put_all, at_most_16, with_objects, joined, Covers}
 use Rattle.pointsets.proofs.Names.{by_bool, eq-true, is-eq, length-put_all}
 
 le-true : (a b : ℕ) → nat_le a b ≡ true → a ≤ b

@@ -1,5 +1,5 @@
 -- Points-to sets: every base, or the numbers of some objects in rising order with two marks.
-use Rattle.std.specs.Prelude.{◌≡◌, ◌≢◌, ℕ, ◌≤◌, Bool, true, false, List, [], ◌∷◌, length, nat_lt, nat_le, ◌==◌, ◌||◌, not, filter, IsTrue, ◌⊎◌, if◌then◌else◌}
+use Rattle.std.specs.Prelude.{◌≡◌, ◌≢◌, ℕ, ◌≤◌, Bool, true, List, [], ◌∷◌, length, nat_lt, nat_le, ◌==◌, ◌||◌, not, filter, IsTrue, ◌⊎◌, if◌then◌else◌}
 use Rattle.std.specs.List.{list_any}
 use Rattle.std.specs.List.Sorted.{IsStrictlyIncreasing}
 use Rattle.pointsets.specs.declared.Base.{Base}

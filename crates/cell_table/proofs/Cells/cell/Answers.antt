@@ -1,6 +1,5 @@
-use Rattle.std.proofs.Common.{◌≡◌, ◌<◌, ℕ, Some, length, ap, sym, ◌∙◌, arith, rules}
-use Rattle.cell_table.specs.Cells.{Table, Slot}
-use Rattle.cell_table.specs.Kept.{cell_of}
+use Rattle.std.proofs.Common.{length, ap, arith, rules}
+use Rattle.cell_table.specs.Cells.{Table}
 use Rattle.cell_table.proofs.Slots.{length-slots_of, cell_at-slots_of}
 use Rattle.cell_table.proofs.Cells.cell.Goals as goal
 

@@ -1,5 +1,5 @@
-use Rattle.std.proofs.Common.{◌≡◌, ap, sym, ◌∙◌, List, ℕ, Bool, rules}
-use Rattle.cell_table.specs.Cells.{Table, Slot}
+use Rattle.std.proofs.Common.{ap, List, ℕ, Bool}
+use Rattle.cell_table.specs.Cells.{Table}
 use Rattle.cell_table.specs.Kept.{slots_of}
 use Rattle.cell_table.proofs.Steps.{kept-same}
 use Rattle.cell_table.proofs.Copies.{same-cells, same-places}

@@ -1,4 +1,4 @@
-use Rattle.std.proofs.Common.{ap, sym, ◌∙◌}
+use Rattle.std.proofs.Common.{sym, ◌∙◌}
 use Rattle.cell_table.proofs.Slots.{length-slots_of}
 use Rattle.cell_table.proofs.Cells.count.Goals as goal
 

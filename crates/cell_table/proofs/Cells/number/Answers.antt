@@ -1,9 +1,9 @@
-use Rattle.std.proofs.Common.{◌≡◌, ◌<◌, ℕ, List, Bool, Some, length, ap, sym, ◌∙◌, subst, arith, rules, true}
+use Rattle.std.proofs.Common.{◌≡◌, ℕ, List, Bool, Some, ap, sym, ◌∙◌, subst, rules, true}
 use Rattle.std.specs.BTreeMap.{UpdatesBy}
 use Rattle.indexmap.specs.IndexMap.{insert_entry}
 use Rattle.cell_table.specs.Places.{place_cmp}
 use Rattle.cell_table.specs.Cells.{Table, Slot, number_of, in_use_with, IsApartFrom}
-use Rattle.cell_table.specs.Kept.{cell_of, slots_of, IsKept}
+use Rattle.cell_table.specs.Kept.{slots_of, IsKept}
 use Rattle.cell_table.proofs.Slots.{slots_of-insert, key_eq}
 use Rattle.cell_table.proofs.Steps.{kept-same, kept-with}
 use Rattle.cell_table.proofs.Cells.number.Goals as goal

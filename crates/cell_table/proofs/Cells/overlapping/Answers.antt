@@ -1,4 +1,4 @@
-use Rattle.std.proofs.Common.{◌≡◌, ◌++◌, ap, sym, ◌∙◌, subst, rules}
+use Rattle.std.proofs.Common.{◌≡◌, ◌++◌, subst, rules}
 use Rattle.cell_table.specs.Cells.{Table, AreOverlapping}
 use Rattle.cell_table.specs.Kept.{slots_of}
 use Rattle.cell_table.specs.Places.{numbers_in}

@@ -1,4 +1,4 @@
-use Rattle.std.proofs.Common.{◌≡◌, ◌<◌, ℕ, List, Bool, Some, length, ap, sym, ◌∙◌, subst, arith, rules, true, slice_get}
+use Rattle.std.proofs.Common.{◌≡◌, List, Some, length, ap, sym, subst, arith, rules, true, slice_get}
 use Rattle.cell_table.specs.Cells.{Table, Slot, used_at, IsInUse}
 use Rattle.cell_table.specs.Kept.{cell_of, slots_of, IsKept}
 use Rattle.cell_table.proofs.Slots.{slots_of-set, used-within, length-slots_of, cell_at-slots_of}

@@ -1,6 +1,6 @@
-use Rattle.std.proofs.Common.{◌≡◌, ◌<◌, ◌+◌, ◌-◌, ℕ, List, [], ◌∷◌, ◌++◌, Bool, true, Some, length, refl, ap, sym, ◌∙◌, subst, append_assoc, arith, rules}
+use Rattle.std.proofs.Common.{◌≡◌, ◌+◌, ◌-◌, ℕ, List, [], ◌∷◌, ◌++◌, Some, refl, ap, sym, ◌∙◌, subst, append_assoc, arith}
 use Rattle.c_syntax.specs.declared.alarm.Cell.{Cell}
-use Rattle.cell_table.specs.Cells.{Slot, IsInUse, in_use_with, in_use_with_all, in_use_without, number_of, numbers_of, byte_cells}
+use Rattle.cell_table.specs.Cells.{Slot, IsInUse, in_use_with, in_use_with_all, number_of, numbers_of, byte_cells}
 use Rattle.cell_table.proofs.Slots.{used-within}
 use Rattle.cell_table.proofs.Splits.{IsClear, byte_cell, clear-without, apart-clear, clear-with, byte_cells-from, one-byte}
 use Rattle.cell_table.proofs.Cells.split.Goals as goal

@@ -1,4 +1,4 @@
-use Rattle.std.proofs.Common.{◌≡◌, ◌≤◌, ◌+◌, ◌-◌, ◌++◌}
+use Rattle.std.proofs.Common.{◌≡◌, ◌+◌, ◌-◌, ◌++◌}
 use Rattle.cell_table.specs.Cells.{in_use_with_all, numbers_of, byte_cells}
 use Rattle.cell_table.proofs.Splits.{IsClear}
 use Rattle.cell_table.proofs.Cells.split.Given as goal

@@ -1,7 +1,7 @@
 use Rattle.std.proofs.Common.{◌≡◌, ◌++◌, ◌∙◌, ap, List, ℕ, rules}
 use Rattle.std.specs.declared.ops.Bound.TheVariants.{Included, Excluded}
 use Rattle.std.specs.BTreeMap.Range.{entries_between}
-use Rattle.cell_table.specs.Places.{place_cmp, numbers_in}
+use Rattle.cell_table.specs.Places.{place_cmp}
 use Rattle.cell_table.specs.declared.places.Place.{Place}
 use Rattle.cell_table.proofs.Ranges.{wanted, wanted-between}
 use Rattle.cell_table.proofs.places.push_overlapping.Goals as goal

@@ -1,7 +1,7 @@
-use Rattle.std.proofs.Common.{◌≡◌, ◌<◌, ◌+◌, ◌++◌, ℕ, List, [], true, Some, Contains, length, get_or, ap, sym, ◌∙◌, subst, arith, rules}
+use Rattle.std.proofs.Common.{◌≡◌, ◌<◌, ◌++◌, ℕ, List, [], true, Some, length, get_or, ap, sym, ◌∙◌, subst, rules}
 use Rattle.c_syntax.specs.declared.alarm.Cell.{Cell}
 use Rattle.std.proofs.lemmas.Grind.{get_or_default_zero}
-use Rattle.cell_table.specs.Cells.{Slot, cell_at, AreOverlapping}
+use Rattle.cell_table.specs.Cells.{cell_at}
 use Rattle.cell_table.proofs.Overlaps.{apart-overlapping}
 use Rattle.cell_table.proofs.tests.number.Goals as goal
 

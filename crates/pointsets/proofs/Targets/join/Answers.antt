@@ -1,5 +1,5 @@
-use Rattle.std.proofs.Common.{◌≡◌, ◌||◌, rules, refl, ap, sym, ◌∙◌}
-use Rattle.pointsets.specs.Targets.{Among, joined, with_objects}
+use Rattle.std.proofs.Common.{◌≡◌, ◌||◌, rules}
+use Rattle.pointsets.specs.Targets.{Among, with_objects}
 use Rattle.pointsets.proofs.Sets.{joined-is}
 use Rattle.pointsets.proofs.Targets.join.Goals as goal
 

@@ -1,4 +1,4 @@
-use Rattle.std.proofs.Common.{◌≡◌, ap, ◌≤◌, length, rules, arith, true, [], filter, not}
+use Rattle.std.proofs.Common.{◌≡◌, ap, length, rules, arith, filter, not}
 use Rattle.std.proofs.lemmas.List.Kept.{IsStrictlyIncreasing-filter}
 use Rattle.pointsets.specs.Targets.{has_name}
 use Rattle.pointsets.proofs.Targets.kill.Goals as goal

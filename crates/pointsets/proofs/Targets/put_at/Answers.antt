@@ -1,5 +1,4 @@
-use Rattle.std.proofs.Common.{◌≡◌, ◌+◌, ◌≤◌, length, insert, rules, arith, ap, sym, ◌∙◌, subst, List, ℕ}
-use Rattle.std.specs.List.Sorted.{IsStrictlyIncreasing}
+use Rattle.std.proofs.Common.{◌≡◌, ◌+◌, ◌≤◌, length, insert, rules, arith, ap, ◌∙◌, subst, List, ℕ}
 use Rattle.std.proofs.lemmas.List.Edits.{length-insert}
 use Rattle.pointsets.specs.Targets.{names_of, put}
 use Rattle.pointsets.proofs.Names.{rises, rises-put, increases}
