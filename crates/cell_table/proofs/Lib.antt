@@ -1,0 +1,6 @@
+pub mod Slots
+pub mod Steps
+pub mod Copies
+pub mod Ranges
+pub mod Splits
+pub mod Overlaps

@@ -1,0 +1,351 @@
+//! Sets of what a pointer may point to. No call takes memory.
+#![tactic(auto)]
+
+ghost use Rattle.std.specs.Prelude.{◌≡◌, ℕ, ◌≤◌, List, [], length, insert, filter, not, true, false, IsTrue, ◌↔◌, MatchOption};
+ghost use Rattle.std.specs.List.{list_any, list_all};
+ghost use Rattle.std.specs.List.Sorted.{IsStrictlyIncreasing};
+ghost use Rattle.pointsets.specs.Targets.{BaseSet, has_name, put};
+
+use smallvec::SmallVec;
+use std::alloc::Global;
+use std::marker::Model;
+
+/// How many objects a set tells apart.
+const ROOM: usize = 16;
+
+/// What a pointer may point to: nothing, an object that has ended, or the object of this number.
+#[derive(Clone, Copy, Debug, PartialEq, Eq)]
+pub enum Base {
+    Null,
+    Dead,
+    Object(u64),
+}
+
+/// The bases that a pointer may have: at most 16 objects, Null and Dead, or all.
+#[derive(Drop)]
+pub struct Targets {
+    names: SmallVec<u64, 16>,
+    null: bool,
+    dead: bool,
+    all: bool,
+}
+
+impl Model for Targets {
+    ghost use Rattle.std.specs.Prelude.{if◌then◌else◌};
+    ghost use Rattle.pointsets.specs.Targets.{BaseSet, Any, Among, IsKept};
+
+    ghost Value = { BaseSet };
+
+    ghost view = { λ t. (if t.all then Any else Among t.names.items t.null t.dead) };
+
+    ghost invariant = { λ t. IsKept t.names.capacity t.names.items t.all };
+}
+
+impl Targets {
+    ghost use Rattle.pointsets.specs.Targets.{Any, Among, has_base, names_of, with_base, joined, killed, Covers, with_objects};
+
+    /// The set of nothing.
+    pub fn new(alloc: Global) -> Targets
+        ensures { result ≡ Among [] false false }
+    {
+        Targets {
+            names: SmallVec::new(alloc),
+            null: false,
+            dead: false,
+            all: false,
+        }
+    }
+
+    /// Whether the set is All: nothing is known of the pointer.
+    pub fn is_all(&self) -> bool
+        ensures { IsTrue result ↔ (self.now ≡ Any) }
+    {
+        self.all
+    }
+
+    /// The numbers of the set's objects, in rising order: none where the set is All.
+    pub fn names(&self) -> &[u64]
+        ensures names { result.now ≡ names_of self.now }
+        ensures rising { IsStrictlyIncreasing result.now }
+        ensures few { length result.now ≤ 16 }
+    {
+        self.names.as_slice()
+    }
+
+    /// Whether the set is All or has the base.
+    pub fn holds(&self, b: Base) -> bool
+        ensures { result ≡ has_base self.now b }
+    {
+        if self.all {
+            return true;
+        }
+        match b {
+            Base::Null => self.null,
+            Base::Dead => self.dead,
+            Base::Object(n) => is_among(self.names.as_slice(), n),
+        }
+    }
+
+    /// Adds a base. A seventeenth object makes the set All.
+    pub fn with(&mut self, b: Base)
+        ensures { self.new ≡ with_base self.old b }
+    {
+        if self.all {
+            return;
+        }
+        match b {
+            Base::Null => self.null = true,
+            Base::Dead => self.dead = true,
+            Base::Object(n) => self.with_object(n),
+        }
+    }
+
+    /// Adds the bases of another set. A seventeenth object makes the set All.
+    pub fn join(&mut self, other: &Targets)
+        ensures { self.new ≡ joined self.old other.now }
+    {
+        if self.all {
+            return;
+        }
+        if other.all {
+            self.make_all();
+            return;
+        }
+        let null = self.null || other.null;
+        let dead = self.dead || other.dead;
+        self.null = null;
+        self.dead = dead;
+        self.with_objects(other.names.as_slice());
+    }
+
+    /// Whether self is All, or the other is not and each of its bases is in self.
+    pub fn covers(&self, other: &Targets) -> bool
+        ensures { IsTrue result ↔ Covers self.now other.now }
+    {
+        if self.all {
+            return true;
+        }
+        if other.all {
+            return false;
+        }
+        if other.null && !self.null {
+            return false;
+        }
+        if other.dead && !self.dead {
+            return false;
+        }
+        are_among(self.names.as_slice(), other.names.as_slice())
+    }
+
+    /// Takes these objects out, since they have ended, and adds Dead where one of them was there.
+    /// All stays All.
+    pub fn kill(&mut self, names: &[u64])
+        ensures { self.new ≡ killed self.old names.now }
+    {
+        if self.all {
+            return;
+        }
+        let dead = self.dead || is_any_among(names, self.names.as_slice());
+        let left = without(*self.names.allocator(), self.names.as_slice(), names);
+        self.dead = dead;
+        self.names = left;
+    }
+
+    /// Makes the set All.
+    fn make_all(&mut self)
+        ensures { self.new ≡ Any }
+    {
+        self.names.clear();
+        self.all = true;
+    }
+
+    /// Adds an object.
+    fn with_object(&mut self, n: u64)
+        ensures { self.new ≡ with_base self.old (Base.Object n) }
+    {
+        if self.all {
+            return;
+        }
+        match place(self.names.as_slice(), n) {
+            None => {}
+            Some(at) => self.put_at(at, n),
+        }
+    }
+
+    /// Adds an object at its place.
+    fn put_at(&mut self, at: usize, n: u64)
+        requires place { at ≤ length (names_of self.old) }
+        requires is_place { put (names_of self.old) n ≡ insert (names_of self.old) at n }
+        ensures { self.new ≡ with_base self.old (Base.Object n) }
+    {
+        if self.all {
+            return;
+        }
+        if self.names.len() == ROOM {
+            self.make_all();
+            return;
+        }
+        let _room_was_there = self.names.insert(at, n);
+    }
+
+    /// Adds objects.
+    fn with_objects(&mut self, names: &[u64])
+        ensures { self.new ≡ with_objects self.old names.now }
+    {
+        for n in names {
+            self.with_object(*n);
+        }
+    }
+}
+
+/// Whether a number stands in a list.
+fn is_among(names: &[u64], n: u64) -> bool
+    ensures { result ≡ has_name names.now n }
+{
+    names.contains(&n)
+}
+
+/// Whether each number of the second list stands in the first.
+fn are_among(names: &[u64], others: &[u64]) -> bool
+    ensures { result ≡ list_all (has_name names.now) others.now }
+{
+    others.iter().all(|n| is_among(names, *n))
+}
+
+/// Whether some number of the second list stands in the first.
+fn is_any_among(names: &[u64], others: &[u64]) -> bool
+    ensures { result ≡ list_any (has_name names.now) others.now }
+{
+    others.iter().any(|n| is_among(names, *n))
+}
+
+/// The place of a new number in a rising list, or None where it stands there.
+fn place(names: &[u64], n: u64) -> Option<usize>
+    requires { IsStrictlyIncreasing names.now }
+    ensures { MatchOption result (put names.now n ≡ names.now)
+        (λ at. (at ≤ length names.now) × (put names.now n ≡ insert names.now at n)) }
+{
+    names.binary_search(&n).err()
+}
+
+/// The numbers of the first list that do not stand in the second.
+fn without(alloc: Global, names: &[u64], gone: &[u64]) -> SmallVec<u64, 16>
+    requires { length names.now ≤ 16 }
+    ensures items { result.items ≡ filter (λ n. not (has_name gone.now n)) names.now }
+    ensures in_place { result.capacity ≡ 16 }
+    ensures few { length result.items ≤ length names.now }
+{
+    let mut left = SmallVec::new(alloc);
+    for n in names {
+        if !is_among(gone, *n) {
+            left.push_reserved(*n);
+        }
+    }
+    left
+}
+
+#[cfg(test)]
+mod tests {
+    use super::*;
+
+    /// The set of Null and Dead where marked, and of these objects, put in in this order.
+    fn set_of(alloc: Global, null: bool, dead: bool, names: &[u64]) -> Targets {
+        let mut set = Targets::new(alloc);
+        if null {
+            set.with(Base::Null);
+        }
+        if dead {
+            set.with(Base::Dead);
+        }
+        for n in names {
+            set.with(Base::Object(*n));
+        }
+        set
+    }
+
+    const SIXTEEN: [u64; 16] = [9, 1, 31, 5, 29, 3, 27, 7, 25, 11, 23, 13, 21, 15, 19, 17];
+
+    const SEVENTEEN: [u64; 17] = [9, 1, 31, 5, 29, 3, 27, 7, 25, 11, 23, 13, 21, 15, 19, 17, 2];
+
+    // Names put in, and then the names of the set, and whether it is All.
+    #[test]
+    fn sixteen_names_are_told_apart(rt: HostRuntime) {
+        let rising = [1, 3, 5, 7, 9, 11, 13, 15, 17, 19, 21, 23, 25, 27, 29, 31];
+        let rows: [(&[u64], &[u64], bool); 5] = [
+            (&[], &[], false),
+            (&[7, 7], &[7], false),
+            (&[5, 2, 5, 9, 2], &[2, 5, 9], false),
+            (&SIXTEEN, &rising, false),
+            (&SEVENTEEN, &[], true),
+        ];
+        for (names, want, all) in rows {
+            let set = set_of(rt.alloc(), false, false, names);
+            assert_eq!(rt; set.names(), want);
+            assert_eq!(rt; set.is_all(), all);
+        }
+    }
+
+    // Two sets of nine, and then the names of both, and whether they are All.
+    #[test]
+    fn joins(rt: HostRuntime) {
+        let low = [0, 2, 4, 6, 8, 10, 12, 14, 16];
+        let rows: [(&[u64], &[u64], bool); 3] = [
+            (
+                &[0, 1, 3, 5, 7, 9, 10, 11, 13],
+                &[0, 1, 2, 3, 4, 5, 6, 7, 8, 9, 10, 11, 12, 13, 14, 16],
+                false,
+            ),
+            (&[1, 3, 5, 7, 9, 11, 13, 15, 17], &[], true),
+            (&SEVENTEEN, &[], true),
+        ];
+        for (names, want, all) in rows {
+            let mut set = set_of(rt.alloc(), true, false, &low);
+            set.join(&set_of(rt.alloc(), false, true, names));
+            assert_eq!(rt; set.names(), want);
+            assert_eq!(rt; set.is_all(), all);
+            assert!(rt; set.holds(Base::Null));
+            assert!(rt; set.holds(Base::Dead));
+        }
+    }
+
+    // Two sets by their marks and names, and whether the first covers the second.
+    #[test]
+    fn covers(rt: HostRuntime) {
+        let rows: [((bool, bool, &[u64]), (bool, bool, &[u64]), bool); 10] = [
+            ((false, false, &SEVENTEEN), (false, false, &SEVENTEEN), true),
+            ((false, false, &SEVENTEEN), (true, true, &SIXTEEN), true),
+            ((true, true, &SIXTEEN), (false, false, &SEVENTEEN), false),
+            ((true, true, &SIXTEEN), (true, true, &SIXTEEN), true),
+            ((false, false, &[]), (false, false, &[]), true),
+            ((false, false, &[4]), (false, false, &[]), true),
+            ((false, false, &[]), (false, false, &[4]), false),
+            ((false, true, &[4]), (true, false, &[4]), false),
+            ((true, false, &[4]), (false, true, &[4]), false),
+            ((true, false, &[1, 4, 9]), (true, false, &[4, 9]), true),
+        ];
+        for ((null, dead, names), (other_null, other_dead, others), want) in rows {
+            let set = set_of(rt.alloc(), null, dead, names);
+            let other = set_of(rt.alloc(), other_null, other_dead, others);
+            assert_eq!(rt; set.covers(&other), want);
+        }
+    }
+
+    // A set, what ends, and then the names left, and whether Dead is there.
+    #[test]
+    fn kills(rt: HostRuntime) {
+        let rows: [(&[u64], &[u64], &[u64], bool); 5] = [
+            (&[3, 5, 8], &[5], &[3, 8], true),
+            (&[3, 5, 8], &[8, 4, 3], &[5], true),
+            (&[3, 5, 8], &[4], &[3, 5, 8], false),
+            (&[3, 5, 8], &[], &[3, 5, 8], false),
+            (&SEVENTEEN, &[3], &[], true),
+        ];
+        for (names, ended, want, dead) in rows {
+            let mut set = set_of(rt.alloc(), false, false, names);
+            set.kill(ended);
+            assert_eq!(rt; set.names(), want);
+            assert_eq!(rt; set.holds(Base::Dead), dead);
+            assert_eq!(rt; set.holds(Base::Null), set.is_all());
+        }
+    }
+}
