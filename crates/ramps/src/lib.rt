@@ -122,10 +122,6 @@ fn step_up_to_zero(n: i128) -> i128
 mod tests {
     use super::*;
 
-    ghost use Rattle.std.specs.Prelude.{◌≡◌};
-    ghost use Rattle.ramps.specs.Steps.{least};
-    ghost use Rattle.ramps.specs.Powers.{power_steps};
-
     // A number; then the least power step not below it, by the list of the steps.
     #[test]
     fn steps_of_the_powers(rt: HostRuntime) {
