@@ -1,13 +1,24 @@
-// A library with one function.
-#![tactic(auto)]
+//! What a numeric domain offers, and its laws.
+//!
+//! A value domain describes sets of whole numbers, a numeric domain sets of valuations. Every law is
+//! a clause of the call that it speaks of. A law that ties two calls goes through a ghost member,
+//! since a clause calls nothing.
+#![tactic(auto, using(crate::proofs::Trees::nexpr_trees))]
 
-ghost use Rattle.std.specs.Prelude.{◌≡◌};
-ghost use Rattle.num_api.specs.Echo.{echo_of};
+mod domain;
+mod expr;
+mod fixpoint;
+mod lists;
+mod message;
 
-// The `ensures` clause is the contract: what `echo` returns is `echo_of` of its argument, a definition
-// in `specs/Echo.antt`, which a caller's clause can cite too.
-pub fn echo(x: usize) -> usize
-    ensures { result ≡ echo_of x }
-{
-    x
-}
+mod value;
+
+pub use domain::{Exact, NumDomain, Oracle};
+pub use expr::{NExpr, NOp, Var};
+pub use lists::{Messages, NumFacts};
+pub use message::{Live, Message, Range, Residue};
+pub use fixpoint::{settle, settle_value};
+pub use value::{ExactValue, ValueDomain};
+
+#[cfg(test)]
+mod tests;
