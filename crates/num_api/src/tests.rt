@@ -209,6 +209,6 @@ fn settles(rt: HostRuntime) {
         |s: &Zeros| -> Result<Zeros, NoMemory> { Ok(Zeros { any: !s.any }) },
         &ramp,
     )
-    .unwrap(&rt);
+    .expect(&rt, "memory");
     assert!(rt; state.any);
 }
