@@ -1,0 +1,24 @@
+//! What a numeric domain offers, and its laws.
+//!
+//! A value domain describes sets of whole numbers, a numeric domain sets of valuations. Every law is
+//! a clause of the call that it speaks of. A law that ties two calls goes through a ghost member,
+//! since a clause calls nothing.
+#![tactic(auto, using(crate::proofs::Trees::nexpr_trees))]
+
+mod domain;
+mod expr;
+mod fixpoint;
+mod lists;
+mod message;
+
+mod value;
+
+pub use domain::{Exact, NumDomain, Oracle};
+pub use expr::{NExpr, NOp, Var};
+pub use lists::{Messages, NumFacts};
+pub use message::{Live, Message, Range, Residue};
+pub use fixpoint::{settle, settle_value};
+pub use value::{ExactValue, ValueDomain};
+
+#[cfg(test)]
+mod tests;

@@ -1,0 +1,4 @@
+pub mod StepLemmas
+pub mod PowerLemmas
+pub mod PowersRamp
+pub mod WeightLemmas
