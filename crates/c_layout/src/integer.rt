@@ -1,0 +1,219 @@
+// Conversions of integer types and numbers.
+
+ghost use Rattle.std.specs.Prelude.{◌≡◌, ◌≤◌, ◌^◌, pos, true, false, nat_le, find};
+ghost use Rattle.c_layout.specs.Conversion as conversion;
+ghost use Rattle.c_layout.specs.Conversion.{balanced, common, literal_type_of, mixed, promoted, unsigned_of};
+ghost use Rattle.c_layout.specs.Integer as integer;
+ghost use Rattle.c_layout.specs.Integer.{wrapped};
+
+use c_syntax::IntType;
+
+/// The type that the integer promotions give.
+pub fn promote(t: IntType) -> IntType
+    ensures { result ≡ promoted t }
+{
+    match t {
+        IntType::Char => IntType::Int,
+        IntType::SChar => IntType::Int,
+        IntType::UChar => IntType::Int,
+        IntType::Short => IntType::Int,
+        IntType::UShort => IntType::Int,
+        IntType::Int => IntType::Int,
+        IntType::UInt => IntType::UInt,
+        IntType::Long => IntType::Long,
+        IntType::ULong => IntType::ULong,
+        IntType::LLong => IntType::LLong,
+        IntType::ULLong => IntType::ULLong,
+    }
+}
+
+/// The type to which the usual arithmetic conversions bring operands of these two types.
+pub fn balance(a: IntType, b: IntType) -> IntType
+    ensures { result ≡ balanced a b }
+{
+    common_type(promote(a), promote(b))
+}
+
+/// The type of an integer constant of this value, or `None` where no type of its row has the
+/// value. `unsigned` tells that it has a `u`, and `longs`, from 0 to 2, how many times an `l`.
+pub fn literal_type(value: u64, decimal: bool, unsigned: bool, longs: u8) -> Option<IntType>
+    requires { longs ≤ 2 }
+    ensures { result ≡ literal_type_of value decimal unsigned longs }
+{
+    let from = usize::from(longs);
+    if unsigned {
+        let row = [IntType::UInt, IntType::ULong, IntType::ULLong];
+        first_with(&row[from..], value)
+    } else if decimal {
+        let row = [IntType::Int, IntType::Long, IntType::LLong];
+        first_with(&row[from..], value)
+    } else {
+        let row = [
+            IntType::Int,
+            IntType::UInt,
+            IntType::Long,
+            IntType::ULong,
+            IntType::LLong,
+            IntType::ULLong,
+        ];
+        first_with(&row[2 * from..], value)
+    }
+}
+
+/// The number of the type that is `n` modulo 2 to the type's width.
+pub fn wrap(t: IntType, n: i128) -> i128
+    ensures { result ≡ wrapped t n }
+{
+    let count = count_of(t);
+    let low = n.rem_euclid(count);
+    if low > i128::from(greatest(t)) {
+        low - count
+    } else {
+        low
+    }
+}
+
+// The first type of the row that has the value.
+fn first_with(row: &[IntType], value: u64) -> Option<IntType>
+    ensures { result ≡ find (λ t. nat_le value (integer.greatest t)) row.now }
+{
+    row.iter().copied().find(|t| value <= greatest(*t))
+}
+
+// What two promoted types come to.
+fn common_type(a: IntType, b: IntType) -> IntType
+    ensures { result ≡ common a b }
+{
+    match (is_signed(a), is_signed(b)) {
+        (true, false) => mixed_type(a, b),
+        (false, true) => mixed_type(b, a),
+        _ => if rank(a) < rank(b) { b } else { a },
+    }
+}
+
+// What a signed and an unsigned promoted type come to.
+fn mixed_type(signed: IntType, unsigned: IntType) -> IntType
+    requires has_sign { integer.is_signed signed ≡ true }
+    requires has_none { integer.is_signed unsigned ≡ false }
+    ensures { result ≡ mixed signed unsigned }
+{
+    if rank(signed) <= rank(unsigned) {
+        unsigned
+    } else if width(signed) > width(unsigned) {
+        signed
+    } else {
+        unsigned_type(signed)
+    }
+}
+
+fn unsigned_type(t: IntType) -> IntType
+    ensures { result ≡ unsigned_of t }
+{
+    match t {
+        IntType::Char => IntType::UChar,
+        IntType::SChar => IntType::UChar,
+        IntType::Short => IntType::UShort,
+        IntType::Int => IntType::UInt,
+        IntType::Long => IntType::ULong,
+        IntType::LLong => IntType::ULLong,
+        IntType::UChar => IntType::UChar,
+        IntType::UShort => IntType::UShort,
+        IntType::UInt => IntType::UInt,
+        IntType::ULong => IntType::ULong,
+        IntType::ULLong => IntType::ULLong,
+    }
+}
+
+fn is_signed(t: IntType) -> bool
+    ensures { result ≡ integer.is_signed t }
+{
+    match t {
+        IntType::Char => true,
+        IntType::SChar => true,
+        IntType::Short => true,
+        IntType::Int => true,
+        IntType::Long => true,
+        IntType::LLong => true,
+        IntType::UChar => false,
+        IntType::UShort => false,
+        IntType::UInt => false,
+        IntType::ULong => false,
+        IntType::ULLong => false,
+    }
+}
+
+// The conversion rank.
+fn rank(t: IntType) -> u8
+    ensures { result ≡ conversion.rank t }
+{
+    match t {
+        IntType::Char => 1,
+        IntType::SChar => 1,
+        IntType::UChar => 1,
+        IntType::Short => 2,
+        IntType::UShort => 2,
+        IntType::Int => 3,
+        IntType::UInt => 3,
+        IntType::Long => 4,
+        IntType::ULong => 4,
+        IntType::LLong => 5,
+        IntType::ULLong => 5,
+    }
+}
+
+// In bits.
+fn width(t: IntType) -> u8
+    ensures { result ≡ integer.width t }
+{
+    match t {
+        IntType::Char => 8,
+        IntType::SChar => 8,
+        IntType::UChar => 8,
+        IntType::Short => 16,
+        IntType::UShort => 16,
+        IntType::Int => 32,
+        IntType::UInt => 32,
+        IntType::Long => 64,
+        IntType::ULong => 64,
+        IntType::LLong => 64,
+        IntType::ULLong => 64,
+    }
+}
+
+// How many numbers the type has.
+fn count_of(t: IntType) -> i128
+    ensures { result ≡ pos (2 ^ integer.width t) }
+{
+    match t {
+        IntType::Char => 1 << 8,
+        IntType::SChar => 1 << 8,
+        IntType::UChar => 1 << 8,
+        IntType::Short => 1 << 16,
+        IntType::UShort => 1 << 16,
+        IntType::Int => 1 << 32,
+        IntType::UInt => 1 << 32,
+        IntType::Long => 1 << 64,
+        IntType::ULong => 1 << 64,
+        IntType::LLong => 1 << 64,
+        IntType::ULLong => 1 << 64,
+    }
+}
+
+// The greatest number.
+fn greatest(t: IntType) -> u64
+    ensures { result ≡ integer.greatest t }
+{
+    match t {
+        IntType::Char => 0x7f,
+        IntType::SChar => 0x7f,
+        IntType::UChar => 0xff,
+        IntType::Short => 0x7fff,
+        IntType::UShort => 0xffff,
+        IntType::Int => 0x7fff_ffff,
+        IntType::UInt => 0xffff_ffff,
+        IntType::Long => i64::MAX as u64,
+        IntType::ULong => u64::MAX,
+        IntType::LLong => i64::MAX as u64,
+        IntType::ULLong => u64::MAX,
+    }
+}
