@@ -1,7 +1,8 @@
 -- The number of a type that is another modulo 2 to its width, from the remainder.
-use Rattle.std.proofs.Common.{◌≡◌, ℕ, ◌-◌, ◌^◌, ◌%◌, ◌<◌, ◌≤◌, ℤ, pos, negsuc, ◌-ℤ◌, ◌<ℤ◌, ◌≤ℤ◌, to_z, refl, arith}
+use Rattle.std.proofs.Common.{◌≡◌, ℕ, suc, ◌-◌, ◌^◌, ◌%◌, ◌<◌, ◌≤◌, ℤ, pos, negsuc, ◌-ℤ◌, ◌<ℤ◌, ◌≤ℤ◌, to_z, refl, sym, ap, subst, ◌∙◌, arith}
 use Rattle.std.specs.Int.{Width, w8, w16, w32, w64, int_wrap, int_rem_euclid}
 use Rattle.std.proofs.lemmas.Int.{ints, to_z_pos}
+use Rattle.std.proofs.lemmas.Bool.{le-ltb}
 use mir.Val.{bits, hbits}
 use Rattle.c_syntax.specs.declared.types.IntType.{IntType}
 use Rattle.c_syntax.specs.declared.types.IntType.TheVariants.{Char, SChar, UChar, Short, UShort, Int, UInt, Long, ULong, LLong, ULLong}
@@ -12,8 +13,11 @@ remainder_is : (n : ℤ) (d : ℕ) → 0 < d → (m : ℕ) × (int_rem_euclid n 
 remainder_is (pos a) d h = (a % d, refl, omega arith)
 remainder_is (negsuc a) d h = (d - 1 - a % d, refl, omega arith)
 
+below_zero : (m d : ℕ) → m < d → negsuc (d - suc m) ≡ pos m -ℤ pos d
+below_zero m d h = omega (arith, ints)
+
 upper_half : (w : Width) (m : ℕ) → 2 ^ hbits w ≤ m → m < 2 ^ bits w → to_z w m ≡ pos m -ℤ pos (2 ^ bits w)
-upper_half w m h k = omega (arith, ints)
+upper_half w m h k = rw (le-ltb m (2 ^ hbits w) h) (below_zero m (2 ^ bits w) k)
 
 wrap-lower : (w : Width) (n : ℤ) (m : ℕ) → int_rem_euclid n (pos (2 ^ bits w)) ≡ pos m → m < 2 ^ hbits w → int_wrap w n ≡ pos m
 unfolding int_wrap
@@ -63,19 +67,19 @@ some_number LLong = omega arith
 some_number ULLong = omega arith
 
 -- a remainder that the type has is the number
-pub wrapped_has : (t : IntType) (n low : ℤ) → low ≡ int_rem_euclid n (pos (2 ^ width t)) → low ≤ℤ pos (greatest t) → wrapped t n ≡ low
-wrapped_has t n low e h =
+pub wrapped_has : (t : IntType) (n low count : ℤ) (top : ℕ) → low ≡ int_rem_euclid n count → count ≡ pos (2 ^ width t) → top ≡ greatest t → low ≤ℤ pos top → wrapped t n ≡ low
+wrapped_has t n low count top e k g h =
     let r = remainder_is n (2 ^ width t) (some_number t) in
-    let is : low ≡ pos r.0 = cc (e, r.1) in
-    let below : r.0 ≤ greatest t = omega (arith, ints, is, h) in
-    let found : wrapped t n ≡ pos r.0 = wrapped-lower t n r.0 r.1 below in
-    omega (arith, found, is)
+    let is : low ≡ pos r.0 = e ∙ ap (int_rem_euclid n) k ∙ r.1 in
+    let small : r.0 ≤ top = omega (arith, ints, is, h) in
+    let below : r.0 ≤ greatest t = subst (λ x. r.0 ≤ x) g small in
+    wrapped-lower t n r.0 r.1 below ∙ sym is
 
 -- one that it has not is too great by as many numbers as it has
-pub wrapped_past : (t : IntType) (n low : ℤ) → low ≡ int_rem_euclid n (pos (2 ^ width t)) → pos (greatest t) <ℤ low → wrapped t n ≡ low -ℤ pos (2 ^ width t)
-wrapped_past t n low e h =
+pub wrapped_past : (t : IntType) (n low count : ℤ) (top : ℕ) → low ≡ int_rem_euclid n count → count ≡ pos (2 ^ width t) → top ≡ greatest t → pos top <ℤ low → wrapped t n ≡ low -ℤ count
+wrapped_past t n low count top e k g h =
     let r = remainder_is n (2 ^ width t) (some_number t) in
-    let is : low ≡ pos r.0 = cc (e, r.1) in
-    let above : greatest t < r.0 = omega (arith, ints, is, h) in
-    let found : wrapped t n ≡ pos r.0 -ℤ pos (2 ^ width t) = wrapped-upper t n r.0 r.1 above r.2 in
-    omega (arith, ints, found, is)
+    let is : low ≡ pos r.0 = e ∙ ap (int_rem_euclid n) k ∙ r.1 in
+    let great : top < r.0 = omega (arith, ints, is, h) in
+    let above : greatest t < r.0 = subst (λ x. x < r.0) g great in
+    wrapped-upper t n r.0 r.1 above r.2 ∙ ap (λ m. m -ℤ pos (2 ^ width t)) (sym is) ∙ ap (λ d. low -ℤ d) (sym k)
