@@ -1,1 +1,4 @@
 pub mod Wrapping
+pub mod Keeping
+pub mod Spaces
+pub mod Offsets

@@ -65,7 +65,8 @@ pub fn align_of(ty: &CType, structs: &StructDefs) -> u64
 pub fn offset_of(def: &StructDef, name: &[u8]) -> Option<u64>
     ensures { result ≡ offset_named (map member_tree def.now.members) name.now }
 {
-    for member in def.members.as_slice() {
+    let members = def.members.as_slice();
+    for member in members {
         if member.name.as_slice() == name {
             return Some(member.offset);
         }
@@ -132,7 +133,7 @@ fn members_end(members: &[Member], structs: &[StructDef], depth: usize) -> (u64,
     ensures narrow { result.1 ≤ 8 }
 {
     let mut end = 0;
-    let mut align = 1;
+    let mut align: u64 = 1;
     for member in members {
         let room = room_of(&member.ty, structs, depth);
         end = end_after(end, room);
@@ -147,7 +148,11 @@ fn element_of(ty: &CType) -> &CType
 {
     match ty {
         CType::Array(of, _) => element_of(&of.ty),
-        _ => ty,
+        CType::Void => ty,
+        CType::Int(_) => ty,
+        CType::Pointer(_) => ty,
+        CType::Struct(_) => ty,
+        CType::Function(_) => ty,
     }
 }
 
@@ -157,7 +162,11 @@ fn count_of(ty: &CType) -> u64
 {
     match ty {
         CType::Array(of, n) => product(*n, count_of(&of.ty)),
-        _ => 1,
+        CType::Void => 1,
+        CType::Int(_) => 1,
+        CType::Pointer(_) => 1,
+        CType::Struct(_) => 1,
+        CType::Function(_) => 1,
     }
 }
 
