@@ -85,6 +85,10 @@ size_in structs ty = (space_of structs ty).size
 abbrev pub align_in : List StructDefTree → CTypeTree → ℕ
 align_in structs ty = (space_of structs ty).align
 
+-- what the members of a struct take
+abbrev pub member_spaces : List StructDefTree → ℕ → List Space
+member_spaces structs n = map (λ member. space_of structs member.ty) (members_of structs n)
+
 -- where member k of a struct with these members stands
 abbrev pub offset_at : List Space → ℕ → Option ℕ
 offset_at members k = option_map (λ member. padded (members_end (take k members)) member.align) (slice_get members k)

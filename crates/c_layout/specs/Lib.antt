@@ -3,3 +3,8 @@ pub mod Conversion
 pub mod Layout
 pub mod Rank
 pub mod Kept
+pub mod RowTypes
+pub mod ProperTypes
+pub mod Jumps
+pub mod TypedNodes
+pub mod WellTyped
