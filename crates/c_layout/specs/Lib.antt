@@ -8,3 +8,6 @@ pub mod ProperTypes
 pub mod Jumps
 pub mod TypedNodes
 pub mod WellTyped
+pub mod Calls
+pub mod Plans
+pub mod Checks
