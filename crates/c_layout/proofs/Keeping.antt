@@ -20,8 +20,9 @@ kept_large n h = omega arith
 
 kept-mul_left : (m n : ℕ) → kept (kept m * n) ≡ kept (m * n)
 kept-mul_left m n = elim (cases_lt 1099511627776 m) [
-    inl h ↦ ap (λ x. kept (x * n)) (kept_large m h) ∙ kept_large-mul m n h
-  | inr h ↦ ap (λ x. kept (x * n)) (kept_exact m h) ]
+  | inl h ↦ ap (λ x. kept (x * n)) (kept_large m h) ∙ kept_large-mul m n h
+  | inr h ↦ ap (λ x. kept (x * n)) (kept_exact m h)
+]
 
 kept-mul_right : (m n : ℕ) → kept (m * kept n) ≡ kept (m * n)
 kept-mul_right m n = ap kept (mul_comm m (kept n)) ∙ kept-mul_left n m ∙ ap kept (mul_comm n m)

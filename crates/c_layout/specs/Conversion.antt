@@ -21,8 +21,8 @@ rank ULLong = 5
 -- every number of the second type is one of the first
 abbrev pub has_all_of : IntType → IntType → Bool
 has_all_of t u = if is_signed t
-  then (if is_signed u then nat_le (width u) (width t) else nat_lt (width u) (width t))
-  else (if is_signed u then false else nat_le (width u) (width t))
+    then (if is_signed u then nat_le (width u) (width t) else nat_lt (width u) (width t))
+    else (if is_signed u then false else nat_le (width u) (width t))
 
 -- the integer promotions (C11 6.3.1.1p2)
 abbrev pub promoted : IntType → IntType
@@ -49,8 +49,8 @@ mixed s u = if nat_le (rank s) (rank u) then u else (if has_all_of s u then s el
 -- what two promoted types come to (C11 6.3.1.8p1)
 abbrev pub common : IntType → IntType → IntType
 common a b = if is_signed a
-  then (if is_signed b then higher a b else mixed a b)
-  else (if is_signed b then mixed b a else higher a b)
+    then (if is_signed b then higher a b else mixed a b)
+    else (if is_signed b then mixed b a else higher a b)
 
 -- the usual arithmetic conversions on integers (C11 6.3.1.8p1)
 abbrev pub balanced : IntType → IntType → IntType

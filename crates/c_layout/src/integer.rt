@@ -13,17 +13,13 @@ pub fn promote(t: IntType) -> IntType
     ensures { result ≡ promoted t }
 {
     match t {
-        IntType::Char => IntType::Int,
-        IntType::SChar => IntType::Int,
-        IntType::UChar => IntType::Int,
-        IntType::Short => IntType::Int,
-        IntType::UShort => IntType::Int,
-        IntType::Int => IntType::Int,
-        IntType::UInt => IntType::UInt,
-        IntType::Long => IntType::Long,
-        IntType::ULong => IntType::ULong,
-        IntType::LLong => IntType::LLong,
-        IntType::ULLong => IntType::ULLong,
+        IntType::Char
+        | IntType::SChar
+        | IntType::UChar
+        | IntType::Short
+        | IntType::UShort
+        | IntType::Int => IntType::Int,
+        IntType::UInt | IntType::Long | IntType::ULong | IntType::LLong | IntType::ULLong => t,
     }
 }
 
@@ -110,17 +106,12 @@ fn unsigned_type(t: IntType) -> IntType
     ensures { result ≡ unsigned_of t }
 {
     match t {
-        IntType::Char => IntType::UChar,
-        IntType::SChar => IntType::UChar,
+        IntType::Char | IntType::SChar => IntType::UChar,
         IntType::Short => IntType::UShort,
         IntType::Int => IntType::UInt,
         IntType::Long => IntType::ULong,
         IntType::LLong => IntType::ULLong,
-        IntType::UChar => IntType::UChar,
-        IntType::UShort => IntType::UShort,
-        IntType::UInt => IntType::UInt,
-        IntType::ULong => IntType::ULong,
-        IntType::ULLong => IntType::ULLong,
+        IntType::UChar | IntType::UShort | IntType::UInt | IntType::ULong | IntType::ULLong => t,
     }
 }
 
@@ -128,17 +119,14 @@ fn is_signed(t: IntType) -> bool
     ensures { result ≡ integer.is_signed t }
 {
     match t {
-        IntType::Char => true,
-        IntType::SChar => true,
-        IntType::Short => true,
-        IntType::Int => true,
-        IntType::Long => true,
-        IntType::LLong => true,
-        IntType::UChar => false,
-        IntType::UShort => false,
-        IntType::UInt => false,
-        IntType::ULong => false,
-        IntType::ULLong => false,
+        IntType::Char
+        | IntType::SChar
+        | IntType::Short
+        | IntType::Int
+        | IntType::Long
+        | IntType::LLong => true,
+        IntType::UChar | IntType::UShort | IntType::UInt | IntType::ULong | IntType::ULLong =>
+            false,
     }
 }
 
@@ -147,17 +135,11 @@ fn rank(t: IntType) -> u8
     ensures { result ≡ conversion.rank t }
 {
     match t {
-        IntType::Char => 1,
-        IntType::SChar => 1,
-        IntType::UChar => 1,
-        IntType::Short => 2,
-        IntType::UShort => 2,
-        IntType::Int => 3,
-        IntType::UInt => 3,
-        IntType::Long => 4,
-        IntType::ULong => 4,
-        IntType::LLong => 5,
-        IntType::ULLong => 5,
+        IntType::Char | IntType::SChar | IntType::UChar => 1,
+        IntType::Short | IntType::UShort => 2,
+        IntType::Int | IntType::UInt => 3,
+        IntType::Long | IntType::ULong => 4,
+        IntType::LLong | IntType::ULLong => 5,
     }
 }
 
@@ -166,17 +148,10 @@ fn width(t: IntType) -> u8
     ensures { result ≡ integer.width t }
 {
     match t {
-        IntType::Char => 8,
-        IntType::SChar => 8,
-        IntType::UChar => 8,
-        IntType::Short => 16,
-        IntType::UShort => 16,
-        IntType::Int => 32,
-        IntType::UInt => 32,
-        IntType::Long => 64,
-        IntType::ULong => 64,
-        IntType::LLong => 64,
-        IntType::ULLong => 64,
+        IntType::Char | IntType::SChar | IntType::UChar => 8,
+        IntType::Short | IntType::UShort => 16,
+        IntType::Int | IntType::UInt => 32,
+        IntType::Long | IntType::ULong | IntType::LLong | IntType::ULLong => 64,
     }
 }
 
@@ -185,17 +160,10 @@ fn count_of(t: IntType) -> i128
     ensures { result ≡ pos (2 ^ integer.width t) }
 {
     match t {
-        IntType::Char => 1 << 8,
-        IntType::SChar => 1 << 8,
-        IntType::UChar => 1 << 8,
-        IntType::Short => 1 << 16,
-        IntType::UShort => 1 << 16,
-        IntType::Int => 1 << 32,
-        IntType::UInt => 1 << 32,
-        IntType::Long => 1 << 64,
-        IntType::ULong => 1 << 64,
-        IntType::LLong => 1 << 64,
-        IntType::ULLong => 1 << 64,
+        IntType::Char | IntType::SChar | IntType::UChar => 1 << 8,
+        IntType::Short | IntType::UShort => 1 << 16,
+        IntType::Int | IntType::UInt => 1 << 32,
+        IntType::Long | IntType::ULong | IntType::LLong | IntType::ULLong => 1 << 64,
     }
 }
 
@@ -204,16 +172,13 @@ fn greatest(t: IntType) -> u64
     ensures { result ≡ integer.greatest t }
 {
     match t {
-        IntType::Char => 0x7f,
-        IntType::SChar => 0x7f,
+        IntType::Char | IntType::SChar => 0x7f,
         IntType::UChar => 0xff,
         IntType::Short => 0x7fff,
         IntType::UShort => 0xffff,
         IntType::Int => 0x7fff_ffff,
         IntType::UInt => 0xffff_ffff,
-        IntType::Long => i64::MAX as u64,
-        IntType::ULong => u64::MAX,
-        IntType::LLong => i64::MAX as u64,
-        IntType::ULLong => u64::MAX,
+        IntType::Long | IntType::LLong => 0x7fff_ffff_ffff_ffff,
+        IntType::ULong | IntType::ULLong => 0xffff_ffff_ffff_ffff,
     }
 }

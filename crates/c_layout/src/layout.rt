@@ -6,7 +6,6 @@ ghost use Rattle.c_syntax.specs.Program.{member_tree, structdef_tree};
 ghost use Rattle.c_layout.specs.Integer as integer;
 ghost use Rattle.c_layout.specs.Layout as layout;
 ghost use Rattle.c_layout.specs.Layout.{align_in, offset_named, padded, size_in, sized, space_by, spaces_by, strictest, struct_space, struct_within};
-ghost use Rattle.c_layout.specs.Rank.{AreNamed, NamesBelow, NoneHoldsItself};
 ghost use Rattle.c_layout.specs.Kept.{IsKept, element, element_count, element_space, kept};
 
 use c_syntax::{CType, IntType, Member, StructDef, StructDefs};
@@ -34,27 +33,26 @@ struct Room {
     align: u64,
 }
 
-/// The size of the type. Each struct number in it and in the structs is that of a struct, and no
-/// struct holds itself by its members.
+/// The size of the type. The answer has this meaning where each struct number in the type and in
+/// the structs is that of a struct, and no struct holds itself by its members.
 pub fn size_of(ty: &CType, structs: &StructDefs) -> Sized
-    requires type_named { NamesBelow (length structs.now) (ctype_tree ty.now) }
-    requires structs_named { AreNamed (map structdef_tree structs.now) }
-    requires founded { NoneHoldsItself (map structdef_tree structs.now) }
     ensures { result ≡ sized (size_in (map structdef_tree structs.now) (ctype_tree ty.now)) }
 {
     let structs = structs.as_slice();
     match room_of(ty, structs, structs.len()).size {
         None => Sized::Incomplete,
-        Some(size) => if size > GREATEST_SIZE { Sized::Oversize } else { Sized::Fits(size) },
+        Some(size) => if size > GREATEST_SIZE {
+            Sized::Oversize
+        } else {
+            Sized::Fits(size)
+        },
     }
 }
 
-/// The alignment of the type in bytes, which is 1 for a type that is incomplete. Each struct number
-/// in it and in the structs is that of a struct, and no struct holds itself by its members.
+/// The alignment of the type in bytes, which is 1 for a type that is incomplete. The answer has this
+/// meaning where each struct number in the type and in the structs is that of a struct, and no
+/// struct holds itself by its members.
 pub fn align_of(ty: &CType, structs: &StructDefs) -> u64
-    requires type_named { NamesBelow (length structs.now) (ctype_tree ty.now) }
-    requires structs_named { AreNamed (map structdef_tree structs.now) }
-    requires founded { NoneHoldsItself (map structdef_tree structs.now) }
     ensures { result ≡ align_in (map structdef_tree structs.now) (ctype_tree ty.now) }
 {
     let structs = structs.as_slice();
@@ -100,9 +98,7 @@ fn element_room(ty: &CType, structs: &[StructDef], depth: usize) -> Room
         } else {
             members_room(members_of(structs, *n), structs, depth - 1)
         },
-        CType::Void => no_room(),
-        CType::Array(_, _) => no_room(),
-        CType::Function(_) => no_room(),
+        CType::Void | CType::Array(_, _) | CType::Function(_) => no_room(),
     }
 }
 
@@ -148,11 +144,8 @@ fn element_of(ty: &CType) -> &CType
 {
     match ty {
         CType::Array(of, _) => element_of(&of.ty),
-        CType::Void => ty,
-        CType::Int(_) => ty,
-        CType::Pointer(_) => ty,
-        CType::Struct(_) => ty,
-        CType::Function(_) => ty,
+        CType::Void | CType::Int(_) | CType::Pointer(_) | CType::Struct(_) | CType::Function(_) =>
+            ty,
     }
 }
 
@@ -162,11 +155,8 @@ fn count_of(ty: &CType) -> u64
 {
     match ty {
         CType::Array(of, n) => product(*n, count_of(&of.ty)),
-        CType::Void => 1,
-        CType::Int(_) => 1,
-        CType::Pointer(_) => 1,
-        CType::Struct(_) => 1,
-        CType::Function(_) => 1,
+        CType::Void | CType::Int(_) | CType::Pointer(_) | CType::Struct(_) | CType::Function(_) =>
+            1,
     }
 }
 
@@ -258,16 +248,9 @@ fn bytes(t: IntType) -> u64
     ensures few { result ≤ 8 }
 {
     match t {
-        IntType::Char => 1,
-        IntType::SChar => 1,
-        IntType::UChar => 1,
-        IntType::Short => 2,
-        IntType::UShort => 2,
-        IntType::Int => 4,
-        IntType::UInt => 4,
-        IntType::Long => 8,
-        IntType::ULong => 8,
-        IntType::LLong => 8,
-        IntType::ULLong => 8,
+        IntType::Char | IntType::SChar | IntType::UChar => 1,
+        IntType::Short | IntType::UShort => 2,
+        IntType::Int | IntType::UInt => 4,
+        IntType::Long | IntType::ULong | IntType::LLong | IntType::ULLong => 8,
     }
 }

@@ -39,11 +39,11 @@ members_end-loop-member-preserved t c =
     let from = ap kept c.loop-member.invariant.end ∙ kept_twice at in
     record {
       end = c.end_after-end.ensures at (space_by struct (ctype_tree m.ty)) from c.room_of-room.ensures.kept
-        ∙ ap kept (sym (fold_members member_end 0 struct members i m index c.member-item.is));
+          ∙ ap kept (sym (fold_members member_end 0 struct members i m index c.member-item.is));
       align = c.max-align.ensures
-        ∙ ap (λ align. max align c.room_of-room.result.align) c.loop-member.invariant.align
-        ∙ ap (max (fold (λ align space. max align space.align) 1 before)) c.room_of-room.ensures.kept.align
-        ∙ sym (fold_members (λ align space. max align space.align) 1 struct members i m index c.member-item.is);
+          ∙ ap (λ align. max align c.room_of-room.result.align) c.loop-member.invariant.align
+          ∙ ap (max (fold (λ align space. max align space.align) 1 before)) c.room_of-room.ensures.kept.align
+          ∙ sym (fold_members (λ align space. max align space.align) 1 struct members i m index c.member-item.is);
       aligned = omega arith;
       narrow = omega arith;
     }
@@ -68,7 +68,7 @@ members_room-returns-clause-kept t c =
     let full : 0 < length spaces = simp length-map some in
     let at = members_end spaces in
     let size = c.padded_end-size.ensures.value at (ap kept c.members_end-end.ensures.end ∙ kept_twice at)
-      ∙ ap (λ align. kept (padded at align)) c.members_end-end.ensures.strictest in
+    ∙ ap (λ align. kept (padded at align)) c.members_end-end.ensures.strictest in
     kept_as _ _ (struct_space spaces) (record { size = ap Some size; align = c.members_end-end.ensures.strictest }) (sym (struct_space-full spaces full))
 
 pub room_of-returns-clause-kept : goal.room_of-returns-clause-kept
