@@ -254,3 +254,180 @@ fn bytes(t: IntType) -> u64
         IntType::Long | IntType::ULong | IntType::LLong | IntType::ULLong => 8,
     }
 }
+
+#[cfg(test)]
+mod tests {
+    use super::*;
+    use c_syntax::{Members, Name, Target};
+    use std::alloc::{AllocError, Global};
+    use std::test::Fail;
+
+    const CHAR: CType = CType::Int(IntType::Char);
+
+    const SHORT: CType = CType::Int(IntType::Short);
+
+    const INT: CType = CType::Int(IntType::Int);
+
+    const LONG: CType = CType::Int(IntType::Long);
+
+    fn array(alloc: Global, ty: CType, n: u64) -> Result<CType, AllocError> {
+        let of = Box::new(
+            alloc,
+            Target {
+                ty,
+                is_const: false,
+            },
+        )?;
+        Ok(CType::Array(of, n))
+    }
+
+    fn pointer(alloc: Global, ty: CType) -> Result<CType, AllocError> {
+        let to = Box::new(alloc, Target { ty, is_const: true })?;
+        Ok(CType::Pointer(to))
+    }
+
+    fn member(alloc: Global, name: &str, ty: CType, offset: u64) -> Result<Member, AllocError> {
+        let bytes = Vec::from_slice(alloc, name.as_bytes())?;
+        Ok(Member {
+            name: Name::from_vec(bytes),
+            ty,
+            offset,
+        })
+    }
+
+    fn definition(alloc: Global, members: Vec<Member>, size: u64, align: u64) -> StructDef {
+        StructDef {
+            tag: Name::new(alloc),
+            members: Members::from_vec(members),
+            size,
+            align,
+        }
+    }
+
+    // struct { char c; int k; }
+    fn pair(alloc: Global) -> Result<StructDef, AllocError> {
+        let mut members = Vec::new(alloc);
+        members.push(member(alloc, "c", CHAR, 0)?)?;
+        members.push(member(alloc, "k", INT, 4)?)?;
+        Ok(definition(alloc, members, 8, 4))
+    }
+
+    // struct { FIRST a; SECOND b; THIRD c; }
+    fn triple(alloc: Global, a: CType, b: CType, c: CType) -> Result<StructDef, AllocError> {
+        let mut members = Vec::new(alloc);
+        members.push(member(alloc, "a", a, 0)?)?;
+        members.push(member(alloc, "b", b, 0)?)?;
+        members.push(member(alloc, "c", c, 0)?)?;
+        Ok(definition(alloc, members, 0, 0))
+    }
+
+    // Structs 0 to 7.
+    fn structs(alloc: Global) -> Result<StructDefs, AllocError> {
+        let mut defs = Vec::new(alloc);
+        defs.push(pair(alloc)?)?;
+        defs.push(triple(alloc, CHAR, SHORT, CHAR)?)?;
+        defs.push(triple(alloc, CHAR, LONG, CHAR)?)?;
+        defs.push(triple(alloc, CType::Struct(0), CType::Struct(4), CHAR)?)?;
+        let pairs = array(alloc, CType::Struct(0), 3)?;
+        defs.push(triple(alloc, CHAR, pairs, CHAR)?)?;
+        defs.push(definition(alloc, Vec::new(alloc), 0, 0))?;
+        let most = array(alloc, CHAR, (1 << 40) - 2)?;
+        defs.push(triple(alloc, CHAR, most, CHAR)?)?;
+        let all = array(alloc, CHAR, 1 << 40)?;
+        let own = pointer(alloc, CType::Struct(7))?;
+        defs.push(triple(alloc, own, all, CHAR)?)?;
+        Ok(StructDefs::from_vec(defs))
+    }
+
+    #[test]
+    fn sizes_of_structs(rt: HostRuntime) -> Result<(), Fail> {
+        let structs = structs(rt.alloc())?;
+        let rows = [
+            (0, Sized::Fits(8), 4),
+            (1, Sized::Fits(6), 2),
+            (2, Sized::Fits(24), 8),
+            (3, Sized::Fits(44), 4),
+            (4, Sized::Fits(32), 4),
+            (5, Sized::Incomplete, 1),
+            (6, Sized::Fits(1 << 40), 1),
+            (7, Sized::Oversize, 8),
+        ];
+        for (n, size, align) in rows {
+            let ty = CType::Struct(n);
+            assert_eq!(rt; size_of(&ty, &structs), size, "struct {n}");
+            assert_eq!(rt; align_of(&ty, &structs), align, "struct {n}");
+        }
+        Ok(())
+    }
+
+    #[test]
+    fn sizes_of_integers(rt: HostRuntime) {
+        let structs = StructDefs::new(rt.alloc());
+        let rows = [
+            (IntType::Char, 1),
+            (IntType::SChar, 1),
+            (IntType::UChar, 1),
+            (IntType::Short, 2),
+            (IntType::UShort, 2),
+            (IntType::Int, 4),
+            (IntType::UInt, 4),
+            (IntType::Long, 8),
+            (IntType::ULong, 8),
+            (IntType::LLong, 8),
+            (IntType::ULLong, 8),
+        ];
+        for (t, bytes) in rows {
+            let ty = CType::Int(t);
+            assert_eq!(rt; size_of(&ty, &structs), Sized::Fits(bytes), "{t:?}");
+            assert_eq!(rt; align_of(&ty, &structs), bytes, "{t:?}");
+        }
+    }
+
+    #[test]
+    fn sizes_of_arrays(rt: HostRuntime) -> Result<(), Fail> {
+        let alloc = rt.alloc();
+        let structs = structs(alloc)?;
+        let rows = [
+            (array(alloc, SHORT, 7)?, Sized::Fits(14), 2),
+            (array(alloc, array(alloc, INT, 3)?, 5)?, Sized::Fits(60), 4),
+            (array(alloc, CType::Struct(2), 2)?, Sized::Fits(48), 8),
+            (array(alloc, CHAR, 1 << 40)?, Sized::Fits(1 << 40), 1),
+            (array(alloc, CHAR, (1 << 40) + 1)?, Sized::Oversize, 1),
+            (array(alloc, LONG, u64::MAX)?, Sized::Oversize, 8),
+            (
+                array(alloc, array(alloc, INT, 1 << 62)?, 1 << 62)?,
+                Sized::Oversize,
+                4,
+            ),
+            (array(alloc, CType::Struct(5), 2)?, Sized::Incomplete, 1),
+            (
+                array(alloc, array(alloc, CType::Void, 2)?, 2)?,
+                Sized::Incomplete,
+                1,
+            ),
+            (pointer(alloc, CType::Void)?, Sized::Fits(8), 8),
+            (
+                array(alloc, pointer(alloc, CType::Struct(5))?, 3)?,
+                Sized::Fits(24),
+                8,
+            ),
+            (CType::Void, Sized::Incomplete, 1),
+            (CType::Function(0), Sized::Incomplete, 1),
+        ];
+        for (ty, size, align) in &rows {
+            assert_eq!(rt; size_of(ty, &structs), *size, "{ty:?}");
+            assert_eq!(rt; align_of(ty, &structs), *align, "{ty:?}");
+        }
+        Ok(())
+    }
+
+    #[test]
+    fn offsets(rt: HostRuntime) -> Result<(), Fail> {
+        let pair = pair(rt.alloc())?;
+        assert_eq!(rt; offset_of(&pair, b"c"), Some(0));
+        assert_eq!(rt; offset_of(&pair, b"k"), Some(4));
+        assert_eq!(rt; offset_of(&pair, b"kk"), None);
+        assert_eq!(rt; offset_of(&pair, b""), None);
+        Ok(())
+    }
+}
