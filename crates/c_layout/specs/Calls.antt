@@ -46,6 +46,7 @@ unfoldable mutual
   calls_among exprs.none = []
   calls_among (exprs.more item rest) = calls_of item ++ calls_among rest
 
+-- the calls in an item of an initialiser
 abbrev pub init_calls : TInitTree → List PlacedCall
 init_calls (Store offset ty value) = calls_of value
 init_calls (Copy offset extent source) = calls_of source

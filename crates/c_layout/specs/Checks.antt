@@ -76,6 +76,7 @@ order_checks = plain_check NullUse ∷ plain_check Dangling ∷ pair_check 1 ∷
 abbrev pub equality_checks : List Check
 equality_checks = plain_check Dangling ∷ pair_check 0 ∷ []
 
+-- a comparison of pointers
 abbrev pub pointer_checks : Comparison → List Check
 pointer_checks Less = order_checks
 pointer_checks Greater = order_checks
@@ -134,6 +135,7 @@ write_checks size align = read_checks size align ++ plain_check ReadOnly ∷ []
 abbrev pub load_checks : CTypeTree → List Check
 load_checks ty = read_checks (scalar_bytes ty) (scalar_bytes ty) ++ plain_check Indeterminate ∷ plain_check Fragment ∷ []
 
+-- a scalar of this type that is stored
 abbrev pub store_checks : CTypeTree → List Check
 store_checks ty = write_checks (scalar_bytes ty) (scalar_bytes ty)
 
@@ -142,6 +144,7 @@ pub record PlacedCheck : Type 0 where
   pub pos : Pos
   pub check : Check
 
+-- checks that are all made at one position
 abbrev pub all_at : Pos → List Check → List PlacedCheck
 all_at at checks = map (λ check. record { pos = at; check = check }) checks
 
@@ -161,6 +164,7 @@ source_checks extent source = flat_map (λ at. all_at at (read_checks extent.siz
 abbrev pub is_main : TProgramTree → ℕ → Bool
 is_main program f = unwrap_or (option_map (λ function. bytes_eq function.name (codes "main")) (slice_get program.functions f)) false
 
+-- C11 6.2.5p19
 abbrev pub is_void : CTypeTree → Bool
 is_void Void = true
 is_void ty = false

@@ -5,6 +5,7 @@ use Rattle.c_layout.specs.Integer.{bytes}
 use Rattle.c_layout.specs.Layout.{Space, no_space, scalar_space}
 use Rattle.c_layout.specs.declared.layout.Room.{Room}
 
+-- a size as it is kept
 abbrev pub kept : ℕ → ℕ
 kept n = min n (2 ^ 40 + 1)
 

@@ -82,6 +82,7 @@ space_of structs ty = space_by (struct_within (length structs) structs) ty
 abbrev pub size_in : List StructDefTree → CTypeTree → Option ℕ
 size_in structs ty = (space_of structs ty).size
 
+-- the alignment
 abbrev pub align_in : List StructDefTree → CTypeTree → ℕ
 align_in structs ty = (space_of structs ty).align
 

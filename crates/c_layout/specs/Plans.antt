@@ -14,6 +14,7 @@ pub record IsStart (function : TFunctionTree) : Type 0 where
   pub params : function.params ≡ []
   pub result : function.result ≡ types.Int ints.Int
 
+-- the function of this number has a body
 abbrev pub HasBody : TProgramTree → ℕ → Type 0
 HasBody program f = IsSomeAnd (slice_get program.functions f) (λ function. IsSome function.body)
 
@@ -21,6 +22,7 @@ HasBody program f = IsSomeAnd (slice_get program.functions f) (λ function. IsSo
 abbrev pub IsOrdered : Plan → ℕ → TFunctionTree → Type 0
 IsOrdered plan f function = count_by (λ x. x == f) plan.order ≡ (if is_some function.body then 1 else 0)
 
+-- where to begin, and the functions with a body, each after those that it calls; chains of calls are short, and no goto leads into a block
 pub record IsPlanFor (program : TProgramTree) (plan : Plan) : Type 0 where
   pub main : IsSomeAnd (slice_get program.functions plan.main) IsStart
   pub order_there : All (λ f. f < length program.functions) plan.order

@@ -21,6 +21,7 @@ abbrev pub IsInteger : CTypeTree → Type 0
 IsInteger (Int t) = Unit {0}
 IsInteger ty = ⊥
 
+-- C11 6.2.5p20
 abbrev pub IsPointer : CTypeTree → Type 0
 IsPointer (Pointer to is_const) = Unit {0}
 IsPointer ty = ⊥
@@ -31,6 +32,7 @@ IsScalar (Int t) = Unit {0}
 IsScalar (Pointer to is_const) = Unit {0}
 IsScalar ty = ⊥
 
+-- a pointer to void, const or not (C11 6.2.5p28)
 abbrev pub IsVoidPointer : CTypeTree → Type 0
 IsVoidPointer (Pointer Void is_const) = Unit {0}
 IsVoidPointer ty = ⊥

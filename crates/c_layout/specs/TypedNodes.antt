@@ -18,10 +18,12 @@ pub record Scope : Type 0 where
   pub program : TProgramTree
   pub live : List ℕ
 
+-- C11 6.2.5p20
 abbrev pub IsArray : CTypeTree → Type 0
 IsArray (Array of is_const n) = Unit {0}
 IsArray ty = ⊥
 
+-- C11 6.2.5p20
 abbrev pub IsStruct : CTypeTree → Type 0
 IsStruct (Struct n) = Unit {0}
 IsStruct ty = ⊥
@@ -34,6 +36,7 @@ IsModifiable place = tlvalue_is_const place ≡ false
 abbrev pub object_type : TProgramTree → ℕ → CTypeTree
 object_type program o = unwrap_or (option_map (λ object. object.ty) (slice_get program.objects o)) Void
 
+-- the types of arguments
 unfoldable pub types_of : TExprTrees → List CTypeTree
 types_of exprs.none = []
 types_of (exprs.more item rest) = texpr_type item ∷ types_of rest
@@ -52,6 +55,7 @@ CallRow program function ty args = (ty ≡ function.result) × ArgumentsRow (map
 abbrev pub VarRow : Scope → ℕ → CTypeTree → Type 0
 VarRow scope o ty = IsSomeAnd (slice_get scope.program.objects o) (λ object. (ty ≡ object.ty) × (IsTrue object.is_static ⊎ Contains scope.live o))
 
+-- every node of an expression has the operand types and the type of its row
 unfoldable mutual
   pub IsTypedExpr : Scope → TExprTree → Type 0
   IsTypedExpr scope (Const at ty value) = HasNumber ty value
@@ -115,9 +119,11 @@ in_block objects spot = record spot { scope = record { program = spot.scope.prog
 abbrev pub in_switch : List ℕ → Spot → Spot
 in_switch objects spot = record (in_block objects spot) { breaks = true; cases = true }
 
+-- the body of a loop
 abbrev pub in_loop : Spot → Spot
 in_loop spot = record spot { breaks = true; continues = true; cases = false }
 
+-- a block, which each substatement of an `if` and a loop is
 abbrev pub IsBlock : TStmtTree → Type 0
 IsBlock (Block at kind objects items) = Unit {0}
 IsBlock s = ⊥
@@ -129,6 +135,7 @@ IsHead (Declare at object inits zeroes_rest) = Unit {0}
 IsHead (Static at object) = Unit {0}
 IsHead s = ⊥
 
+-- what a `for` begins with
 unfoldable pub AreHead : TStmtTrees → Type 0
 AreHead none = Unit {0}
 AreHead (more item rest) = IsHead item × AreHead rest
@@ -142,6 +149,7 @@ pub record SwitchRow (value : CTypeTree) (items : TStmtTrees) : Type 0 where
   pub distinct : AllPairs (λ a b. a ≢ b) (cases_among items)
   pub one_default : defaults_among items ≤ 1
 
+-- every node of a statement has the types that it asks for, and stands where it may
 unfoldable mutual
   pub IsTypedStmt : Spot → TStmtTree → Type 0
   IsTypedStmt spot (Empty at) = Unit {0}

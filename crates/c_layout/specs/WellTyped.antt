@@ -66,6 +66,7 @@ IsListed program o object = count_by (λ x. x == o) (listed program) ≡ (if obj
 abbrev pub IsGivenValue : TProgramTree → ℕ → ObjectTree → Type 0
 IsGivenValue program o object = count_by (λ initial. initial.object == o) program.initial ≡ (if object.is_static then 1 else 0)
 
+-- an object that is there, of static duration (C11 6.2.4p3)
 abbrev pub IsStaticObject : TProgramTree → ℕ → Type 0
 IsStaticObject program o = IsSomeAnd (slice_get program.objects o) (λ object. IsTrue object.is_static)
 
@@ -84,6 +85,7 @@ pub record IsTypedInitial (program : TProgramTree) (initial : Initial) : Type 0 
 abbrev pub EachOf : {A : Type 0} → List A → (ℕ → A → Type 0) → Type 0
 EachOf xs P = (k : ℕ) → IfSome (slice_get xs k) (P k)
 
+-- what it names is there, its types and sizes are right, each automatic object stands in one block, and each object of static duration has one initial value
 pub record IsWellTyped (program : TProgramTree) : Type 0 where
   pub named : AreNamed program.structs
   pub founded : NoneHoldsItself program.structs

@@ -263,6 +263,7 @@ mod tests {
             (0, false, true, 2, Some(ULLong)),
         ];
         for (value, decimal, unsigned, longs, ty) in rows {
+            assert!(rt; longs <= 2);
             assert_eq!(rt;
                 literal_type(value, decimal, unsigned, longs),
                 ty,

@@ -177,8 +177,7 @@ fn no_room() -> Room
 }
 
 fn scalar_room(size: u64) -> Room
-    requires some { 0 < size }
-    requires few { size ≤ 8 }
+    requires { size ≤ 8 }
     ensures kept { IsKept result (layout.scalar_space size) }
     ensures aligned { result.align ≡ size }
 {
