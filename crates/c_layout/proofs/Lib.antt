@@ -1,0 +1,5 @@
+pub mod Wrapping
+pub mod Keeping
+pub mod Spaces
+pub mod Offsets
+pub mod Depth

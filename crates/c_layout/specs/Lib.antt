@@ -1,0 +1,13 @@
+pub mod Integer
+pub mod Conversion
+pub mod Layout
+pub mod Rank
+pub mod Kept
+pub mod RowTypes
+pub mod ProperTypes
+pub mod Jumps
+pub mod TypedNodes
+pub mod WellTyped
+pub mod Calls
+pub mod Plans
+pub mod Checks

@@ -1,0 +1,33 @@
+-- Which structs types name, and that no struct holds itself.
+use Rattle.std.specs.Prelude.{ℕ, ◌<◌, Option, Some, None, IfSome, List, All, length}
+use Rattle.c_syntax.specs.Types.{CTypeTree, Void, Int, Pointer, Array, Struct, Function}
+use Rattle.c_syntax.specs.Program.{StructDefTree}
+use Rattle.c_layout.specs.Layout.{members_of}
+
+-- each struct number in the type is below the count
+abbrev pub NamesBelow : ℕ → CTypeTree → Type 0
+NamesBelow count Void = Unit {0}
+NamesBelow count (Int t) = Unit {0}
+NamesBelow count (Pointer to is_const) = NamesBelow count to
+NamesBelow count (Array of is_const n) = NamesBelow count of
+NamesBelow count (Struct n) = n < count
+NamesBelow count (Function n) = Unit {0}
+
+-- each struct number in the members' types names a struct of the list
+abbrev pub AreNamed : List StructDefTree → Type 0
+AreNamed structs = All (λ def. All (λ member. NamesBelow (length structs) member.ty) def.members) structs
+
+-- the struct that an object of the type is, or has as its elements
+abbrev pub held : CTypeTree → Option ℕ
+held Void = None
+held (Int t) = None
+held (Pointer to is_const) = None
+held (Array of is_const n) = held of
+held (Struct n) = Some n
+held (Function n) = None
+
+-- no struct holds itself, directly or through others: each has a rank, of as many as there are structs, above those of the structs that its members hold
+pub record NoneHoldsItself (structs : List StructDefTree) : Type 0 where
+  pub rank : ℕ → ℕ
+  pub bounded : (n : ℕ) → n < length structs → rank n < length structs
+  pub falls : (n : ℕ) → n < length structs → All (λ member. IfSome (held member.ty) (λ k. rank k < rank n)) (members_of structs n)

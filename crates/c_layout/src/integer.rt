@@ -1,0 +1,303 @@
+// Conversions of integer types and numbers.
+
+ghost use Rattle.std.specs.Prelude.{◌≡◌, ◌≤◌, ◌^◌, pos, true, false, nat_le, find};
+ghost use Rattle.c_layout.specs.Conversion as conversion;
+ghost use Rattle.c_layout.specs.Conversion.{balanced, common, literal_type_of, mixed, promoted, unsigned_of};
+ghost use Rattle.c_layout.specs.Integer as integer;
+ghost use Rattle.c_layout.specs.Integer.{wrapped};
+
+use c_syntax::IntType;
+
+/// The type that the integer promotions give.
+pub fn promote(t: IntType) -> IntType
+    ensures { result ≡ promoted t }
+{
+    match t {
+        IntType::Char
+        | IntType::SChar
+        | IntType::UChar
+        | IntType::Short
+        | IntType::UShort
+        | IntType::Int => IntType::Int,
+        IntType::UInt | IntType::Long | IntType::ULong | IntType::LLong | IntType::ULLong => t,
+    }
+}
+
+/// The type to which the usual arithmetic conversions bring operands of these two types.
+pub fn balance(a: IntType, b: IntType) -> IntType
+    ensures { result ≡ balanced a b }
+{
+    common_type(promote(a), promote(b))
+}
+
+/// The type of an integer constant of this value, or `None` where no type of its row has the
+/// value. `unsigned` tells that it has a `u`, and `longs`, from 0 to 2, how many times an `l`.
+pub fn literal_type(value: u64, decimal: bool, unsigned: bool, longs: u8) -> Option<IntType>
+    requires { longs ≤ 2 }
+    ensures { result ≡ literal_type_of value decimal unsigned longs }
+{
+    let from = usize::from(longs);
+    if unsigned {
+        let row = [IntType::UInt, IntType::ULong, IntType::ULLong];
+        first_with(&row[from..], value)
+    } else if decimal {
+        let row = [IntType::Int, IntType::Long, IntType::LLong];
+        first_with(&row[from..], value)
+    } else {
+        let row = [
+            IntType::Int,
+            IntType::UInt,
+            IntType::Long,
+            IntType::ULong,
+            IntType::LLong,
+            IntType::ULLong,
+        ];
+        first_with(&row[2 * from..], value)
+    }
+}
+
+/// The number of the type that is `n` modulo 2 to the type's width.
+pub fn wrap(t: IntType, n: i128) -> i128
+    ensures { result ≡ wrapped t n }
+{
+    let count = count_of(t);
+    let low = n.rem_euclid(count);
+    if low > i128::from(greatest(t)) {
+        low - count
+    } else {
+        low
+    }
+}
+
+// The first type of the row that has the value.
+fn first_with(row: &[IntType], value: u64) -> Option<IntType>
+    ensures { result ≡ find (λ t. nat_le value (integer.greatest t)) row.now }
+{
+    row.iter().copied().find(|t| value <= greatest(*t))
+}
+
+// What two promoted types come to.
+fn common_type(a: IntType, b: IntType) -> IntType
+    ensures { result ≡ common a b }
+{
+    match (is_signed(a), is_signed(b)) {
+        (true, false) => mixed_type(a, b),
+        (false, true) => mixed_type(b, a),
+        _ => if rank(a) < rank(b) { b } else { a },
+    }
+}
+
+// What a signed and an unsigned promoted type come to.
+fn mixed_type(signed: IntType, unsigned: IntType) -> IntType
+    requires has_sign { integer.is_signed signed ≡ true }
+    requires has_none { integer.is_signed unsigned ≡ false }
+    ensures { result ≡ mixed signed unsigned }
+{
+    if rank(signed) <= rank(unsigned) {
+        unsigned
+    } else if width(signed) > width(unsigned) {
+        signed
+    } else {
+        unsigned_type(signed)
+    }
+}
+
+fn unsigned_type(t: IntType) -> IntType
+    ensures { result ≡ unsigned_of t }
+{
+    match t {
+        IntType::Char | IntType::SChar => IntType::UChar,
+        IntType::Short => IntType::UShort,
+        IntType::Int => IntType::UInt,
+        IntType::Long => IntType::ULong,
+        IntType::LLong => IntType::ULLong,
+        IntType::UChar | IntType::UShort | IntType::UInt | IntType::ULong | IntType::ULLong => t,
+    }
+}
+
+fn is_signed(t: IntType) -> bool
+    ensures { result ≡ integer.is_signed t }
+{
+    match t {
+        IntType::Char
+        | IntType::SChar
+        | IntType::Short
+        | IntType::Int
+        | IntType::Long
+        | IntType::LLong => true,
+        IntType::UChar | IntType::UShort | IntType::UInt | IntType::ULong | IntType::ULLong =>
+            false,
+    }
+}
+
+// The conversion rank.
+fn rank(t: IntType) -> u8
+    ensures { result ≡ conversion.rank t }
+{
+    match t {
+        IntType::Char | IntType::SChar | IntType::UChar => 1,
+        IntType::Short | IntType::UShort => 2,
+        IntType::Int | IntType::UInt => 3,
+        IntType::Long | IntType::ULong => 4,
+        IntType::LLong | IntType::ULLong => 5,
+    }
+}
+
+// In bits.
+fn width(t: IntType) -> u8
+    ensures { result ≡ integer.width t }
+{
+    match t {
+        IntType::Char | IntType::SChar | IntType::UChar => 8,
+        IntType::Short | IntType::UShort => 16,
+        IntType::Int | IntType::UInt => 32,
+        IntType::Long | IntType::ULong | IntType::LLong | IntType::ULLong => 64,
+    }
+}
+
+// How many numbers the type has.
+fn count_of(t: IntType) -> i128
+    ensures { result ≡ pos (2 ^ integer.width t) }
+{
+    match t {
+        IntType::Char | IntType::SChar | IntType::UChar => 1 << 8,
+        IntType::Short | IntType::UShort => 1 << 16,
+        IntType::Int | IntType::UInt => 1 << 32,
+        IntType::Long | IntType::ULong | IntType::LLong | IntType::ULLong => 1 << 64,
+    }
+}
+
+// The greatest number.
+fn greatest(t: IntType) -> u64
+    ensures { result ≡ integer.greatest t }
+{
+    match t {
+        IntType::Char | IntType::SChar => 0x7f,
+        IntType::UChar => 0xff,
+        IntType::Short => 0x7fff,
+        IntType::UShort => 0xffff,
+        IntType::Int => 0x7fff_ffff,
+        IntType::UInt => 0xffff_ffff,
+        IntType::Long | IntType::LLong => 0x7fff_ffff_ffff_ffff,
+        IntType::ULong | IntType::ULLong => 0xffff_ffff_ffff_ffff,
+    }
+}
+
+#[cfg(test)]
+mod tests {
+    use super::*;
+    use c_syntax::IntType::{
+        Char, Int, LLong, Long, SChar, Short, UChar, UInt, ULLong, ULong, UShort,
+    };
+
+    #[test]
+    fn promotes(rt: HostRuntime) {
+        let rows = [
+            (Char, Int),
+            (SChar, Int),
+            (UChar, Int),
+            (Short, Int),
+            (UShort, Int),
+            (Int, Int),
+            (UInt, UInt),
+            (Long, Long),
+            (ULong, ULong),
+            (LLong, LLong),
+            (ULLong, ULLong),
+        ];
+        for (t, promoted) in rows {
+            assert_eq!(rt; promote(t), promoted, "{t:?}");
+        }
+    }
+
+    #[test]
+    fn balances(rt: HostRuntime) {
+        let rows = [
+            (Char, SChar, Int),
+            (Char, UChar, Int),
+            (Short, UShort, Int),
+            (Int, Int, Int),
+            (Int, UInt, UInt),
+            (Char, UInt, UInt),
+            (UShort, UInt, UInt),
+            (Int, Long, Long),
+            (UInt, Long, Long),
+            (UInt, ULong, ULong),
+            (Long, ULong, ULong),
+            (Long, LLong, LLong),
+            (UInt, LLong, LLong),
+            (ULong, LLong, ULLong),
+            (LLong, ULLong, ULLong),
+            (Short, ULLong, ULLong),
+            (ULong, ULLong, ULLong),
+        ];
+        for (a, b, balanced) in rows {
+            assert_eq!(rt; balance(a, b), balanced, "{a:?} and {b:?}");
+            assert_eq!(rt; balance(b, a), balanced, "{b:?} and {a:?}");
+        }
+    }
+
+    #[test]
+    fn literals(rt: HostRuntime) {
+        let rows = [
+            (0x7fff_ffff, true, false, 0, Some(Int)),
+            (0x8000_0000, true, false, 0, Some(Long)),
+            (0x7fff_ffff, false, false, 0, Some(Int)),
+            (0x8000_0000, false, false, 0, Some(UInt)),
+            (0xffff_ffff, false, false, 0, Some(UInt)),
+            (0x1_0000_0000, false, false, 0, Some(Long)),
+            (0x7fff_ffff_ffff_ffff, true, false, 0, Some(Long)),
+            (0x8000_0000_0000_0000, true, false, 0, None),
+            (0x8000_0000_0000_0000, false, false, 0, Some(ULong)),
+            (0xffff_ffff_ffff_ffff, false, false, 0, Some(ULong)),
+            (0xffff_ffff, true, true, 0, Some(UInt)),
+            (0x1_0000_0000, true, true, 0, Some(ULong)),
+            (0xffff_ffff_ffff_ffff, false, true, 0, Some(ULong)),
+            (0, true, false, 1, Some(Long)),
+            (0x8000_0000_0000_0000, true, false, 1, None),
+            (0x8000_0000_0000_0000, false, false, 1, Some(ULong)),
+            (0, true, true, 1, Some(ULong)),
+            (0, true, false, 2, Some(LLong)),
+            (0x8000_0000_0000_0000, true, false, 2, None),
+            (0x8000_0000_0000_0000, false, false, 2, Some(ULLong)),
+            (0, false, true, 2, Some(ULLong)),
+        ];
+        for (value, decimal, unsigned, longs, ty) in rows {
+            assert!(rt; longs <= 2);
+            assert_eq!(rt;
+                literal_type(value, decimal, unsigned, longs),
+                ty,
+                "{value}, {decimal}, {unsigned}, {longs}"
+            );
+        }
+    }
+
+    #[test]
+    fn wraps(rt: HostRuntime) {
+        let rows = [
+            (Char, 127, 127),
+            (Char, 128, -128),
+            (Char, -129, 127),
+            (SChar, 255, -1),
+            (UChar, 255, 255),
+            (UChar, 256, 0),
+            (UChar, -1, 255),
+            (Short, 0x8000, -0x8000),
+            (UShort, -1, 0xffff),
+            (Int, 0x7fff_ffff, 0x7fff_ffff),
+            (Int, 0x8000_0000, -0x8000_0000),
+            (Int, -0x8000_0001, 0x7fff_ffff),
+            (UInt, 0x1_0000_0000, 0),
+            (UInt, -1, 0xffff_ffff),
+            (Long, 0x8000_0000_0000_0000, -0x8000_0000_0000_0000),
+            (ULong, -1, 0xffff_ffff_ffff_ffff),
+            (LLong, -0x8000_0000_0000_0001, 0x7fff_ffff_ffff_ffff),
+            (LLong, i128::MIN, 0),
+            (ULLong, 0x1_0000_0000_0000_0000, 0),
+            (ULLong, i128::MAX, 0xffff_ffff_ffff_ffff),
+        ];
+        for (t, n, wrapped) in rows {
+            assert_eq!(rt; wrap(t, n), wrapped, "{n} as {t:?}");
+        }
+    }
+}

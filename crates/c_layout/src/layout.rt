@@ -1,0 +1,432 @@
+// Sizes, alignments and offsets of types.
+
+ghost use Rattle.std.specs.Prelude.{◌≡◌, ℕ, ◌+◌, ◌*◌, ◌^◌, ◌<◌, ◌≤◌, map, length, option_map, IfSome};
+ghost use Rattle.c_syntax.specs.Types.{ctype_tree};
+ghost use Rattle.c_syntax.specs.Program.{member_tree, structdef_tree};
+ghost use Rattle.c_layout.specs.Integer as integer;
+ghost use Rattle.c_layout.specs.Layout as layout;
+ghost use Rattle.c_layout.specs.Layout.{align_in, offset_named, padded, size_in, sized, space_by, spaces_by, strictest, struct_space, struct_within};
+ghost use Rattle.c_layout.specs.Kept.{IsKept, element, element_count, element_space, kept};
+
+use c_syntax::{CType, IntType, Member, StructDef, StructDefs};
+
+/// The size of a type in bytes.
+#[derive(Clone, Copy, Debug, PartialEq, Eq)]
+pub enum Sized {
+    Fits(u64),
+    /// Above 2 to the 40.
+    Oversize,
+    /// The type is void, a function, a struct without members, or an array of such elements.
+    Incomplete,
+}
+
+// The greatest size that is told.
+const GREATEST_SIZE: u64 = 1 << 40;
+
+// What stands for any size above that.
+const TOO_LARGE: u64 = GREATEST_SIZE + 1;
+
+// What an object of a type takes: its size, if the type is complete, and its alignment.
+#[derive(Clone, Copy)]
+struct Room {
+    size: Option<u64>,
+    align: u64,
+}
+
+/// The size of the type. The answer has this meaning where each struct number in the type and in
+/// the structs is that of a struct, and no struct holds itself by its members.
+pub fn size_of(ty: &CType, structs: &StructDefs) -> Sized
+    ensures { result ≡ sized (size_in (map structdef_tree structs.now) (ctype_tree ty.now)) }
+{
+    let structs = structs.as_slice();
+    match room_of(ty, structs, structs.len()).size {
+        None => Sized::Incomplete,
+        Some(size) => if size > GREATEST_SIZE {
+            Sized::Oversize
+        } else {
+            Sized::Fits(size)
+        },
+    }
+}
+
+/// The alignment of the type in bytes, which is 1 for a type that is incomplete. The answer has this
+/// meaning where each struct number in the type and in the structs is that of a struct, and no
+/// struct holds itself by its members.
+pub fn align_of(ty: &CType, structs: &StructDefs) -> u64
+    ensures { result ≡ align_in (map structdef_tree structs.now) (ctype_tree ty.now) }
+{
+    let structs = structs.as_slice();
+    room_of(ty, structs, structs.len()).align
+}
+
+/// The offset in bytes of the member of this name, or `None` where the struct has no such member.
+pub fn offset_of(def: &StructDef, name: &[u8]) -> Option<u64>
+    ensures { result ≡ offset_named (map member_tree def.now.members) name.now }
+{
+    let members = def.members.as_slice();
+    for member in members {
+        if member.name.as_slice() == name {
+            return Some(member.offset);
+        }
+    }
+    None
+}
+
+// What a type takes, where structs stand in one another at most so deep.
+#[cycle(rooms)]
+fn room_of(ty: &CType, structs: &[StructDef], depth: usize) -> Room
+    ensures kept { IsKept result (space_by (struct_within depth (map structdef_tree structs.now)) (ctype_tree ty.now)) }
+    ensures aligned { 0 < result.align }
+    ensures narrow { result.align ≤ 8 }
+{
+    let room = element_room(element_of(ty), structs, depth);
+    array_room(count_of(ty), room)
+}
+
+// What a type takes that is no array.
+#[cycle(rooms)]
+fn element_room(ty: &CType, structs: &[StructDef], depth: usize) -> Room
+    ensures kept { IsKept result (element_space (struct_within depth (map structdef_tree structs.now)) (ctype_tree ty.now)) }
+    ensures aligned { 0 < result.align }
+    ensures narrow { result.align ≤ 8 }
+{
+    match ty {
+        CType::Int(t) => scalar_room(bytes(*t)),
+        CType::Pointer(_) => scalar_room(8),
+        CType::Struct(n) => if depth == 0 {
+            no_room()
+        } else {
+            members_room(members_of(structs, *n), structs, depth - 1)
+        },
+        CType::Void | CType::Array(_, _) | CType::Function(_) => no_room(),
+    }
+}
+
+// What a struct with these members takes.
+#[cycle(rooms)]
+fn members_room(members: &[Member], structs: &[StructDef], depth: usize) -> Room
+    ensures kept { IsKept result (struct_space (spaces_by (struct_within depth (map structdef_tree structs.now)) (map member_tree members.now))) }
+    ensures aligned { 0 < result.align }
+    ensures narrow { result.align ≤ 8 }
+{
+    if members.is_empty() {
+        return no_room();
+    }
+    let (end, align) = members_end(members, structs, depth);
+    let size = padded_end(end, align);
+    Room {
+        size: Some(size),
+        align,
+    }
+}
+
+// Where the last of the members ends, and their strictest alignment.
+#[cycle(rooms)]
+fn members_end(members: &[Member], structs: &[StructDef], depth: usize) -> (u64, u64)
+    ensures end { result.0 ≡ kept (layout.members_end (spaces_by (struct_within depth (map structdef_tree structs.now)) (map member_tree members.now))) }
+    ensures strictest { result.1 ≡ strictest (spaces_by (struct_within depth (map structdef_tree structs.now)) (map member_tree members.now)) }
+    ensures aligned { 0 < result.1 }
+    ensures narrow { result.1 ≤ 8 }
+{
+    let mut end = 0;
+    let mut align: u64 = 1;
+    for member in members {
+        let room = room_of(&member.ty, structs, depth);
+        end = end_after(end, room);
+        align = align.max(room.align);
+    }
+    (end, align)
+}
+
+// The innermost element of an array of arrays; another type is its own.
+fn element_of(ty: &CType) -> &CType
+    ensures { ctype_tree result.now ≡ element (ctype_tree ty.now) }
+{
+    match ty {
+        CType::Array(of, _) => element_of(&of.ty),
+        CType::Void | CType::Int(_) | CType::Pointer(_) | CType::Struct(_) | CType::Function(_) =>
+            ty,
+    }
+}
+
+// How many of these elements it has.
+fn count_of(ty: &CType) -> u64
+    ensures { result ≡ kept (element_count (ctype_tree ty.now)) }
+{
+    match ty {
+        CType::Array(of, n) => product(*n, count_of(&of.ty)),
+        CType::Void | CType::Int(_) | CType::Pointer(_) | CType::Struct(_) | CType::Function(_) =>
+            1,
+    }
+}
+
+fn product(a: u64, b: u64) -> u64
+    ensures { (m n : ℕ) → kept a ≡ kept m → kept b ≡ kept n → result ≡ kept (m * n) }
+{
+    a.saturating_mul(b).min(TOO_LARGE)
+}
+
+fn no_room() -> Room
+    ensures kept { IsKept result layout.no_space }
+    ensures aligned { result.align ≡ 1 }
+{
+    Room {
+        size: None,
+        align: 1,
+    }
+}
+
+fn scalar_room(size: u64) -> Room
+    requires { size ≤ 8 }
+    ensures kept { IsKept result (layout.scalar_space size) }
+    ensures aligned { result.align ≡ size }
+{
+    Room {
+        size: Some(size),
+        align: size,
+    }
+}
+
+fn array_room(count: u64, room: Room) -> Room
+    ensures kept { (n : ℕ) (space : layout.Space) → count ≡ kept n → IsKept room space → IsKept result (layout.array_space n space) }
+    ensures aligned { result.align ≡ room.align }
+{
+    let size = match room.size {
+        None => None,
+        Some(size) => Some(product(count, size)),
+    };
+    Room {
+        size,
+        align: room.align,
+    }
+}
+
+// Where a member ends that stands after the first bytes.
+fn end_after(end: u64, room: Room) -> u64
+    requires aligned { 0 < room.align }
+    requires narrow { room.align ≤ 8 }
+    ensures { (at : ℕ) (space : layout.Space) → kept end ≡ kept at → IsKept room space → result ≡ kept (layout.member_end at space) }
+{
+    let size = room.size.unwrap_or(0).min(TOO_LARGE);
+    (padded_end(end, room.align) + size).min(TOO_LARGE)
+}
+
+// The next multiple of the alignment.
+fn padded_end(end: u64, align: u64) -> u64
+    requires aligned { 0 < align }
+    requires narrow { align ≤ 8 }
+    ensures value { (at : ℕ) → kept end ≡ kept at → result ≡ kept (padded at align) }
+    ensures small { result ≤ 2 ^ 40 + 1 }
+{
+    let end = end.min(TOO_LARGE);
+    (end + padding(end, align)).min(TOO_LARGE)
+}
+
+fn padding(end: u64, align: u64) -> u64
+    requires { 0 < align }
+    ensures value { result ≡ layout.padding end align }
+    ensures small { result < align }
+{
+    let past = end % align;
+    if past == 0 { 0 } else { align - past }
+}
+
+// The members of a struct, which are none where there is no such struct.
+fn members_of(structs: &[StructDef], n: u64) -> &[Member]
+    ensures { map member_tree result.now ≡ layout.members_of (map structdef_tree structs.now) n }
+{
+    match structs.get(n as usize) {
+        None => &[],
+        Some(def) => def.members.as_slice(),
+    }
+}
+
+fn bytes(t: IntType) -> u64
+    ensures value { result ≡ integer.bytes t }
+    ensures some { 0 < result }
+    ensures few { result ≤ 8 }
+{
+    match t {
+        IntType::Char | IntType::SChar | IntType::UChar => 1,
+        IntType::Short | IntType::UShort => 2,
+        IntType::Int | IntType::UInt => 4,
+        IntType::Long | IntType::ULong | IntType::LLong | IntType::ULLong => 8,
+    }
+}
+
+#[cfg(test)]
+mod tests {
+    use super::*;
+    use c_syntax::{Members, Name, Target};
+    use std::alloc::{AllocError, Global};
+    use std::test::Fail;
+
+    const CHAR: CType = CType::Int(IntType::Char);
+
+    const SHORT: CType = CType::Int(IntType::Short);
+
+    const INT: CType = CType::Int(IntType::Int);
+
+    const LONG: CType = CType::Int(IntType::Long);
+
+    fn array(alloc: Global, ty: CType, n: u64) -> Result<CType, AllocError> {
+        let of = Box::new(
+            alloc,
+            Target {
+                ty,
+                is_const: false,
+            },
+        )?;
+        Ok(CType::Array(of, n))
+    }
+
+    fn pointer(alloc: Global, ty: CType) -> Result<CType, AllocError> {
+        let to = Box::new(alloc, Target { ty, is_const: true })?;
+        Ok(CType::Pointer(to))
+    }
+
+    fn member(alloc: Global, name: &str, ty: CType, offset: u64) -> Result<Member, AllocError> {
+        let bytes = Vec::from_slice(alloc, name.as_bytes())?;
+        Ok(Member {
+            name: Name::from_vec(bytes),
+            ty,
+            offset,
+        })
+    }
+
+    fn definition(alloc: Global, members: Vec<Member>, size: u64, align: u64) -> StructDef {
+        StructDef {
+            tag: Name::new(alloc),
+            members: Members::from_vec(members),
+            size,
+            align,
+        }
+    }
+
+    // struct { char c; int k; }
+    fn pair(alloc: Global) -> Result<StructDef, AllocError> {
+        let mut members = Vec::new(alloc);
+        members.push(member(alloc, "c", CHAR, 0)?)?;
+        members.push(member(alloc, "k", INT, 4)?)?;
+        Ok(definition(alloc, members, 8, 4))
+    }
+
+    // struct { FIRST a; SECOND b; THIRD c; }
+    fn triple(alloc: Global, a: CType, b: CType, c: CType) -> Result<StructDef, AllocError> {
+        let mut members = Vec::new(alloc);
+        members.push(member(alloc, "a", a, 0)?)?;
+        members.push(member(alloc, "b", b, 0)?)?;
+        members.push(member(alloc, "c", c, 0)?)?;
+        Ok(definition(alloc, members, 0, 0))
+    }
+
+    // Structs 0 to 7.
+    fn structs(alloc: Global) -> Result<StructDefs, AllocError> {
+        let mut defs = Vec::new(alloc);
+        defs.push(pair(alloc)?)?;
+        defs.push(triple(alloc, CHAR, SHORT, CHAR)?)?;
+        defs.push(triple(alloc, CHAR, LONG, CHAR)?)?;
+        defs.push(triple(alloc, CType::Struct(0), CType::Struct(4), CHAR)?)?;
+        let pairs = array(alloc, CType::Struct(0), 3)?;
+        defs.push(triple(alloc, CHAR, pairs, CHAR)?)?;
+        defs.push(definition(alloc, Vec::new(alloc), 0, 0))?;
+        let most = array(alloc, CHAR, (1 << 40) - 2)?;
+        defs.push(triple(alloc, CHAR, most, CHAR)?)?;
+        let all = array(alloc, CHAR, 1 << 40)?;
+        let own = pointer(alloc, CType::Struct(7))?;
+        defs.push(triple(alloc, own, all, CHAR)?)?;
+        Ok(StructDefs::from_vec(defs))
+    }
+
+    #[test]
+    fn sizes_of_structs(rt: HostRuntime) -> Result<(), Fail> {
+        let structs = structs(rt.alloc())?;
+        let rows = [
+            (0, Sized::Fits(8), 4),
+            (1, Sized::Fits(6), 2),
+            (2, Sized::Fits(24), 8),
+            (3, Sized::Fits(44), 4),
+            (4, Sized::Fits(32), 4),
+            (5, Sized::Incomplete, 1),
+            (6, Sized::Fits(1 << 40), 1),
+            (7, Sized::Oversize, 8),
+        ];
+        for (n, size, align) in rows {
+            let ty = CType::Struct(n);
+            assert_eq!(rt; size_of(&ty, &structs), size, "struct {n}");
+            assert_eq!(rt; align_of(&ty, &structs), align, "struct {n}");
+        }
+        Ok(())
+    }
+
+    #[test]
+    fn sizes_of_integers(rt: HostRuntime) {
+        let structs = StructDefs::new(rt.alloc());
+        let rows = [
+            (IntType::Char, 1),
+            (IntType::SChar, 1),
+            (IntType::UChar, 1),
+            (IntType::Short, 2),
+            (IntType::UShort, 2),
+            (IntType::Int, 4),
+            (IntType::UInt, 4),
+            (IntType::Long, 8),
+            (IntType::ULong, 8),
+            (IntType::LLong, 8),
+            (IntType::ULLong, 8),
+        ];
+        for (t, bytes) in rows {
+            let ty = CType::Int(t);
+            assert_eq!(rt; size_of(&ty, &structs), Sized::Fits(bytes), "{t:?}");
+            assert_eq!(rt; align_of(&ty, &structs), bytes, "{t:?}");
+        }
+    }
+
+    #[test]
+    fn sizes_of_arrays(rt: HostRuntime) -> Result<(), Fail> {
+        let alloc = rt.alloc();
+        let structs = structs(alloc)?;
+        let rows = [
+            (array(alloc, SHORT, 7)?, Sized::Fits(14), 2),
+            (array(alloc, array(alloc, INT, 3)?, 5)?, Sized::Fits(60), 4),
+            (array(alloc, CType::Struct(2), 2)?, Sized::Fits(48), 8),
+            (array(alloc, CHAR, 1 << 40)?, Sized::Fits(1 << 40), 1),
+            (array(alloc, CHAR, (1 << 40) + 1)?, Sized::Oversize, 1),
+            (array(alloc, LONG, u64::MAX)?, Sized::Oversize, 8),
+            (
+                array(alloc, array(alloc, INT, 1 << 62)?, 1 << 62)?,
+                Sized::Oversize,
+                4,
+            ),
+            (array(alloc, CType::Struct(5), 2)?, Sized::Incomplete, 1),
+            (
+                array(alloc, array(alloc, CType::Void, 2)?, 2)?,
+                Sized::Incomplete,
+                1,
+            ),
+            (pointer(alloc, CType::Void)?, Sized::Fits(8), 8),
+            (
+                array(alloc, pointer(alloc, CType::Struct(5))?, 3)?,
+                Sized::Fits(24),
+                8,
+            ),
+            (CType::Void, Sized::Incomplete, 1),
+            (CType::Function(0), Sized::Incomplete, 1),
+        ];
+        for (ty, size, align) in &rows {
+            assert_eq!(rt; size_of(ty, &structs), *size, "{ty:?}");
+            assert_eq!(rt; align_of(ty, &structs), *align, "{ty:?}");
+        }
+        Ok(())
+    }
+
+    #[test]
+    fn offsets(rt: HostRuntime) -> Result<(), Fail> {
+        let pair = pair(rt.alloc())?;
+        assert_eq!(rt; offset_of(&pair, b"c"), Some(0));
+        assert_eq!(rt; offset_of(&pair, b"k"), Some(4));
+        assert_eq!(rt; offset_of(&pair, b"kk"), None);
+        assert_eq!(rt; offset_of(&pair, b""), None);
+        Ok(())
+    }
+}
