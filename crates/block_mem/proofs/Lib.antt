@@ -1,0 +1,2 @@
+pub mod ByteNumbers
+pub mod ByPlace

@@ -1,0 +1,3 @@
+// Memory.
+
+pub struct Memory {}

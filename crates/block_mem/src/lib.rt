@@ -1,0 +1,11 @@
+//! One memory of bytes, in blocks that are numbered as they are made.
+#![tactic(auto)]
+
+mod block;
+mod blocks;
+mod numbers;
+mod pieces;
+mod types;
+
+pub use blocks::Memory;
+pub use types::{Byte, Pointer, Scalar, Value};
