@@ -1,7 +1,7 @@
 -- Bytes of numbers, and what they give back.
-use Rattle.std.proofs.Common.{ℕ, ℤ, zero, suc, ◌≡◌, ◌+◌, ◌-◌, ◌*◌, ◌/◌, ◌%◌, ◌^◌, ◌<◌, ◌≤◌, List, [], ◌∷◌, ◌++◌, length, take, drop, get_or, Option, Some, None, refl, sym, subst, ap, ◌∙◌, arith, append_assoc, drop-cons}
+use Rattle.std.proofs.Common.{ℕ, zero, suc, ◌≡◌, ◌+◌, ◌-◌, ◌*◌, ◌/◌, ◌%◌, ◌^◌, ◌<◌, ◌≤◌, List, [], ◌∷◌, ◌++◌, length, take, drop, get_or, Option, Some, None, refl, sym, subst, ap, ◌∙◌, arith, append_assoc, drop-cons}
 use Rattle.std.proofs.lemmas.List.{take_more_set, append-nil, take_all}
-use Rattle.std.proofs.Math.Nat.{pow-suc, mod-add-div, div-lt_iff_lt-mul, pow-le-pow_right}
+use Rattle.std.proofs.Math.Nat.{pow-suc, pow-le-pow_right}
 use Rattle.std.proofs.Math.ListN.{set}
 use Rattle.block_mem.specs.declared.types.Byte.{Byte}
 use Rattle.block_mem.specs.declared.types.Byte.TheVariants.{Undef, Num, Frag}
@@ -28,10 +28,10 @@ number_more bytes i low number d h is rest = ap number_of (drop-cons bytes i d h
 pub low_first-none : (b : Byte) (rest : Option ℕ) → rest ≡ None → low_first b rest ≡ None
 low_first-none b None h = low_first_nothing b
   where
-  low_first_nothing : (c : Byte) → low_first c None ≡ None
-  low_first_nothing Undef = refl
-  low_first_nothing (Num n) = refl
-  low_first_nothing (Frag p k) = refl
+    low_first_nothing : (c : Byte) → low_first c None ≡ None
+    low_first_nothing Undef = refl
+    low_first_nothing (Num n) = refl
+    low_first_nothing (Frag p k) = refl
 low_first-none b (Some m) h = absurd (cc)
 
 -- bytes of which the last ones are no number are none

@@ -1,2 +1,6 @@
-pub mod ByteNumbers
 pub mod ByPlace
+pub mod ByteNumbers
+pub mod Copies
+pub mod Loads
+pub mod Puts
+pub mod Values

@@ -1,24 +1,16 @@
--- Memory: blocks of bytes (C11 6.2.4, 6.5.3.2).
-use Rattle.std.specs.Prelude.{ℕ, ℤ, pos, negsuc, zero, suc, ◌≡◌, ◌+◌, ◌%◌, ◌<◌, Bool, true, false, not, ◌&&◌, nat_le, ◌==◌, if◌then◌else◌, List, [], ◌∷◌, length, replicate, Option, Some, None, Result, Ok, Err, MatchOption, slice_index_or, slice_set, unwrap_or}
+-- Memory: blocks, numbered as they are made (C11 6.2.4, 6.5.3.2).
+use Rattle.std.specs.Prelude.{ℕ, ◌<◌, Bool, false, if◌then◌else◌, List, [], length, Option, Some, None, Result, Err, MatchOption, slice_index_or, slice_set, unwrap_or}
+use Rattle.std.specs.Option.{ok_or}
 use Rattle.c_syntax.specs.declared.alarm.WrongKind.{WrongKind}
-use Rattle.c_syntax.specs.declared.alarm.WrongKind.TheVariants.{Indeterminate, Fragment, Dangling, Access, Alignment, ReadOnly}
+use Rattle.c_syntax.specs.declared.alarm.WrongKind.TheVariants.{Indeterminate, Fragment}
 use Rattle.block_mem.specs.declared.types.Pointer.{Pointer}
 use Rattle.block_mem.specs.declared.types.Byte.{Byte}
 use Rattle.block_mem.specs.declared.types.Byte.TheVariants.{Undef}
 use Rattle.block_mem.specs.declared.types.Value.{Value}
 use Rattle.block_mem.specs.declared.types.Scalar.{Scalar}
-use Rattle.block_mem.specs.Pieces.{get_bytes, put_bytes, stored, taken, cut}
+use Rattle.block_mem.specs.Block.{BlockView, place_of, wrong_in}
+use Rattle.block_mem.specs.Pieces.{get_bytes, stored, taken}
 use Rattle.block_mem.specs.Bytes.{size_of, bytes_of, has_undef, value_of}
-
--- a block; its size is the number of its bytes
-pub record BlockView : Type 0 where
-  pub read_only : Bool
-  pub live : Bool
-  pub bytes : List Byte
-
--- a block that was just made
-abbrev pub new_block : ℕ → Bool → BlockView
-new_block size read_only = record { read_only = read_only; live = true; bytes = replicate size Undef }
 
 -- what stands at a number that no block has
 abbrev pub no_block : BlockView
@@ -36,33 +28,11 @@ with_bytes m number bs = slice_set m number (record (block_at m number) { bytes 
 abbrev pub with_ended : List BlockView → ℕ → List BlockView
 with_ended m number = slice_set m number (record (block_at m number) { live = false })
 
--- an offset as a place in a block; a negative one is none
-abbrev pub place_of : ℤ → Option ℕ
-place_of (pos n) = Some n
-place_of (negsuc n) = None
-
 -- the place of a pointer to a byte of a block
 abbrev pub place : Pointer → ℕ
 place at = unwrap_or (place_of at.offset) 0
 
--- n bytes from a place on are inside a block of this size
-abbrev pub is_inside : Option ℕ → ℕ → ℕ → Bool
-is_inside None n size = false
-is_inside (Some k) n size = nat_le (k + n) size
-
--- a place is a multiple of the alignment
-abbrev pub is_aligned : Option ℕ → ℕ → Bool
-is_aligned None align = false
-is_aligned (Some k) align = k % align == 0
-
--- what is wrong first with an access of n bytes from an offset on, a write or not (C11 6.5.3.2, 6.3.2.3, 6.7.3)
-abbrev pub wrong_in : BlockView → ℤ → ℕ → ℕ → Bool → Option WrongKind
-wrong_in b offset n align write =
-    if not b.live then Some Dangling else
-    if not (is_inside (place_of offset) n (length b.bytes)) then Some Access else
-    if not (is_aligned (place_of offset) align) then Some Alignment else
-    if write && b.read_only then Some ReadOnly else None
-
+-- what is wrong first with an access of n bytes from a pointer on, a write or not
 abbrev pub wrong_access : List BlockView → Pointer → ℕ → ℕ → Bool → Option WrongKind
 wrong_access m at n align write = wrong_in (block_at m at.block) at.offset n align write
 
@@ -76,19 +46,16 @@ bytes_at m at n = get_bytes (block_at m at.block).bytes (place at) n
 
 -- the value that bytes hold at a type, or what is wrong with them
 abbrev pub loaded : Scalar → List Byte → Result Value WrongKind
-loaded ty bs = if has_undef bs then Err Indeterminate else found (value_of ty bs)
-  where
-  found : Option Value → Result Value WrongKind
-  found None = Err Fragment
-  found (Some v) = Ok v
+loaded ty bs = if has_undef bs then Err Indeterminate else ok_or (value_of ty bs) Fragment
+
+-- what is wrong with an access comes before what it gives
+abbrev pub after_access : Option WrongKind → Result Value WrongKind → Result Value WrongKind
+after_access None given = given
+after_access (Some k) given = Err k
 
 -- what a load gives: a value, or what is wrong first
 abbrev pub load : List BlockView → Pointer → Scalar → Result Value WrongKind
-load m at ty = after_access (wrong_access m at (size_of ty) (size_of ty) false)
-  where
-  after_access : Option WrongKind → Result Value WrongKind
-  after_access (Some k) = Err k
-  after_access None = loaded ty (bytes_at m at (size_of ty))
+load m at ty = after_access (wrong_access m at (size_of ty) (size_of ty) false) (loaded ty (bytes_at m at (size_of ty)))
 
 -- memory after a value was stored
 abbrev pub store : List BlockView → Pointer → Value → List BlockView

@@ -1,7 +1,6 @@
 -- Values as bytes.
-use Rattle.std.specs.Prelude.{ℕ, ◌≡◌, ◌==◌, Bool, true, false, ◌||◌, if◌then◌else◌, List, [], ◌∷◌, Option, Some, None, option_map}
+use Rattle.std.specs.Prelude.{ℕ, ◌≡◌, ◌==◌, Bool, true, false, if◌then◌else◌, List, [], ◌∷◌, Option, Some, None, option_map}
 use Rattle.std.specs.Int.{byte_len}
-use Rattle.c_syntax.specs.declared.types.IntType.{IntType}
 use Rattle.c_syntax.specs.Operand.{LoadMark, Whole, Broken}
 use Rattle.c_syntax.specs.Operand as operand
 use Rattle.block_mem.specs.declared.types.Byte.{Byte}
@@ -57,10 +56,11 @@ abbrev pub value_of : Scalar → List Byte → Option Value
 value_of (scalars.Int t) bs = option_map (λ m. values.Int t (number_in t m)) (number_of bs)
 value_of scalars.Pointer bs = pointer_of bs
 
--- the mark of a load: a byte has no value, or they hold a value, or neither
+-- bytes that have values hold one of their type, or none
+abbrev pub whole_or_broken : Option Value → LoadMark
+whole_or_broken None = Broken
+whole_or_broken (Some v) = Whole
+
+-- the mark of a load: a byte has no value, or they hold a value of the type, or neither
 abbrev pub mark_of : Scalar → List Byte → LoadMark
 mark_of ty bs = if has_undef bs then operand.Undef else whole_or_broken (value_of ty bs)
-  where
-  whole_or_broken : Option Value → LoadMark
-  whole_or_broken None = Broken
-  whole_or_broken (Some v) = Whole

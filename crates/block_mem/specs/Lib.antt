@@ -1,4 +1,6 @@
+pub mod Block
+pub mod Blocks
 pub mod Bytes
+pub mod Moves
 pub mod Numbers
 pub mod Pieces
-pub mod Blocks

@@ -1,6 +1,6 @@
 -- Whole numbers as bytes: this profile is little-endian, with two's complement.
 use Rattle.std.specs.Prelude.{ℕ, ℤ, pos, zero, suc, ◌+◌, ◌*◌, ◌/◌, ◌%◌, Bool, true, false, if◌then◌else◌, List, [], ◌∷◌, Option, Some, None, FitsSigned, MatchBool}
-use Rattle.std.specs.Int.{Width, w8, w16, w32, w64, byte_len, cast_signed, cast_unsigned, FitsUnsigned}
+use Rattle.std.specs.Int.{Width, w8, w16, w32, w64, cast_signed, cast_unsigned, FitsUnsigned}
 use Rattle.c_syntax.specs.declared.types.IntType.{IntType}
 use Rattle.c_syntax.specs.declared.types.IntType.TheVariants.{Char, SChar, UChar, Short, UShort, Int, UInt, Long, ULong, LLong, ULLong}
 use Rattle.block_mem.specs.declared.types.Byte.{Byte}

@@ -1,5 +1,5 @@
 -- Stored pointers. Piece k of a pointer at place q belongs to the pointer whose pieces 0 to 7 stand at the places q - k to q - k + 7.
-use Rattle.std.specs.Prelude.{ℕ, zero, suc, ◌+◌, Bool, true, false, ◌&&◌, ◌||◌, not, nat_lt, nat_le, ◌==◌, if◌then◌else◌, List, [], ◌∷◌, ◌++◌, length, take, drop}
+use Rattle.std.specs.Prelude.{ℕ, zero, suc, ◌+◌, Bool, true, false, ◌&&◌, ◌||◌, not, nat_lt, nat_le, ◌==◌, if◌then◌else◌, List, [], ◌∷◌, length, take, drop}
 use Rattle.std.specs.Ordering.{int_eq}
 use Rattle.block_mem.specs.declared.types.Pointer.{Pointer}
 use Rattle.block_mem.specs.declared.types.Byte.{Byte}

@@ -3,6 +3,8 @@
 
 mod block;
 mod blocks;
+mod loading;
+mod moving;
 mod numbers;
 mod pieces;
 mod types;

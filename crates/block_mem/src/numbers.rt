@@ -1,5 +1,5 @@
 // Whole numbers as bytes.
-ghost use Rattle.std.specs.Prelude.{◌≡◌, ◌<◌, ◌≤◌, ◌+◌, ◌*◌, ◌^◌, pos, IsTrue, ◌↔◌, length, take};
+ghost use Rattle.std.specs.Prelude.{◌≡◌, ◌<◌, ◌≤◌, ◌+◌, ◌*◌, ◌^◌, pos, IsTrue, ◌↔◌, length, IfSome};
 ghost use Rattle.std.specs.Int.{byte_len};
 ghost use Rattle.block_mem.specs.Numbers.{width_of, is_signed, Fits, bits_in, number_in, low_bytes, number_of};
 
@@ -41,11 +41,8 @@ fn has_sign(ty: IntType) -> bool
         | IntType::Int
         | IntType::Long
         | IntType::LLong => true,
-        IntType::UChar
-        | IntType::UShort
-        | IntType::UInt
-        | IntType::ULong
-        | IntType::ULLong => false,
+        IntType::UChar | IntType::UShort | IntType::UInt | IntType::ULong | IntType::ULLong =>
+            false,
     }
 }
 
@@ -90,7 +87,8 @@ pub fn low_bytes(number: u64) -> [Byte; 8]
 /// The number that bytes hold, the lowest first; none where one of them is no number.
 pub fn number_of(bytes: &[Byte]) -> Option<u64>
     requires { length bytes.now ≤ 8 }
-    ensures { result ≡ number_of bytes.now }
+    ensures value { result ≡ number_of bytes.now }
+    ensures bound { IfSome result (λ number. number < 256 ^ length bytes.now) }
 {
     let mut number: u64 = 0;
     let mut left = bytes.len();

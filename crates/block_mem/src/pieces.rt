@@ -25,7 +25,9 @@ fn is_piece(pointer: Pointer, piece: usize, byte: Byte) -> bool
 {
     match byte {
         Byte::Frag(other, k) => {
-            pointer.block == other.block && pointer.offset == other.offset && piece == usize::from(k)
+            pointer.block == other.block
+                && pointer.offset == other.offset
+                && piece == usize::from(k)
         }
         _ => false,
     }

@@ -1,4 +1,4 @@
-use Rattle.std.proofs.Common.{◌≡◌, ◌-◌, ◌+◌, suc, arith, length, length-set, ◌∙◌}
+use Rattle.std.proofs.Common.{arith, length-set, ◌∙◌}
 use Rattle.block_mem.proofs.ByteNumbers.{low_bytes_more, low_bytes_whole}
 use Rattle.block_mem.proofs.numbers.low_bytes.Goals as goal
 

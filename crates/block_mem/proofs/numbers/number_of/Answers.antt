@@ -22,4 +22,4 @@ loop-left-preserved c =
     (omega arith, number_more bytes i c.from.result c.loop-left.number Undef (omega arith) is rest, number_below i (length bytes) c.from.result c.loop-left.number (omega arith) low below)
 
 pub returns-in_default : goal.returns-in_default
-returns-in_default c = sym (number_stops c.args.bytes.now (c.loop-left.left - 1) Undef (omega arith) c.in_default.not-Num)
+returns-in_default c = record { value = sym (number_stops c.args.bytes.now (c.loop-left.left - 1) Undef (omega arith) c.in_default.not-Num); bound = tt }

@@ -1,8 +1,8 @@
-use Rattle.std.proofs.Common.{◌≡◌, ◌-◌, ◌+◌, ◌≤◌, ◌<◌, ◌∙◌, ap, sym, subst, length, arith, slice_set, get_or, List, ℕ}
+use Rattle.std.proofs.Common.{◌<◌, ◌∙◌, ap, sym, length, arith, slice_set, get_or, List, ℕ}
 use Rattle.block_mem.specs.declared.types.Byte.{Byte}
 use Rattle.block_mem.specs.declared.types.Byte.TheVariants.{Undef}
 use Rattle.block_mem.specs.Pieces.{cut_byte}
-use Rattle.block_mem.proofs.ByPlace.{made, made_more, made-still, made-all, cut_byte-before, cut_byte-after}
+use Rattle.block_mem.proofs.ByPlace.{made_more, made-still, made-all, cut_byte-before, cut_byte-after}
 use Rattle.block_mem.proofs.pieces.cut.Goals as goal
 
 pub loop-place-init : goal.loop-place-init
