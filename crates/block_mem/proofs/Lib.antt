@@ -5,3 +5,4 @@ pub mod Laws
 pub mod Loads
 pub mod Puts
 pub mod Values
+pub mod StoreLaws

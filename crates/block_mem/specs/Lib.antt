@@ -1,3 +1,4 @@
+pub mod AfterStore
 pub mod Block
 pub mod Blocks
 pub mod Bytes

@@ -29,6 +29,7 @@ impl Model for Memory {
 
 impl Memory {
     ghost use Rattle.std.specs.Prelude.{◌≡◌, ◌<◌, [], ◌∷◌, ◌++◌, true, false, length, None, Some, IfOk, OnOk, OnErr, MatchResult};
+    ghost use Rattle.block_mem.specs.AfterStore.{ReadsParts, KeepsElsewhere};
     ghost use Rattle.block_mem.specs.Block.{new_block};
     ghost use Rattle.block_mem.specs.Bytes.{IsOf, size_of};
     ghost use Rattle.block_mem.specs.Blocks.{with_ended, wrong_access, HasByte, load, store, copy, byte, set_byte};
@@ -106,6 +107,11 @@ impl Memory {
         ensures answer { MatchResult result (λ _. wrong_access self.old at (size_of ty) (size_of ty) true ≡ None) (λ k. wrong_access self.old at (size_of ty) (size_of ty) true ≡ Some k) }
         ensures ok { OnOk result (self.new ≡ store self.old at v) }
         ensures err { OnErr result (self.new ≡ self.old) }
+
+        // What follows for later loads.
+        ensures reads_back { OnOk result (load self.new at ty ≡ Ok v) }
+        ensures reads_parts { OnOk result (ReadsParts self.new at v) }
+        ensures elsewhere { OnOk result (KeepsElsewhere self.old self.new at (size_of ty)) }
     {
         let size = scalar_size(ty);
         let block = &mut self.blocks[at.block as usize];
@@ -125,7 +131,8 @@ impl Memory {
         requires source_made { from.block < length self.old }
         requires target { wrong_access self.old to size 1 false ≡ None }
         requires source { wrong_access self.old from size 1 false ≡ None }
-        ensures { self.new ≡ copy self.old to from size }
+        ensures copied { self.new ≡ copy self.old to from size }
+        ensures elsewhere { KeepsElsewhere self.old self.new to size }
     {
         let transfer = Transfer {
             to_block: to.block as usize,
