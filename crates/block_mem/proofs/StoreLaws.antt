@@ -1,5 +1,5 @@
 -- Memory after a store.
-use Rattle.std.proofs.Common.{ℕ, ℤ, pos, negsuc, zero, suc, ◌≡◌, ◌≢◌, ◌+◌, ◌-◌, ◌*◌, ◌/◌, ◌%◌, ◌^◌, ◌<◌, ◌≤◌, Bool, true, false, cond, not, ◌&&◌, ◌⊎◌, List, length, take, drop, get_or, Option, Some, None, Result, Ok, Err, refl, sym, subst, ap, ◌∙◌, arith, option_map, unwrap_or}
+use Rattle.std.proofs.Common.{ℕ, ℤ, pos, negsuc, zero, suc, ◌≡◌, ◌≢◌, ◌+◌, ◌-◌, ◌*◌, ◌/◌, ◌%◌, ◌^◌, ◌<◌, ◌≤◌, Bool, true, false, cond, not, ◌&&◌, ◌⊎◌, List, length, take, drop, get_or, Option, Some, None, Result, Ok, Err, refl, sym, subst, ap, ◌∙◌, arith, option_map, unwrap_or, MatchOption}
 use Rattle.std.specs.Int.{byte_len}
 use Rattle.std.specs.Option.{ok_or}
 use Rattle.std.proofs.lemmas.Bool.{leb-true}
@@ -121,3 +121,9 @@ elsewhere-store m at ty v made of = elsewhere-stored m at (size_of ty) (bytes_of
 
 pub elsewhere-copy : (m : List BlockView) (to from : Pointer) (n : ℕ) → to.block < length m → wrong_access m from n 1 false ≡ None → KeepsElsewhere m (copy m to from n) to n
 elsewhere-copy m to from n made passes = elsewhere-stored m to n (taken (block_at m from.block).bytes (place from) n) made (length-taken (block_at m from.block).bytes (place from) n (inside_access (block_at m from.block) from.offset n 1 false passes))
+
+-- where a byte may be read, there is one
+pub has_byte : (b : BlockView) (o : ℤ) (a : ℕ) (write : Bool) → wrong_in b o 1 a write ≡ None → MatchOption (place_of o) ⊥ (λ k. k < length b.bytes)
+has_byte b (pos k) a write h = let inside : k + 1 ≤ length b.bytes = inside_access b (pos k) 1 a write h in omega arith
+has_byte b (negsuc k) a write h =
+    let no : false ≡ true = passes_inside b.live false false (write && b.read_only) h in cc

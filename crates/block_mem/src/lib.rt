@@ -9,5 +9,8 @@ mod numbers;
 mod pieces;
 mod types;
 
+#[cfg(test)]
+mod tests;
+
 pub use blocks::Memory;
 pub use types::{Byte, Pointer, Scalar, Value};
