@@ -194,14 +194,14 @@ get-cut_same bs at n h =
     let size : length (cut bs at n) ≡ length bs = length-by_place (cut_byte at n) 0 bs in
     ext_get_or Undef _ _ (length-get (cut bs at n) at n (omega arith) ∙ sym (length-get bs at n h))
     (λ i l.
-      let small : i < n = omega (arith, length-get (cut bs at n) at n (omega arith)) in
-      let z : 0 + (at + i) ≡ at + i = omega arith in
-      get_or-take n (drop at (cut bs at n)) i Undef small
-      ∙ get_or-drop at (cut bs at n) i Undef
-      ∙ get-by_place (cut_byte at n) 0 bs (at + i) Undef (omega arith)
-      ∙ ap (λ q. cut_byte at n q (get_or bs (at + i) Undef)) z
-      ∙ cut_byte-inside at n (at + i) _ (omega arith) (omega arith)
-      ∙ sym (get_or-take n (drop at bs) i Undef small ∙ get_or-drop at bs i Undef))
+    let small : i < n = omega (arith, length-get (cut bs at n) at n (omega arith)) in
+    let z : 0 + (at + i) ≡ at + i = omega arith in
+    get_or-take n (drop at (cut bs at n)) i Undef small
+    ∙ get_or-drop at (cut bs at n) i Undef
+    ∙ get-by_place (cut_byte at n) 0 bs (at + i) Undef (omega arith)
+    ∙ ap (λ q. cut_byte at n q (get_or bs (at + i) Undef)) z
+    ∙ cut_byte-inside at n (at + i) _ (omega arith) (omega arith)
+    ∙ sym (get_or-take n (drop at bs) i Undef small ∙ get_or-drop at bs i Undef))
 
 -- stored bytes are read back
 pub get-stored : (bs : List Byte) (at : ℕ) (new : List Byte) → at + length new ≤ length bs → get_bytes (stored bs at new) at (length new) ≡ new

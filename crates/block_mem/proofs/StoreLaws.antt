@@ -71,8 +71,8 @@ load-store m at ty v made of passes =
     let b = block_at m at.block in
     let bs = stored b.bytes (place at) (bytes_of v) in
     let right : wrong_access (store m at v) at (size_of ty) (size_of ty) false ≡ None =
-        ap (λ (x : BlockView). wrong_in x at.offset (size_of ty) (size_of ty) false) (block-same m at.block bs made)
-        ∙ read_after b bs at.offset (size_of ty) (size_of ty) (length-stored b.bytes (place at) (bytes_of v)) passes in
+    ap (λ (x : BlockView). wrong_in x at.offset (size_of ty) (size_of ty) false) (block-same m at.block bs made)
+    ∙ read_after b bs at.offset (size_of ty) (size_of ty) (length-stored b.bytes (place at) (bytes_of v)) passes in
     ap (λ w. after_access w (loaded ty (bytes_at (store m at v) at (size_of ty)))) right
     ∙ ap (loaded ty) (stored_bytes m at ty v made of (inside_access b at.offset (size_of ty) (size_of ty) true passes))
     ∙ loaded-value ty v of
@@ -81,9 +81,9 @@ get-get : (bs : List Byte) (p s i k : ℕ) → i + k ≤ s → get_bytes bs (p +
 get-get bs p s i k h =
     let e : s ≡ i + (s - i) = omega arith in
     sym (ap (λ n. take k (drop i (take n (drop p bs)))) e
-      ∙ ap (take k) (drop-take i (s - i) (drop p bs))
-      ∙ take-take k (s - i) (drop i (drop p bs)) (omega arith)
-      ∙ ap (take k) (drop-drop i p bs))
+    ∙ ap (take k) (drop-take i (s - i) (drop p bs))
+    ∙ take-take k (s - i) (drop i (drop p bs)) (omega arith)
+    ∙ ap (take k) (drop-drop i p bs))
 
 part_of : (m : List BlockView) (at : Pointer) (t u : IntType) (n : ℤ) (i : ℕ) → bytes_at m at (byte_len (width_of t)) ≡ low_bytes (byte_len (width_of t)) (bits_in t n) → i + byte_len (width_of u) ≤ byte_len (width_of t)
     → loaded (scalars.Int u) (get_bytes (block_at m at.block).bytes (place at + i) (byte_len (width_of u))) ≡ Ok (values.Int u (number_in u (bits_in t n / 2 ^ (8 * i) % 2 ^ (8 * byte_len (width_of u)))))
@@ -100,7 +100,7 @@ pub parts-store : (m : List BlockView) (at : Pointer) (ty : Scalar) (v : Value) 
 parts-store m at (scalars.Int w) (values.Int t n) made of passes =
     λ u i h. part_of (store m at (values.Int t n)) at t u n i
     (subst (λ s. bytes_at (store m at (values.Int t n)) at (byte_len (width_of s)) ≡ bytes_of (values.Int t n)) (sym of.0)
-      (stored_bytes m at (scalars.Int w) (values.Int t n) made of (inside_access (block_at m at.block) at.offset (byte_len (width_of w)) (byte_len (width_of w)) true passes)))
+    (stored_bytes m at (scalars.Int w) (values.Int t n) made of (inside_access (block_at m at.block) at.offset (byte_len (width_of w)) (byte_len (width_of w)) true passes)))
     h
 parts-store m at scalars.Pointer (values.Int t n) made of passes = absurd of
 parts-store m at ty (values.Ptr p) made of passes = tt
@@ -109,12 +109,12 @@ parts-store m at ty values.Null made of passes = tt
 -- bytes that are written change nothing elsewhere
 elsewhere-stored : (m : List BlockView) (at : Pointer) (n : ℕ) (new : List Byte) → at.block < length m → length new ≡ n → KeepsElsewhere m (with_bytes m at.block (stored (block_at m at.block).bytes (place at) new)) at n
 elsewhere-stored m at n new made size = record {
-    blocks = λ b apart. block-other m at.block b (stored (block_at m at.block).bytes (place at) new) apart;
-    bytes = λ q l apart.
+  blocks = λ b apart. block-other m at.block b (stored (block_at m at.block).bytes (place at) new) apart;
+  bytes = λ q l apart.
       ap (λ bs. get_or bs q Undef) (bytes-same m at.block (stored (block_at m at.block).bytes (place at) new) made)
       ∙ get-stored_outside (block_at m at.block).bytes (place at) new q l (subst (λ k. (q < place at) ⊎ (place at + k ≤ q)) (sym size) apart)
-      ∙ ap (λ k. cut_byte (place at) k q (get_or (block_at m at.block).bytes q Undef)) size
-  }
+      ∙ ap (λ k. cut_byte (place at) k q (get_or (block_at m at.block).bytes q Undef)) size;
+}
 
 pub elsewhere-store : (m : List BlockView) (at : Pointer) (ty : Scalar) (v : Value) → at.block < length m → IsOf ty v → KeepsElsewhere m (store m at v) at (size_of ty)
 elsewhere-store m at ty v made of = elsewhere-stored m at (size_of ty) (bytes_of v) made (length-value ty v of)

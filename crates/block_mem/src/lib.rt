@@ -7,10 +7,9 @@ mod loading;
 mod moving;
 mod numbers;
 mod pieces;
-mod types;
-
 #[cfg(test)]
 mod tests;
+mod types;
 
 pub use blocks::Memory;
 pub use types::{Byte, Pointer, Scalar, Value};
