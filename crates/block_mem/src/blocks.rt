@@ -1,0 +1,175 @@
+// Memory as a list of blocks.
+ghost use Rattle.std.specs.Prelude.{◌≡◌};
+ghost use Rattle.block_mem.specs.Blocks.{place};
+
+use crate::block::{Block, place_of};
+use crate::loading::{loaded, scalar_size, value_bytes};
+use crate::moving::{Transfer, copy_bytes};
+use crate::types::{Byte, Pointer, Scalar, Value};
+use c_syntax::WrongKind;
+use std::alloc::{AllocError as NoMemory, Global};
+use std::marker::Model;
+
+/// One memory. Contracts see it as the list of its blocks, each with its number as its place in the
+/// list. A block is never taken out, so that no number is used twice.
+#[derive(Drop)]
+pub struct Memory {
+    alloc: Global,
+    blocks: Vec<Block>,
+}
+
+impl Model for Memory {
+    ghost use Rattle.std.specs.Prelude.{List};
+    ghost use Rattle.block_mem.specs.Block.{BlockView};
+
+    ghost Value = { List BlockView };
+
+    ghost view = { λ m. m.blocks.items };
+}
+
+impl Memory {
+    ghost use Rattle.std.specs.Prelude.{◌≡◌, ◌<◌, [], ◌∷◌, ◌++◌, true, false, length, None, Some, IfOk, OnOk, OnErr, MatchResult};
+    ghost use Rattle.block_mem.specs.AfterStore.{ReadsParts, KeepsElsewhere};
+    ghost use Rattle.block_mem.specs.Block.{new_block};
+    ghost use Rattle.block_mem.specs.Bytes.{IsOf, size_of};
+    ghost use Rattle.block_mem.specs.Blocks.{with_ended, wrong_access, HasByte, load, store, copy, byte, set_byte};
+
+    /// Memory without blocks.
+    pub fn new(alloc: Global) -> Memory
+        ensures { result ≡ [] }
+    {
+        Memory {
+            alloc,
+            blocks: Vec::new(alloc),
+        }
+    }
+
+    /// Makes a live block of `size` bytes without a value, and gives its number. A block that is
+    /// read-only refuses each store. After `NoMemory` the memory is as it was.
+    pub fn alloc_block(&mut self, size: u64, read_only: bool) -> Result<u64, NoMemory>
+        ensures number { IfOk result (λ n. n ≡ length self.old) }
+        ensures made { OnOk result (self.new ≡ self.old ++ new_block size read_only ∷ []) }
+        ensures no_memory { OnErr result (self.new ≡ self.old) }
+    {
+        let block = Block::new(self.alloc, size as usize, read_only)?;
+        let number = self.blocks.len() as u64;
+        match self.blocks.push(block) {
+            Ok(()) => Ok(number),
+            Err(_) => Err(NoMemory),
+        }
+    }
+
+    /// Ends a block. A dead one stays as it is.
+    pub fn free_block(&mut self, block: u64)
+        requires made { block < length self.old }
+        ensures ended { self.new ≡ with_ended self.old block }
+    {
+        let block = &mut self.blocks[block as usize];
+        block.end();
+    }
+
+    /// Whether `size` bytes from `at` on may be read, or written where `write` is set. The answer is
+    /// the first of these that is wrong: Dangling, for a dead block; Access, for bytes outside of
+    /// the block; Alignment, for an offset that is no multiple of `align`; ReadOnly, for a write to
+    /// a block that is read-only.
+    pub fn access(&self, at: Pointer, size: u64, align: u64, write: bool) -> Result<(), WrongKind>
+        requires made { at.block < length self.now }
+        ensures { MatchResult result (λ _. wrong_access self.now at size align write ≡ None) (λ k. wrong_access self.now at size align write ≡ Some k) }
+    {
+        match self.blocks[at.block as usize].wrong(at.offset, size, align, write) {
+            Some(kind) => Err(kind),
+            None => Ok(()),
+        }
+    }
+
+    /// Loads the value of a type. After what `access` refuses, it is Indeterminate where a byte has
+    /// no value, and Fragment where the bytes have, but hold no value of the type.
+    pub fn load(&self, at: Pointer, ty: Scalar) -> Result<Value, WrongKind>
+        requires made { at.block < length self.now }
+        ensures { result ≡ load self.now at ty }
+    {
+        let size = scalar_size(ty);
+        let block = &self.blocks[at.block as usize];
+        match block.wrong(at.offset, size as u64, size as u64, false) {
+            Some(kind) => Err(kind),
+            None => {
+                let start = start_of(at);
+                loaded(ty, &block.bytes()[start..start + size])
+            }
+        }
+    }
+
+    /// Stores a value of a type. Pointers that are overwritten in part leave Undef behind. A store
+    /// that is refused changes nothing.
+    pub fn store(&mut self, at: Pointer, ty: Scalar, v: Value) -> Result<(), WrongKind>
+        requires made { at.block < length self.old }
+        requires typed { IsOf ty v }
+        ensures answer { MatchResult result (λ _. wrong_access self.old at (size_of ty) (size_of ty) true ≡ None) (λ k. wrong_access self.old at (size_of ty) (size_of ty) true ≡ Some k) }
+        ensures ok { OnOk result (self.new ≡ store self.old at v) }
+        ensures err { OnErr result (self.new ≡ self.old) }
+
+        // What follows for later loads.
+        ensures reads_back { OnOk result (load self.new at ty ≡ Ok v) }
+        ensures reads_parts { OnOk result (ReadsParts self.new at v) }
+        ensures elsewhere { OnOk result (KeepsElsewhere self.old self.new at (size_of ty)) }
+    {
+        let size = scalar_size(ty);
+        let block = &mut self.blocks[at.block as usize];
+        if let Some(kind) = block.wrong(at.offset, size as u64, size as u64, true) {
+            return Err(kind);
+        }
+        let bytes = value_bytes(ty, v);
+        block.store(start_of(at), &bytes[..size]);
+        Ok(())
+    }
+
+    /// Copies `size` bytes. All are read before any is written, so the ranges may overlap. A piece
+    /// of a pointer that is not copied whole becomes Undef, and so does what is left of a pointer
+    /// that is overwritten in part.
+    pub fn copy(&mut self, to: Pointer, from: Pointer, size: u64)
+        requires target_made { to.block < length self.old }
+        requires source_made { from.block < length self.old }
+        requires target { wrong_access self.old to size 1 false ≡ None }
+        requires source { wrong_access self.old from size 1 false ≡ None }
+        ensures copied { self.new ≡ copy self.old to from size }
+        ensures elsewhere { KeepsElsewhere self.old self.new to size }
+    {
+        let transfer = Transfer {
+            to_block: to.block as usize,
+            to: start_of(to),
+            from_block: from.block as usize,
+            from: start_of(from),
+            count: size as usize,
+        };
+        copy_bytes(&mut self.blocks, transfer);
+    }
+
+    /// A byte, read without a check.
+    pub fn byte(&self, at: Pointer) -> Byte
+        requires made { at.block < length self.now }
+        requires inside { HasByte self.now at }
+        ensures { result ≡ byte self.now at }
+    {
+        self.blocks[at.block as usize].bytes()[start_of(at)]
+    }
+
+    /// Puts in one byte without a check, in a read-only block too. No pointer is cut.
+    pub fn set_byte(&mut self, at: Pointer, b: Byte)
+        requires made { at.block < length self.old }
+        requires inside { HasByte self.old at }
+        ensures { self.new ≡ set_byte self.old at b }
+    {
+        let block = &mut self.blocks[at.block as usize];
+        block.put(start_of(at), b);
+    }
+}
+
+/// Where in its block a pointer points.
+fn start_of(at: Pointer) -> usize
+    ensures { result ≡ place at }
+{
+    match place_of(at.offset) {
+        Some(place) => place as usize,
+        None => 0,
+    }
+}
