@@ -13,6 +13,10 @@ pub record IsResidue (r : Residue) : Type 0 where
   pub rem_low : pos 1 ≤ℤ r.modulus → pos 0 ≤ℤ r.rem
   pub rem_high : pos 1 ≤ℤ r.modulus → r.rem <ℤ r.modulus
 
+-- each number of the first class is in the second
+abbrev pub IsWithin : Residue → Residue → Type 0
+IsWithin r s = (n : ℤ) → InResidue r n → InResidue s n
+
 -- the number is a multiple of c
 abbrev pub IsMultiple : ℤ → ℤ → Type 0
 IsMultiple c n = (k : ℤ) × (n ≡ (k *ℤ c))

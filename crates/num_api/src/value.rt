@@ -48,7 +48,7 @@ pub trait ValueDomain: Copy {
         ensures some { IfSome result (λ v. (n : ℤ) → InRange r n → admits v n) }
         ensures none { IfNone result ((n : ℤ) → InRange r n → ⊥) }
         ensures plain { IfSome result (λ v. IsTrue exact → NoWider (known v) r) }
-        ensures fold { IfSome result (λ v. (c n : ℤ) → IsTrue folds → IsAlignment c → IsPoint r n → IsMultiple c n → IsFoldResidue c (class v)) };
+        ensures fold { IfSome result (λ v. (n : ℤ) → IsTrue folds → IsPoint r n → class v ≡ record { rem = n; modulus = pos 0 }) };
 
     /// A range that holds every number of the value.
     fn range(&self) -> Range
