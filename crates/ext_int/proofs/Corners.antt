@@ -1,5 +1,5 @@
 -- An operation on ends that rises or falls in each operand lies between its values at the corners.
-use Rattle.std.proofs.Common.{◌≡◌, ◌⊎◌, ⊎_elim}
+use Rattle.std.proofs.Common.{◌⊎◌, ⊎_elim}
 use Rattle.ext_int.specs.declared.Ext.{Ext}
 use Rattle.ext_int.specs.Ext.{AtMost, lesser, greater, least_of, greatest_of}
 use Rattle.ext_int.proofs.Ends.{AtMost_trans, lesser_first, lesser_second, lesser_mono, greater_first, greater_second, greater_mono}

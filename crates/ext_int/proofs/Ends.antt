@@ -1,5 +1,5 @@
 -- The order of ends, the least and the greatest of some, and ends rounded to what an i128 holds.
-use Rattle.std.proofs.Common.{◌≡◌, ℕ, ℤ, pos, negsuc, ◌≤ℤ◌, neg_ℤ, ◌⊎◌, inl, inr, arith, refl, ap, FitsSigned}
+use Rattle.std.proofs.Common.{◌≡◌, ◌≤◌, ℕ, ℤ, pos, negsuc, ◌≤ℤ◌, neg_ℤ, arith, refl, ap, FitsSigned}
 use Rattle.std.specs.Prelude.{IsTrue}
 use Rattle.std.specs.Int.RustNames.{int_le}
 use Rattle.std.proofs.lemmas.Int.{ints}
@@ -8,7 +8,15 @@ use Rattle.ext_int.specs.declared.Ext.{Ext}
 use Rattle.ext_int.specs.declared.Ext.TheVariants.{Low, Fin, High}
 use Rattle.ext_int.specs.Ext.{Below, Above, holds_number, AtMost, lesser, greater, low_end, high_end, rounded_low, rounded_high, negation, least_of, greatest_of}
 
--- ---- the order
+-- ---- numbers
+
+pub neg-le : (p q : ℕ) → p ≤ q → neg_ℤ (pos q) ≤ℤ neg_ℤ (pos p)
+neg-le p q h = omega (arith, ints)
+
+pub neg-le-pos : (p q : ℕ) → neg_ℤ (pos p) ≤ℤ pos q
+neg-le-pos p q = omega (arith, ints)
+
+-- ---- the order of ends
 
 pub AtMost_refl : (a : Ext) → AtMost a a
 AtMost_refl Low = tt

@@ -1,5 +1,5 @@
 -- The products of the numbers of two ranges lie between the least and the greatest product of their ends.
-use Rattle.std.proofs.Common.{◌≡◌, ℕ, zero, suc, ℤ, pos, negsuc, ◌*◌, ◌≤◌, ◌*ℤ◌, neg_ℤ, ◌≤ℤ◌, ◌⊎◌, inl, inr, ⊎_elim, arith, refl, ap}
+use Rattle.std.proofs.Common.{◌≡◌, ℕ, zero, suc, ℤ, pos, negsuc, ◌*◌, ◌≤◌, ◌*ℤ◌, ◌≤ℤ◌, ◌⊎◌, inl, inr, ⊎_elim, arith, refl, ap}
 use Rattle.std.proofs.Math.Nat.{mul-le-mul_left}
 use Rattle.std.proofs.Math.IntN.{*ℤ_comm, zero-*ℤ}
 use Rattle.std.proofs.lemmas.Int.{ints}
@@ -7,17 +7,11 @@ use Rattle.std.specs.declared.cmp.Ordering.{Ordering}
 use Rattle.std.specs.declared.cmp.Ordering.TheVariants.{Less, Equal, Greater}
 use Rattle.ext_int.specs.declared.Ext.{Ext}
 use Rattle.ext_int.specs.declared.Ext.TheVariants.{Low, Fin, High}
-use Rattle.ext_int.specs.Ext.{Below, Above, AtMost, least_of, greatest_of, least_corner, greatest_corner, lesser, greater, side, infinite_product, product, rounded_low, rounded_high}
-use Rattle.ext_int.proofs.Ends.{AtMost_trans, AtMost-from_below, AtMost-from_above, Below-from_at_most, Above-from_at_most, least_of_rounded, greatest_of_rounded}
+use Rattle.ext_int.specs.Ext.{Below, Above, AtMost, least_of, greatest_of, least_corner, greatest_corner, side, infinite_product, product}
+use Rattle.ext_int.proofs.Ends.{neg-le, neg-le-pos, AtMost_trans, AtMost-from_below, AtMost-from_above, Below-from_at_most, Above-from_at_most, least_of_rounded, greatest_of_rounded}
 use Rattle.ext_int.proofs.Corners.{Rises, Falls, AnyEnd, corners_low, corners_high}
 
 -- ---- one factor fixed
-
-neg-le : (p q : ℕ) → p ≤ q → neg_ℤ (pos q) ≤ℤ neg_ℤ (pos p)
-neg-le p q h = omega (arith, ints)
-
-neg-le-pos : (p q : ℕ) → neg_ℤ (pos p) ≤ℤ pos q
-neg-le-pos p q = omega (arith, ints)
 
 pub mul-le_pos : (n : ℕ) (a b : ℤ) → a ≤ℤ b → (pos n *ℤ a) ≤ℤ (pos n *ℤ b)
 mul-le_pos n (pos a) (pos b) h = let k : a ≤ b = omega (arith, ints) in let m = mul-le-mul_left n k in omega (arith, ints)

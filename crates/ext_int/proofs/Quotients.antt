@@ -1,5 +1,5 @@
 -- The quotients of the numbers of two ranges, the divisors all above 0 or all below it, lie between the least and the greatest quotient of their ends.
-use Rattle.std.proofs.Common.{◌≡◌, ℕ, zero, suc, ℤ, pos, negsuc, ◌*◌, ◌/◌, ◌≤◌, neg_ℤ, ◌≤ℤ◌, ◌⊎◌, inl, inr, ⊎_elim, arith, refl, sym, ap}
+use Rattle.std.proofs.Common.{◌≡◌, ℕ, zero, suc, ℤ, pos, negsuc, ◌/◌, ◌≤◌, ◌≤ℤ◌, ◌⊎◌, inl, inr, ⊎_elim, arith, refl, sym, ap}
 use Rattle.std.specs.Prelude.{int_div}
 use Rattle.std.proofs.Math.Nat.{mul-le-mul_left, div-mul-le_self}
 use Rattle.std.proofs.Math.IntN.{neg_ℤ-neg_ℤ}
@@ -7,8 +7,8 @@ use Rattle.std.proofs.lemmas.Int.{ints}
 use Rattle.std.proofs.lemmas.Nat.{le-div}
 use Rattle.ext_int.specs.declared.Ext.{Ext}
 use Rattle.ext_int.specs.declared.Ext.TheVariants.{Low, Fin, High}
-use Rattle.ext_int.specs.Ext.{Below, Above, AtMost, IsPositive, IsNegative, least_of, greatest_of, least_corner, greatest_corner, quotient, negation, rounded_low, rounded_high}
-use Rattle.ext_int.proofs.Ends.{AtMost_trans, AtMost-from_below, AtMost-from_above, Below-from_at_most, Above-from_at_most, negation_falls, least_of_rounded, greatest_of_rounded}
+use Rattle.ext_int.specs.Ext.{Below, Above, AtMost, IsPositive, IsNegative, least_of, greatest_of, least_corner, greatest_corner, quotient, negation}
+use Rattle.ext_int.proofs.Ends.{neg-le, neg-le-pos, AtMost_trans, AtMost-from_below, AtMost-from_above, Below-from_at_most, Above-from_at_most, negation_falls, least_of_rounded, greatest_of_rounded}
 use Rattle.ext_int.proofs.Corners.{Rises, Falls, AnyEnd, corners_low, corners_high}
 
 pub IsPositive_up : (a b : Ext) → AtMost a b → IsPositive a → IsPositive b
@@ -45,12 +45,6 @@ IsPositive-negation High p = p
 
 div_le_left : (a b m : ℕ) → a ≤ b → a / suc m ≤ b / suc m
 div_le_left a b m h = le-div (a / suc m) b (suc m) (omega arith) (omega (arith, div-mul-le_self a (suc m)))
-
-neg-le : (p q : ℕ) → p ≤ q → neg_ℤ (pos q) ≤ℤ neg_ℤ (pos p)
-neg-le p q h = omega (arith, ints)
-
-neg-le-pos : (p q : ℕ) → neg_ℤ (pos p) ≤ℤ pos q
-neg-le-pos p q = omega (arith, ints)
 
 pos-le : (p q : ℕ) → p ≤ q → pos p ≤ℤ pos q
 pos-le p q h = omega (arith, ints)

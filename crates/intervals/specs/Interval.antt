@@ -1,10 +1,9 @@
 -- Intervals of whole numbers.
-use Rattle.std.specs.Prelude.{◌≡◌, ℤ, ◌≤ℤ◌}
+use Rattle.std.specs.Prelude.{◌≡◌, ℤ, ◌≤ℤ◌, ◌⊎◌}
 use Rattle.intervals.specs.declared.Interval.{Interval}
 use Rattle.ext_int.specs.declared.Ext.{Ext}
 use Rattle.ext_int.specs.declared.Ext.TheVariants.{Fin}
 use Rattle.ext_int.specs.Ext.{Below, Above, AtMost, IsNumber, IsPositive, IsNegative}
-use Rattle.std.specs.Prelude.{◌⊎◌}
 
 -- the least end of the interval: its least number, or Low
 abbrev pub least_end : Interval → Ext

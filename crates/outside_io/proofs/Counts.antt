@@ -1,5 +1,5 @@
 -- Counts of faults.
-use Rattle.std.proofs.Common.{rules, ◌≡◌, ℕ, Bool, true, false, cond, Result, Ok, Err, IfOk, OnOk, OnErr, is_ok, IsTrue, Option, None, Some}
+use Rattle.std.proofs.Common.{rules, ◌≡◌, ℕ, Bool, cond, Result, Ok, Err, IfOk, OnOk, OnErr, is_ok, IsTrue, None, Some}
 use Rattle.outside_io.specs.Io.{Rose, raised}
 
 -- a count that was raised rose, or stands at its last value

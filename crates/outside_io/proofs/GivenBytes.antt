@@ -1,5 +1,5 @@
 -- What was given of the open file, before and after a read.
-use Rattle.std.proofs.Common.{rules, arith, refl, sym, ◌∙◌, ap, ◌≡◌, ◌≤◌, ◌<◌, ◌+◌, ◌-◌, ◌++◌, ℕ, List, [], Option, Some, None, Result, Ok, Err, length, take, drop, min, IfOk, OnErr, unwrap_or, option_map}
+use Rattle.std.proofs.Common.{arith, refl, sym, ◌∙◌, ap, ◌≡◌, ◌≤◌, ◌<◌, ◌+◌, ◌-◌, ◌++◌, ℕ, List, Option, Some, None, Result, Ok, Err, length, take, drop, min, IfOk, option_map}
 use Rattle.std.specs.Option.{option_and_then, MatchOption}
 use Rattle.std.proofs.Math.Seq.{take-add}
 use Rattle.std.proofs.lemmas.List.{take-append-drop, take_at, take_all, length-take-le, length-drop}
@@ -50,7 +50,7 @@ gives_more old new k before after told count bytes moves g given =
     let within : k ≤ length (rest_of old) = omega arith in
     let piece : take k after ≡ take k (drop o.given b) = ap (take k) bytes ∙ (filled k (rest_of old) before within ∙ ap (take k) rest) in
     given_known new (record { name = o.name; given = o.given + k }) b now (told o.name ∙ bytes_of)
-        ∙ ap (λ (x : List ℕ). Some x) (take-add o.given k b ∙ sym (ap (λ x. x ++ take k after) front ∙ ap (λ x. take o.given b ++ x) piece))
+    ∙ ap (λ (x : List ℕ). Some x) (take-add o.given k b ∙ sym (ap (λ x. x ++ take k after) front ∙ ap (λ x. take o.given b ++ x) piece))
 
 -- what is given of an open name is a front of its bytes
 pub given_front : (held : HeldFiles) (n b g : List ℕ) → IsOpenIn held n → told_of held n ≡ Some b → given_of held ≡ Some g → IsFront g b

@@ -21,12 +21,13 @@ pub trait Files {
     /// How often a name has failed, which never falls.
     ghost faults: { Self → List ℕ → ℕ };
 
-    /// Opens a name, and closes the one before.
+    /// Opens a name, and closes the one before: where bytes are known, no other name is open.
     fn begin(&mut self, name: &str) -> Result<(), Failed>
         ensures told { (n : List ℕ) → told self.new n ≡ told self.old n }
         ensures later { (n : List ℕ) → faults self.old n ≤ faults self.new n }
 
         ensures open { OnOk result (is_open self.new name.now) }
+        ensures closed { OnOk result ((n b : List ℕ) → is_open self.new n → told self.new n ≡ Some b → n ≡ name.now) }
         ensures given { OnOk result ((b : List ℕ) → told self.old name.now ≡ Some b → given self.new ≡ Some []) }
         ensures there { (n b : List ℕ) → is_open self.new n → told self.new n ≡ Some b → IsSome (given self.new) }
 

@@ -71,11 +71,11 @@ impl Model for MemFiles {
     ghost Value = { HeldFiles };
 
     ghost view = { λ m. record {
-        files = m.files.items;
-        absent_faults = m.absent_failures;
-        current = option_map (λ o. record { name = (file_at m.files.items o.place).name; given = o.given }) m.current;
-        failing = m.calls.failing;
-        calls = m.calls.made;
+      files = m.files.items;
+      absent_faults = m.absent_failures;
+      current = option_map (λ o. record { name = (file_at m.files.items o.place).name; given = o.given }) m.current;
+      failing = m.calls.failing;
+      calls = m.calls.made;
     } };
 
     ghost invariant = { λ m. IfSome m.current (λ o. IsOpenPlace m.files.items o.place o.given) };

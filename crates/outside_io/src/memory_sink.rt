@@ -25,11 +25,11 @@ impl Model for MemSink {
     ghost Value = { HeldBytes };
 
     ghost view = { λ s. record {
-        bytes = s.bytes.items;
-        room = s.room;
-        failing = s.calls.failing;
-        calls = s.calls.made;
-        faults = s.failures;
+      bytes = s.bytes.items;
+      room = s.room;
+      failing = s.calls.failing;
+      calls = s.calls.made;
+      faults = s.failures;
     } };
 
     ghost invariant = { λ s. (vec_len s.bytes ≤ s.room) × (s.room ≤ vec_capacity s.bytes) };

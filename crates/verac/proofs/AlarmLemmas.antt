@@ -1,6 +1,6 @@
 -- What no alarm, or one, says of a program that returns an expression.
 use Rattle.std.proofs.Common.{arith, ◌≡◌, ◌⊎◌, inl, inr, ℤ, pos, Bool, true, false, List, [], ◌∷◌, refl, sym, ap, subst, ◌∙◌, Some, ◌*ℤ◌, ◌+ℤ◌}
-use Rattle.std.specs.Prelude.{◌<ℤ◌, int_div, neg_ℤ, ◌-ℤ◌, All, Any, AllPairs, Contains, if◌then◌else◌}
+use Rattle.std.specs.Prelude.{◌<ℤ◌, int_div, neg_ℤ, ◌-ℤ◌, All, AllPairs, Contains, if◌then◌else◌}
 use Rattle.std.specs.Ordering.{int_eq}
 use Rattle.std.proofs.lemmas.Int.{ints}
 use Rattle.std.proofs.lemmas.List.Quantifiers.{Any-push}
@@ -15,7 +15,7 @@ use Rattle.c_syntax.specs.declared.alarm.Alarm.{Alarm}
 use Rattle.c_syntax.specs.declared.alarm.Example.{Example}
 use Rattle.c_syntax.specs.declared.alarm.Example.TheVariants as examples
 use Rattle.c_syntax.specs.declared.alarm.Fact.{Fact}
-use Rattle.c_syntax.specs.Operand.{Operand, Number, operand_of}
+use Rattle.c_syntax.specs.Operand.{Operand, Number}
 use Rattle.c_syntax.specs.Admission.{IsInShown, IsProper}
 use Rattle.c_syntax.specs.Admission as syntax
 use Rattle.c_syntax.specs.Fact.{FactHolds}
@@ -25,12 +25,12 @@ use Rattle.verac.specs.Tree.{ExprTree, Constant, Negate, Binary, Return, returni
 use Rattle.verac.specs.Operators.{Outcome, Gives, Fails, checked, negate, operate, fits, least, greatest, IsInt}
 use Rattle.verac.specs.Outcome.{Found, Value, found_at, negated, operated, found_of}
 use Rattle.verac.specs.Outcome as found
-use Rattle.verac.specs.Admission.{int_check, zero_check, checks_of, MakesCheck, StatementMakes, ChecksAt, IsAdmitted}
+use Rattle.verac.specs.Admission.{int_check, zero_check, checks_of, MakesCheck, IsAdmitted}
 use Rattle.verac.specs.Machine.{State, GoesWrong, number_of, spot_of}
 use Rattle.verac.specs.Sound.{TellsOf, Covers, IsSound}
 use Rattle.verac.specs.Report.{Precedes, IsPrintable, IsNumeric}
 use Rattle.verac.proofs.RunLemmas.{WrongOnly, wrong_only}
-use Rattle.verac.specs.Walk.{check_of, IsAlarmOf, IsAlarmAt}
+use Rattle.verac.specs.Walk.{check_of, IsAlarmOf}
 use Rattle.verac.proofs.SizeLemmas.{IsModest, modest_product, modest_quotient, modest_sum, modest_difference, modest_negation}
 
 fits_int : (n : ℤ) → fits n ≡ true → IsInt n

@@ -1,14 +1,14 @@
 -- A run reaches what the expression comes to, and a run that stands still stays there.
-use Rattle.std.proofs.Common.{zero-add, ◌≡◌, ◌+◌, ℕ, zero, suc, ℤ, pos, List, [], ◌∷◌, refl, sym, ap, subst, ◌∙◌, Option, None}
+use Rattle.std.proofs.Common.{zero-add, ◌≡◌, ◌+◌, ℕ, zero, suc, ℤ, List, [], ◌∷◌, refl, sym, ap, subst, ◌∙◌, None}
 use Rattle.std.specs.Prelude.{reverse}
 use Rattle.std.proofs.Math.Nat.{suc-add}
 use Rattle.c_syntax.specs.declared.place.Pos.{Pos}
 use Rattle.c_syntax.specs.declared.alarm.WrongKind.{WrongKind}
 use Rattle.c_syntax.specs.Operand.{Operand}
 use Rattle.verac.specs.declared.tree.Operator.{Operator}
-use Rattle.verac.specs.Tree.{ExprTree, Constant, Negate, Binary, ProgramTree, Return, returning}
+use Rattle.verac.specs.Tree.{ExprTree, Constant, Negate, Binary, ProgramTree, returning}
 use Rattle.verac.specs.Operators.{Outcome, Gives, Fails, negate, operate}
-use Rattle.verac.specs.Machine.{Item, Eval, Un, Bin, Do, DoBlock, Close, Leave, Enter, Reach, Finish, State, Next, Goes, Ended, Stuck, goes, after_operator, step, goes_on, moved_to, steps, start, after, calls_in, chain_of, GoesWrong}
+use Rattle.verac.specs.Machine.{Item, Eval, Un, Bin, Close, Leave, Reach, Finish, State, Goes, Ended, goes, after_operator, step, goes_on, moved_to, steps, start, calls_in, GoesWrong}
 use Rattle.verac.specs.Machine as machine
 use Rattle.verac.specs.Outcome.{Found, Value, found_at, negated, operated, found_of}
 use Rattle.verac.specs.Outcome as found
@@ -122,13 +122,13 @@ wrong_is : (program : ProgramTree) (inputs : List ℤ) (r : Found) → Comes pro
 wrong_is program inputs (Value v) (t, (m, l), e) s chain at kind operand w =
     let (n, f) = w.reached in
     let here : steps program m (start inputs) ≡ steps program n (start inputs) =
-        same_end program m n (start inputs) (subst (StandsStill program) (sym l) (ended_stands program t v e)) (subst (StandsStill program) (sym f) (wrong_stands program s at kind operand w.wrong)) in
+    same_end program m n (start inputs) (subst (StandsStill program) (sym l) (ended_stands program t v e)) (subst (StandsStill program) (sym f) (wrong_stands program s at kind operand w.wrong)) in
     let g : Ended v ≡ machine.Wrong at kind operand = sym e ∙ ap (λ x. step program x) (sym l ∙ here ∙ f) ∙ w.wrong in
     cc
 wrong_is program inputs (found.Wrong p k o) (t, (m, l), e, c) s chain at kind operand w =
     let (n, f) = w.reached in
     let here : steps program m (start inputs) ≡ steps program n (start inputs) =
-        same_end program m n (start inputs) (subst (StandsStill program) (sym l) (wrong_stands program t p k o e)) (subst (StandsStill program) (sym f) (wrong_stands program s at kind operand w.wrong)) in
+    same_end program m n (start inputs) (subst (StandsStill program) (sym l) (wrong_stands program t p k o e)) (subst (StandsStill program) (sym f) (wrong_stands program s at kind operand w.wrong)) in
     let same : t ≡ s = sym l ∙ here ∙ f in
     let g : machine.Wrong p k o ≡ machine.Wrong at kind operand = sym e ∙ ap (λ x. step program x) same ∙ w.wrong in
     (sym w.called ∙ ap (λ (x : State). reverse (calls_in x.work)) (sym same) ∙ ap (λ (x : List Pos). reverse x) c, cc, cc, cc)

@@ -1,5 +1,5 @@
 -- How large the exact results of ints are.
-use Rattle.std.proofs.Common.{arith, ◌≡◌, ◌≤◌, ◌*◌, ◌/◌, ℕ, suc, ℤ, pos, negsuc, ◌*ℤ◌, neg_ℤ, ◌≤ℤ◌, ◌+ℤ◌}
+use Rattle.std.proofs.Common.{arith, ◌≤◌, ◌*◌, ◌/◌, ℕ, suc, ℤ, pos, negsuc, ◌*ℤ◌, neg_ℤ, ◌≤ℤ◌, ◌+ℤ◌}
 use Rattle.std.specs.Prelude.{◌-ℤ◌, int_div}
 use Rattle.std.proofs.Math.Nat.{mul-le-mul_left, div-le_self}
 use Rattle.std.proofs.lemmas.Int.{ints}

@@ -1,10 +1,9 @@
 -- What the walk finds where the intervals are points.
 use Rattle.std.proofs.Common.{arith, ◌≡◌, ℤ, pos, Bool, true, false, List, [], ◌∷◌, ◌++◌, Option, Some, None, refl, sym, ap, subst, ◌∙◌}
-use Rattle.std.specs.Prelude.{◌≤ℤ◌, ◌↔◌, ◌≢◌, int_div, IsNone, IsSome, IsTrue, if◌then◌else◌}
+use Rattle.std.specs.Prelude.{◌≤ℤ◌, ◌↔◌, ◌≢◌, int_div, IsNone}
 use Rattle.std.specs.Ordering.{int_eq}
 use Rattle.std.proofs.lemmas.Int.{ints}
 use Rattle.ext_int.specs.declared.Ext.{Ext}
-use Rattle.ext_int.specs.declared.Ext.TheVariants.{Fin}
 use Rattle.ext_int.specs.Ext.{Below, Above}
 use Rattle.intervals.specs.declared.Interval.{Interval}
 use Rattle.intervals.specs.Interval.{Admits, IsPoint, IsBetween}
@@ -16,7 +15,7 @@ use Rattle.c_syntax.specs.Operand.{Number}
 use Rattle.verac.specs.declared.tree.Operator.{Operator}
 use Rattle.verac.specs.declared.tree.Operator.TheVariants.{Divide}
 use Rattle.verac.specs.Tree.{ExprTree}
-use Rattle.verac.specs.Operators.{Gives, Fails, checked, negate, operate, fits, IsInt, least, greatest}
+use Rattle.verac.specs.Operators.{checked, negate, operate, fits, IsInt, least, greatest}
 use Rattle.verac.specs.Outcome.{Found, Value, Wrong, found_at, negated, operated}
 use Rattle.verac.proofs.AlarmLemmas.{IsFairly}
 use Rattle.verac.specs.Walk.{IsAlarmOf, Walks}

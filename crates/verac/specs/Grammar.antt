@@ -4,7 +4,7 @@
 --   product = unary { ("*" | "/") unary }
 --   unary   = "-" unary | primary
 --   primary = constant | "(" sum ")"
-use Rattle.std.specs.Prelude.{◌≡◌, ◌≤◌, ℕ, pos, List, [], ◌∷◌, ◌++◌, length, map, codes, Option, Some, None}
+use Rattle.std.specs.Prelude.{◌≡◌, ◌≤◌, pos, List, [], ◌∷◌, ◌++◌, length, map, codes}
 use Rattle.c_syntax.specs.declared.token.Placed.{Placed}
 use Rattle.c_syntax.specs.declared.token.Constant.{Constant}
 use Rattle.c_syntax.specs.declared.token.Token.{Token}

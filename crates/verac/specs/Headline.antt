@@ -2,7 +2,7 @@
 use Rattle.std.specs.Prelude.{◌≡◌, ◌≢◌, ℕ, List, [], All, AllPairs}
 use Rattle.c_syntax.specs.declared.alarm.Alarm.{Alarm}
 use Rattle.verac.specs.declared.status.Status.{Status}
-use Rattle.verac.specs.declared.status.Status.TheVariants.{NoAlarm, Alarms, Refused, Usage, ReadFault, WriteFault, NoMemory}
+use Rattle.verac.specs.declared.status.Status.TheVariants.{NoAlarm, Alarms, Refused, Usage, ReadFault, NoMemory}
 use Rattle.verac.specs.Tree.{ProgramTree}
 use Rattle.verac.specs.Program.{IsProgram}
 use Rattle.verac.specs.Sound.{IsSound}

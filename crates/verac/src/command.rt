@@ -1,5 +1,5 @@
 // The words of the command line.
-ghost use Rattle.std.specs.Prelude.{◌≡◌, List, ℕ, IsTrue, ◌↔◌, IfSome, IfNone};
+ghost use Rattle.std.specs.Prelude.{List, ℕ, IsTrue, ◌↔◌, IfSome, IfNone};
 ghost use Rattle.verac.specs.Command.{IsCommand, IsName, texts};
 
 /// The file that the words name, where they are a command.

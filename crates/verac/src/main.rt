@@ -1,14 +1,53 @@
 //! Verac: what may go wrong in a C file, from its bytes to the report.
 #![tactic(auto)]
 
-<<<<<<< HEAD
 mod command;
-mod report;
-mod status;
-=======
 mod parse;
->>>>>>> 088271f09b8265f0cdb0d02e2b6d29debe0de452
+mod program;
+mod report;
+mod runs;
+mod status;
+#[cfg(test)]
+mod tests;
 mod tree;
 mod walk;
 
-fn main(rt: HostRuntime) {}
+use outside_io::{HostFiles, HostOut};
+use runs::run;
+use status::Status;
+use std::process::ExitCode;
+use std::{env, io};
+
+fn main(rt: HostRuntime) -> ExitCode {
+    let status = match words(&rt) {
+        Ok(words) => {
+            let mut files = HostFiles::new(&rt);
+            let mut out = HostOut::new(&rt);
+            run(rt.alloc(), &words, &mut files, &mut out)
+        }
+        // A word that is no text is no word of a command.
+        Err(error) => match error.kind() {
+            io::ErrorKind::OutOfMemory => Status::NoMemory,
+            _ => Status::Usage,
+        },
+    };
+    let told = match status {
+        Status::NoAlarm | Status::Alarms | Status::Refused => Ok(()),
+        Status::Usage => eprintln!(rt; "verac: usage"),
+        Status::ReadFault => eprintln!(rt; "verac: read fault"),
+        Status::WriteFault => eprintln!(rt; "verac: write fault"),
+        Status::NoMemory => eprintln!(rt; "verac: out of memory"),
+    };
+    // The status tells it too, where standard error takes nothing.
+    drop(told);
+    ExitCode::from(status.code())
+}
+
+// The words of the command line, the program's own name first.
+fn words(rt: &HostRuntime) -> io::Result<Vec<String>> {
+    let mut words = Vec::new(rt.alloc());
+    for word in env::args(rt)? {
+        words.push(word)?;
+    }
+    Ok(words)
+}

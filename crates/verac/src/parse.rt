@@ -1,12 +1,12 @@
 // The expression that the tokens of a file return, by a descent that looks one token ahead.
 
-ghost use Rattle.std.specs.Prelude.{◌≡◌, ◌≤◌, ◌<◌, ◌↔◌, List, [], ◌∷◌, ◌++◌, length, map, codes, IsTrue, IfOk, IfSome, MatchOption};
+ghost use Rattle.std.specs.Prelude.{◌≡◌, ◌≤◌, ◌<◌, ◌↔◌, List, [], ◌∷◌, length, map, codes, IsTrue, IfOk, IfSome, MatchOption};
 ghost use Rattle.c_syntax.specs.declared.token.Placed.{Placed};
 ghost use Rattle.c_syntax.specs.declared.token.Punctuator.{Punctuator};
 ghost use Rattle.verac.specs.declared.tree.Operator.{Operator};
 ghost use Rattle.verac.specs.Tree.{ExprTree, expr_tree, HasConstants};
 ghost use Rattle.verac.specs.Tree as trees;
-ghost use Rattle.verac.specs.Grammar.{Part, Run, Rest, Unary, Primary, operand_of, IsOperator, IsFile, tail};
+ghost use Rattle.verac.specs.Grammar.{Run, Rest, Unary, Primary, operand_of, IsOperator, IsFile, tail};
 ghost use Rattle.verac.specs.Descent.{Goes, NotFirst, IsFirst, NoConstant, IsConstant, IsConstantFirst, NoOperator, IsOperatorAt, IsOperatorFirst, Begins, Returns};
 ghost use Rattle.verac.specs.Answers.{level_of, token_of, outcome_of};
 
@@ -98,7 +98,8 @@ fn taken(tokens: &[Placed], fixed: Fixed) -> Option<(&Placed, &[Placed])>
 
 /// The tokens behind these, where they stand first.
 fn behind<'a>(tokens: &'a [Placed], wanted: &[Fixed]) -> Option<&'a [Placed]>
-    ensures { MatchOption result ((rest : List Placed) → Begins (map token_of wanted.now) tokens.now rest → ⊥)
+    ensures { MatchOption result
+        ((rest : List Placed) → Begins (map token_of wanted.now) tokens.now rest → ⊥)
         (λ rest. Begins (map token_of wanted.now) tokens.now rest.now) }
 {
     let mut rest = tokens;
@@ -160,7 +161,8 @@ fn operator(level: Level, tokens: &[Placed]) -> Option<(Pos, Operator, &[Placed]
 
 /// The node of a constant, where the token is one that an int holds.
 fn constant_at(placed: &Placed) -> Option<Expr>
-    ensures { MatchOption result (NoConstant (placed.now ∷ [])) (λ e. IsConstant placed.now (expr_tree e)) }
+    ensures { MatchOption result (NoConstant (placed.now ∷ []))
+        (λ e. IsConstant placed.now (expr_tree e)) }
 {
     match placed.token {
         Token::Number(constant) => {
@@ -176,7 +178,8 @@ fn constant_at(placed: &Placed) -> Option<Expr>
 
 /// A constant, and the tokens after it.
 fn constant(tokens: &[Placed]) -> Option<(Expr, &[Placed])>
-    ensures { MatchOption result (NoConstant tokens.now) (λ x. IsConstantFirst tokens.now (expr_tree x.0) x.1.now) }
+    ensures { MatchOption result (NoConstant tokens.now)
+        (λ x. IsConstantFirst tokens.now (expr_tree x.0) x.1.now) }
 {
     let (head, rest) = tokens.split_first()?;
     let e = constant_at(head)?;
@@ -190,7 +193,8 @@ fn negated(alloc: Global, at: Pos, e: Expr) -> Result<Expr, AllocError>
 }
 
 fn binary(alloc: Global, at: Pos, op: Operator, left: Expr, right: Expr) -> Result<Expr, AllocError>
-    ensures { IfOk result (λ made. expr_tree made ≡ trees.Binary at op (expr_tree left) (expr_tree right)) }
+    ensures { IfOk result
+        (λ made. expr_tree made ≡ trees.Binary at op (expr_tree left) (expr_tree right)) }
 {
     let left = Box::new(alloc, left)?;
     let right = Box::new(alloc, right)?;
@@ -207,10 +211,10 @@ fn run(
     ensures goes { IfOk result (λ found. Goes (Run (level_of level)) tokens.now (outcome_of found)) }
     ensures shorter { IfOk result (λ found. IfSome found (λ x. length x.1.now < length tokens.now)) }
 {
-    match operand(alloc, level, tokens)? {
-        Some((left, rest)) => rest_of_run(alloc, level, left, rest),
-        None => Ok(None),
-    }
+    let Some((left, rest)) = operand(alloc, level, tokens)? else {
+        return Ok(None);
+    };
+    rest_of_run(alloc, level, left, rest)
 }
 
 /// What follows the left part of a run, and the tokens after it.
@@ -221,23 +225,20 @@ fn rest_of_run(
     first: Expr,
     tokens: &[Placed],
 ) -> Result<Option<(Expr, &[Placed])>, AllocError>
-    ensures goes { IfOk result (λ found. Goes (Rest (level_of level) (expr_tree first)) tokens.now (outcome_of found)) }
+    ensures goes { IfOk result
+        (λ found. Goes (Rest (level_of level) (expr_tree first)) tokens.now (outcome_of found)) }
     ensures shorter { IfOk result (λ found. IfSome found (λ x. length x.1.now ≤ length tokens.now)) }
 {
     let mut left = first;
     let mut rest = tokens;
-    loop {
-        match operator(level, rest) {
-            None => return Ok(Some((left, rest))),
-            Some((at, op, after)) => match operand(alloc, level, after)? {
-                None => return Ok(None),
-                Some((right, after)) => {
-                    left = binary(alloc, at, op, left, right)?;
-                    rest = after;
-                }
-            },
-        }
+    while let Some((at, op, after)) = operator(level, rest) {
+        let Some((right, after)) = operand(alloc, level, after)? else {
+            return Ok(None);
+        };
+        left = binary(alloc, at, op, left, right)?;
+        rest = after;
     }
+    Ok(Some((left, rest)))
 }
 
 /// An operand of a level, and the tokens after it.
@@ -247,7 +248,8 @@ fn operand(
     level: Level,
     tokens: &[Placed],
 ) -> Result<Option<(Expr, &[Placed])>, AllocError>
-    ensures goes { IfOk result (λ found. Goes (operand_of (level_of level)) tokens.now (outcome_of found)) }
+    ensures goes { IfOk result
+        (λ found. Goes (operand_of (level_of level)) tokens.now (outcome_of found)) }
     ensures shorter { IfOk result (λ found. IfSome found (λ x. length x.1.now < length tokens.now)) }
 {
     match level {
@@ -262,13 +264,13 @@ fn unary(alloc: Global, tokens: &[Placed]) -> Result<Option<(Expr, &[Placed])>, 
     ensures goes { IfOk result (λ found. Goes Unary tokens.now (outcome_of found)) }
     ensures shorter { IfOk result (λ found. IfSome found (λ x. length x.1.now < length tokens.now)) }
 {
-    match taken(tokens, Fixed::Mark(Punctuator::Minus)) {
-        Some((minus, after)) => match unary(alloc, after)? {
-            Some((e, rest)) => Ok(Some((negated(alloc, minus.pos, e)?, rest))),
-            None => Ok(None),
-        },
-        None => primary(alloc, tokens),
-    }
+    let Some((minus, after)) = taken(tokens, Fixed::Mark(Punctuator::Minus)) else {
+        return primary(alloc, tokens);
+    };
+    let Some((e, rest)) = unary(alloc, after)? else {
+        return Ok(None);
+    };
+    Ok(Some((negated(alloc, minus.pos, e)?, rest)))
 }
 
 /// A constant or what parentheses enclose, and the tokens after it.
@@ -277,46 +279,48 @@ fn primary(alloc: Global, tokens: &[Placed]) -> Result<Option<(Expr, &[Placed])>
     ensures goes { IfOk result (λ found. Goes Primary tokens.now (outcome_of found)) }
     ensures shorter { IfOk result (λ found. IfSome found (λ x. length x.1.now < length tokens.now)) }
 {
-    match taken(tokens, Fixed::Mark(Punctuator::LeftParenthesis)) {
-        Some((_, inside)) => match run(alloc, Level::Sum, inside)? {
-            Some((e, rest)) => match taken(rest, Fixed::Mark(Punctuator::RightParenthesis)) {
-                Some((_, after)) => Ok(Some((e, after))),
-                None => Ok(None),
-            },
-            None => Ok(None),
-        },
-        None => Ok(constant(tokens)),
-    }
+    let Some((_, inside)) = taken(tokens, Fixed::Mark(Punctuator::LeftParenthesis)) else {
+        return Ok(constant(tokens));
+    };
+    let Some((e, rest)) = run(alloc, Level::Sum, inside)? else {
+        return Ok(None);
+    };
+    let Some((_, after)) = taken(rest, Fixed::Mark(Punctuator::RightParenthesis)) else {
+        return Ok(None);
+    };
+    Ok(Some((e, after)))
 }
 
 /// What stands behind `return`: the expression, and the end of the file.
 fn returned(alloc: Global, tokens: &[Placed]) -> Result<Option<Expr>, AllocError>
-    ensures found { IfOk result (λ found. MatchOption found ((e : ExprTree) → Returns tokens.now e → ⊥)
-        (λ e. Returns tokens.now (expr_tree e))) }
-    ensures only { IfOk result (λ found. IfSome found (λ e. (other : ExprTree) → Returns tokens.now other → other ≡ expr_tree e)) }
+    ensures found { IfOk result (λ found. MatchOption found
+        ((e : ExprTree) → Returns tokens.now e → ⊥) (λ e. Returns tokens.now (expr_tree e))) }
+    ensures only { IfOk result (λ found. IfSome found
+        (λ e. (other : ExprTree) → Returns tokens.now other → other ≡ expr_tree e)) }
 {
     if tokens.len() > MOST_TOKENS + TAIL.len() {
         return Ok(None);
     }
-    match run(alloc, Level::Sum, tokens)? {
-        Some((e, rest)) => { if is_tail(rest) { Ok(Some(e)) } else { Ok(None) } }
-        None => Ok(None),
-    }
+    let Some((e, rest)) = run(alloc, Level::Sum, tokens)? else {
+        return Ok(None);
+    };
+    if is_tail(rest) { Ok(Some(e)) } else { Ok(None) }
 }
 
 /// The expression that the tokens, a file of the built form, return; None exactly where they are
 /// no such file.
 pub fn file(alloc: Global, tokens: &[Placed]) -> Result<Option<Expr>, AllocError>
-    ensures found { IfOk result (λ found. MatchOption found ((e : ExprTree) → IsFile tokens.now e → ⊥)
-        (λ e. IsFile tokens.now (expr_tree e))) }
+    ensures found { IfOk result (λ found. MatchOption found
+        ((e : ExprTree) → IsFile tokens.now e → ⊥) (λ e. IsFile tokens.now (expr_tree e))) }
     // The tokens have no other expression.
-    ensures only { IfOk result (λ found. IfSome found (λ e. (other : ExprTree) → IsFile tokens.now other → other ≡ expr_tree e)) }
+    ensures only { IfOk result (λ found. IfSome found
+        (λ e. (other : ExprTree) → IsFile tokens.now other → other ≡ expr_tree e)) }
     ensures constants { IfOk result (λ found. IfSome found (λ e. HasConstants (expr_tree e))) }
 {
-    match behind(tokens, &HEAD) {
-        Some(rest) => returned(alloc, rest),
-        None => Ok(None),
-    }
+    let Some(rest) = behind(tokens, &HEAD) else {
+        return Ok(None);
+    };
+    returned(alloc, rest)
 }
 
 #[cfg(test)]

@@ -33,11 +33,7 @@ pub fn alarms_of(alloc: Global, e: &Expr) -> Result<Vec<Alarm>, AllocError>
 }
 
 // The values with which the run goes on behind the expression; none where none passes its checks.
-fn walk(
-    alloc: Global,
-    e: &Expr,
-    alarms: &mut Vec<Alarm>,
-) -> Result<Option<Interval>, AllocError>
+fn walk(alloc: Global, e: &Expr, alarms: &mut Vec<Alarm>) -> Result<Option<Interval>, AllocError>
     requires { HasConstants (expr_tree e.now) }
     ensures { IfOk result (λ value. Walks (found_of (expr_tree e.now)) value alarms.old.items alarms.new.items) }
 {

@@ -1,4 +1,4 @@
-use Rattle.std.proofs.Common.{rules, arith, suc, ◌≡◌, ◌<◌, ◌≤◌, ◌++◌, ◌+◌, List, ℕ, Some, length, take, append-nil, length-append, ap, sym, ◌∙◌, zero}
+use Rattle.std.proofs.Common.{rules, arith, suc, ◌≡◌, ◌<◌, ◌++◌, ◌+◌, List, ℕ, length, take, append-nil, length-append, ap, sym, ◌∙◌, zero}
 use Rattle.outside_io.specs.Io.{IsFront}
 use Rattle.outside_io.proofs.reading.read_all.Goals as goal
 

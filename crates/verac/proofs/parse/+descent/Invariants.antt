@@ -28,9 +28,9 @@ abbrev pub decreases-rest_of_run : goal.decreases-rest_of_run
 decreases-rest_of_run l = 8 * length l.tokens.now
 
 -- what is left of the tokens decides for all of them
-abbrev pub invariant-rest_of_run-loop-left : goal.invariant-rest_of_run-loop-left
-invariant-rest_of_run-loop-left l =
+abbrev pub invariant-rest_of_run-loop-at : goal.invariant-rest_of_run-loop-at
+invariant-rest_of_run-loop-at l =
     ((o : Outcome) → Goes (Rest (level_of l.level) (expr_tree l.left)) l.rest o → Goes (Rest (level_of l.level) (expr_tree l.fn.first)) l.fn.tokens o) × (length l.rest ≤ length l.fn.tokens)
 
-abbrev pub decreases-rest_of_run-loop-left : goal.decreases-rest_of_run-loop-left
-decreases-rest_of_run-loop-left l = length l.rest
+abbrev pub decreases-rest_of_run-loop-at : goal.decreases-rest_of_run-loop-at
+decreases-rest_of_run-loop-at l = length l.rest

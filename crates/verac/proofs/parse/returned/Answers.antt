@@ -3,6 +3,9 @@ use Rattle.verac.proofs.ParseLemmas.{found_as}
 use Rattle.verac.proofs.ParseExact.{stop_returns, left_returns, one_returns, done_returns}
 use Rattle.verac.proofs.parse.returned.Goals as goal
 
+pub returns-in_default-clause-found : goal.returns-in_default-clause-found
+returns-in_default-clause-found c = stop_returns _ (found_as c.in_default.is c.in_ok-e.ensures.goes)
+
 pub returns-then-is_tail-clause-found : goal.returns-then-is_tail-clause-found
 returns-then-is_tail-clause-found c = done_returns _ _ _ (found_as c.in-Some.is c.in_ok-e.ensures.goes) (c.if-is_tail.ensures.0 refl) c.if-tokens.false
 
@@ -11,6 +14,3 @@ returns-then-is_tail-clause-only c = one_returns _ _ _ (found_as c.in-Some.is c.
 
 pub returns-else-is_tail-clause-found : goal.returns-else-is_tail-clause-found
 returns-else-is_tail-clause-found c = left_returns _ _ _ (found_as c.in-Some.is c.in_ok-e.ensures.goes) (λ e. let no = c.if-is_tail.ensures.1 e in cc)
-
-pub returns-in-None-clause-found : goal.returns-in-None-clause-found
-returns-in-None-clause-found c = stop_returns _ (found_as c.in-None.is c.in_ok-e.ensures.goes)

@@ -20,8 +20,8 @@ returns-in_ok-value-in-Negate t c =
     let h : HasConstants a = subst HasConstants tree c.requires in
     let left : Walks (found_of a) (Some c.in-Some.x) c.args.alarms.now.items c.walk.new.alarms.items = search rules in
     let after : Walks (found_of (Negate c.in-Negate.at a)) c.in_ok-value-in-Negate.value c.args.alarms.now.items c.as_int.new.alarms.items =
-        negated_walks c.in-Negate.at a (found_of a) c.in-Some.x c.in_ok-value-in-Negate.value c.args.alarms.now.items c.walk.new.alarms.items c.as_int.new.alarms.items (fairly a h) left
-        (λ n point int. c.in_ok-value-in-Negate.ensures (neg_ℤ n) (c.neg-exact.ensures.point n point (negation_fits n int))) in
+    negated_walks c.in-Negate.at a (found_of a) c.in-Some.x c.in_ok-value-in-Negate.value c.args.alarms.now.items c.walk.new.alarms.items c.as_int.new.alarms.items (fairly a h) left
+    (λ n point int. c.in_ok-value-in-Negate.ensures (neg_ℤ n) (c.neg-exact.ensures.point n point (negation_fits n int))) in
     subst (λ (e : ExprTree). Walks (found_of e) c.in_ok-value-in-Negate.value c.args.alarms.now.items c.as_int.new.alarms.items) (sym tree) after
 
 pub returns-in_ok-value-in-Binary : goal.returns-in_ok-value-in-Binary
@@ -33,6 +33,6 @@ returns-in_ok-value-in-Binary t c =
     let left : Walks (found_of a) (Some c.in-Some-2.x) c.args.alarms.now.items c.walk-in-Binary.new.alarms.items = search rules in
     let right : Walks (found_of b) (Some c.in-Some-3.y) c.walk-in-Binary.new.alarms.items c.walk-in-Binary-2.new.alarms.items = search rules in
     let after : Walks (found_of (Binary c.in-Binary.at c.in-Binary.operator a b)) c.in_ok-value-in-Binary.value c.args.alarms.now.items c.operated.new.alarms.items =
-        operated_walks c.in-Binary.at c.in-Binary.operator a b (found_of a) (found_of b) c.in-Some-2.x c.in-Some-3.y c.in_ok-value-in-Binary.value c.args.alarms.now.items c.walk-in-Binary.new.alarms.items
-        c.walk-in-Binary-2.new.alarms.items c.operated.new.alarms.items (fairly a h.0) (fairly b h.1) left right c.in_ok-value-in-Binary.ensures in
+    operated_walks c.in-Binary.at c.in-Binary.operator a b (found_of a) (found_of b) c.in-Some-2.x c.in-Some-3.y c.in_ok-value-in-Binary.value c.args.alarms.now.items c.walk-in-Binary.new.alarms.items
+    c.walk-in-Binary-2.new.alarms.items c.operated.new.alarms.items (fairly a h.0) (fairly b h.1) left right c.in_ok-value-in-Binary.ensures in
     subst (λ (e : ExprTree). Walks (found_of e) c.in_ok-value-in-Binary.value c.args.alarms.now.items c.operated.new.alarms.items) (sym tree) after

@@ -1,5 +1,5 @@
 -- What the standard output says of a write gives what each sink says of one.
-use Rattle.std.proofs.Common.{rules, refl}
+use Rattle.std.proofs.Common.{refl}
 use Rattle.std.proofs.lemmas.Result.{IfOk-weaker, on_err_weaker}
 use Rattle.outside_io.proofs.Counts.{raised_rose, untold, always_ok, always_err}
 use Rattle.outside_io.proofs.host.HostOutSink.TheImpl.Goals as goal

@@ -1,6 +1,5 @@
 -- What an `add` leaves.
-use Rattle.std.proofs.Common.{rules, arith, refl, sym, ◌∙◌, ap, ◌≡◌, ◌++◌, ◌∷◌, [], List, ℕ}
-use Rattle.outside_io.specs.Memory.{HeldFile, file_named}
+use Rattle.std.proofs.Common.{◌∙◌}
 use Rattle.outside_io.proofs.Held.{first_from_position, absent_from_position, replace_told, replace_others, replace_faults, push_told, push_others, push_faults}
 use Rattle.outside_io.proofs.memory_files.MemFiles.add.Goals as goal
 

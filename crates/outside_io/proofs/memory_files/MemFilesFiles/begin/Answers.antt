@@ -1,5 +1,5 @@
 -- What a `begin` leaves.
-use Rattle.std.proofs.Common.{rules, refl, sym, ap, ◌≡◌, ℕ, List, Bool, true, false, Option, Some, None, inl, inr, option_map}
+use Rattle.std.proofs.Common.{rules, refl, ◌≡◌, ℕ, List, Bool, true, false, Option, None, inl, inr, option_map}
 use Rattle.outside_io.specs.Memory.{HeldFile, IsFirst, file_named}
 use Rattle.outside_io.proofs.Held.{first_from_position, absent_from_position, found, fault_told, fault_later, raises_held, raises_absent}
 use Rattle.outside_io.proofs.memory_files.MemFilesFiles.begin.Goals as goal
@@ -53,10 +53,13 @@ invariant_of-self-2 c =
 pub returns-clause-failed : goal.returns-clause-failed
 returns-clause-failed c =
     let first = first_from_position c.self.inside.files.items c.args.name.now c.in-Some.place c.in-Some.ensures in
-    rw (← c.self.view_is) (apart, λ either. elim either [
-      inl none ↦ none_told first none
-    | inr listed ↦ not_listed c.if-fails.false (c.next_fails-fails.ensures.listed.1 listed)
-    ])
+    rw (← c.self.view_is) (
+      apart,
+      λ either. elim either [
+        | inl none ↦ none_told first none
+        | inr listed ↦ not_listed c.if-fails.false (c.next_fails-fails.ensures.listed.1 listed)
+      ],
+    )
 
 pub returns-clause-open : goal.returns-clause-open
 returns-clause-open c =

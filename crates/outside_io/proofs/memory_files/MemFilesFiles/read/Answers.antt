@@ -1,7 +1,7 @@
 -- What a `read` leaves.
-use Rattle.std.proofs.Common.{rules, arith, refl, sym, ◌∙◌, ap, ◌≡◌, ◌≤◌, ◌+◌, ◌<◌, ℕ, List, length, get_or}
+use Rattle.std.proofs.Common.{refl, ◌≡◌}
 use Rattle.std.proofs.lemmas.List.{get_or_read}
-use Rattle.outside_io.specs.Memory.{HeldFile, IsOpenPlace, file_at}
+use Rattle.outside_io.specs.Memory.{IsOpenPlace, file_at}
 use Rattle.outside_io.proofs.Held.{found, fault_told, fault_later, raises_held}
 use Rattle.outside_io.proofs.memory_files.MemFilesFiles.read.Goals as goal
 
@@ -19,8 +19,8 @@ pub returns-then-fails-clause-fault : goal.returns-then-fails-clause-fault
 returns-then-fails-clause-fault c =
     let opened : IsOpenPlace c.self.inside.files.items c.in-Some.current.place c.in-Some.current.given = rw c.in-Some.is at c.self.invariant in
     rw (← c.self.view_is) (λ n is_open.
-        let same : (file_at c.self.inside.files.items c.in-Some.current.place).name ≡ n = rw c.in-Some.is at is_open in
-        rw (← same) (raises_held _ _ _ _ opened.first c.fail_at.ensures.items refl))
+    let same : (file_at c.self.inside.files.items c.in-Some.current.place).name ≡ n = rw c.in-Some.is at is_open in
+    rw (← same) (raises_held _ _ _ _ opened.first c.fail_at.ensures.items refl))
 
 pub invariant_of-self-2 : goal.invariant_of-self-2
 invariant_of-self-2 c =

@@ -1,0 +1,13 @@
+use Rattle.std.proofs.Common.{rules, ◌≡◌, ◌<◌, List, ℕ, Some, length, string_bytes, subst}
+use Rattle.verac.specs.Headline.{IsAnswer}
+use Rattle.verac.proofs.HeadlineLemmas.{same_name}
+use Rattle.verac.proofs.runs.run.Goals as goal
+
+pub returns-in-Err-TooLarge-clause-prefix : goal.returns-in-Err-TooLarge-clause-prefix
+returns-in-Err-TooLarge-clause-prefix g c = λ e name bytes before named told wrote.
+    let same : c.in-Some.name.now ≡ name = same_name _ _ _ c.in-Some.ensures.found named in
+    let told_here : g.F.Files.told c.args.files.now c.in-Some.name.now ≡ Some bytes = rw same told in
+    let large : 4194304 < length bytes = search (rules, c.read_all.ensures.too_large) in
+    let answer = c.in-Ok-too_large.ensures.answer bytes large in
+    let cut = c.finish.ensures.cut e before wrote in
+    (c.in-Ok-too_large.answer.0, string_bytes c.in-Ok-too_large.answer.1, cut.0, subst (λ (n : List ℕ). IsAnswer n bytes c.in-Ok-too_large.answer.0 (string_bytes c.in-Ok-too_large.answer.1)) same answer, search rules, cut.2)
