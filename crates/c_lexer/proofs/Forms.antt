@@ -1,18 +1,14 @@
--- The first bytes of tokens and white space, and which of them stands at the front of a text.
-use Rattle.std.proofs.Common.{◌≡◌, ℕ, zero, suc, ◌<◌, ◌≤◌, ◌⊎◌, inl, inr, List, [], ◌∷◌, ◌++◌, length, get_or, take, drop, refl, sym, ap, ◌∙◌, subst, arith, length-append, length-take}
+-- The first bytes of tokens and white space, and which of them stand at the front of a text.
+use Rattle.std.proofs.Common.{◌≡◌, ℕ, ◌<◌, ◌≤◌, ◌⊎◌, inl, inr, List, [], ◌∷◌, ◌++◌, map, Option, Some, length, get_or, refl, sym, ap, ◌∙◌, subst, arith, length-append}
 use Rattle.std.proofs.Math.ListN.{get_or-append}
-use Rattle.std.proofs.lemmas.List.{take-append-drop}
-use Rattle.std.proofs.lemmas.Bool.{cases_lt}
 use Rattle.c_syntax.specs.declared.token.Keyword.{Keyword}
-use Rattle.c_syntax.specs.declared.token.Keyword.TheVariants as keywords
 use Rattle.c_syntax.specs.declared.token.Punctuator.{Punctuator}
-use Rattle.c_syntax.specs.declared.token.Punctuator.TheVariants as punctuators
 use Rattle.c_syntax.specs.declared.token.Constant.{Constant}
 use Rattle.c_syntax.specs.declared.token.Token.{Token}
 use Rattle.c_syntax.specs.declared.token.Token.TheVariants as kinds
-use Rattle.c_lexer.specs.Cut.{IsLetter, IsDigit, IsWordByte, IsBlank, IsWord, IsNumber, AreDigits, IsConstant, keyword_text, punctuator_text, IsToken, HasForm, IsWhite, BeginsComment}
-use Rattle.c_lexer.specs.Piece.{IsWordRun, IsLongest, IsStuck, IsPiece}
-use Rattle.c_lexer.specs.declared.piece.Piece.TheVariants as pieces
+use Rattle.c_lexer.specs.Spelling.{keyword_text, punctuator_text, IsConstant, IsLiteral, IsOneCharacter}
+use Rattle.c_lexer.specs.Cut.{IsLetter, IsDigit, IsBlank, IsWord, IsNumber, IsToken, HasForm}
+use Rattle.c_lexer.proofs.Marks.{IsMarkByte, mark_first, mark_long, mark_dot, keyword_word}
 
 -- a byte of the front is a byte of the text
 pub at_front : (text s r : List ℕ) → text ≡ s ++ r → (k : ℕ) → k < length s → get_or text k 0 ≡ get_or s k 0
@@ -28,240 +24,158 @@ same_split (x ∷ s) (y ∷ u) r v e h =
     let i : s ≡ u = same_split s u r v g (omega arith) in
     cc
 
-front_long : (text s r : List ℕ) → text ≡ s ++ r → length s ≤ length text
+pub front_long : (text s r : List ℕ) → text ≡ s ++ r → length s ≤ length text
 front_long text s r e = omega (arith, length-append s r, ap length e)
 
--- bytes of words, marks and white space are apart
-blank_low : (b : ℕ) → IsBlank b → b ≤ 32
-blank_low b h = grind arith
+-- bytes of words, numbers, literals, punctuators and white space are apart
+pub letter_digit : (b : ℕ) → IsLetter b → IsDigit b → ⊥
+letter_digit b h i = grind arith
 
-word_high : (b : ℕ) → IsWordByte b → 48 ≤ b
-word_high b h = grind arith
+pub letter_dot : (b : ℕ) → IsLetter b → b ≡ 46 → ⊥
+letter_dot b h i = grind arith
 
-digit_no_letter : (b : ℕ) → IsDigit b → IsLetter b → ⊥
-digit_no_letter b d h = grind arith
+pub letter_mark : (b : ℕ) → IsLetter b → IsMarkByte b → ⊥
+letter_mark b h i = grind arith
 
-digits_each : (s : List ℕ) → AreDigits s → (k : ℕ) → k < length s → IsDigit (get_or s k 0)
-digits_each [] d k h = absurd (omega arith)
-digits_each (b ∷ s) d zero h = d.0
-digits_each (b ∷ s) d (suc k) h = digits_each s d.1 k (omega arith)
+pub digit_mark : (b : ℕ) → IsDigit b → IsMarkByte b → ⊥
+digit_mark b h i = grind arith
 
-pub constant_number : (s : List ℕ) (c : Constant) → IsConstant s c → IsNumber s
-constant_number s c h = record {
-  some = h.some;
-  first = digits_each s h.digits 0 h.some;
-  bytes = λ k lt. inr (digits_each s h.digits k lt);
-}
+-- bytes that begin no word, no number and no punctuator
+abbrev pub IsApart : ℕ → Type 0
+IsApart b = (b ≡ 34) ⊎ ((b ≡ 35) ⊎ ((b ≡ 39) ⊎ ((b ≡ 92) ⊎ IsBlank b)))
 
--- the bytes of a keyword, one by one
-abbrev AreLetters : List ℕ → Type 0
-AreLetters [] = Unit {0}
-AreLetters (b ∷ s) = IsLetter b × AreLetters s
+pub letter_apart : (b : ℕ) → IsLetter b → IsApart b → ⊥
+letter_apart b h i = grind arith
 
-letters_each : (s : List ℕ) → AreLetters s → (k : ℕ) → k < length s → IsLetter (get_or s k 0)
-letters_each [] d k h = absurd (omega arith)
-letters_each (b ∷ s) d zero h = d.0
-letters_each (b ∷ s) d (suc k) h = letters_each s d.1 k (omega arith)
+pub digit_apart : (b : ℕ) → IsDigit b → IsApart b → ⊥
+digit_apart b h i = grind arith
 
-small_letter : (b : ℕ) → 97 ≤ b → b ≤ 122 → IsLetter b
-small_letter b l h = inr (inl (l, h))
+pub mark_apart : (b : ℕ) → IsMarkByte b → IsApart b → ⊥
+mark_apart b h i = grind arith
 
-keyword_letters : (k : Keyword) → AreLetters (keyword_text k)
-keyword_letters keywords.Int = (small_letter _ (omega arith) (omega arith), (small_letter _ (omega arith) (omega arith), (small_letter _ (omega arith) (omega arith), tt)))
-keyword_letters keywords.Return = (small_letter _ (omega arith) (omega arith), (small_letter _ (omega arith) (omega arith), (small_letter _ (omega arith) (omega arith), (small_letter _ (omega arith) (omega arith), (small_letter _ (omega arith) (omega arith), (small_letter _ (omega arith) (omega arith), tt))))))
-keyword_letters keywords.Void = (small_letter _ (omega arith) (omega arith), (small_letter _ (omega arith) (omega arith), (small_letter _ (omega arith) (omega arith), (small_letter _ (omega arith) (omega arith), tt))))
+pub dot_apart : (b : ℕ) → b ≡ 46 → IsApart b → ⊥
+dot_apart b h i = grind arith
 
-keyword_long : (k : Keyword) → 0 < length (keyword_text k)
-keyword_long keywords.Int = omega arith
-keyword_long keywords.Return = omega arith
-keyword_long keywords.Void = omega arith
+pub number_long : (s : List ℕ) → IsNumber s → 0 < length s
+number_long s n = elim n.begins [ inl d ↦ d.0 | inr d ↦ omega (arith, d.0) ]
 
-letters_word : (s : List ℕ) → 0 < length s → AreLetters s → IsWord s
-letters_word s l h = record { some = l; first = letters_each s h 0 l; bytes = λ k lt. inl (letters_each s h k lt) }
+pub literal_long : (q : ℕ) (vs : List (Option ℕ)) (s : List ℕ) → IsLiteral q vs s → 0 < length s
+literal_long q vs s l = omega (arith, ap length l.1)
 
-pub keyword_word : (k : Keyword) → IsWord (keyword_text k)
-keyword_word k = letters_word (keyword_text k) (keyword_long k) (keyword_letters k)
-
-pub mark_long : (p : Punctuator) → (0 < length (punctuator_text p)) × (length (punctuator_text p) ≤ 2)
-mark_long punctuators.LeftParenthesis = (omega arith, omega arith)
-mark_long punctuators.RightParenthesis = (omega arith, omega arith)
-mark_long punctuators.LeftBrace = (omega arith, omega arith)
-mark_long punctuators.RightBrace = (omega arith, omega arith)
-mark_long punctuators.Plus = (omega arith, omega arith)
-mark_long punctuators.Increment = (omega arith, omega arith)
-mark_long punctuators.Minus = (omega arith, omega arith)
-mark_long punctuators.Decrement = (omega arith, omega arith)
-mark_long punctuators.Star = (omega arith, omega arith)
-mark_long punctuators.Slash = (omega arith, omega arith)
-mark_long punctuators.Semicolon = (omega arith, omega arith)
-
-low_mark : (b : ℕ) → b < 48 → IsWordByte b → ⊥
-low_mark b l h = grind arith
-
-high_mark : (b : ℕ) → 122 < b → IsWordByte b → ⊥
-high_mark b l h = grind arith
-
-middle_mark : (b : ℕ) → 57 < b → b < 65 → IsWordByte b → ⊥
-middle_mark b l m h = grind arith
-
-pub mark_first : (p : Punctuator) → (IsWordByte (get_or (punctuator_text p) 0 0) → ⊥) × (32 < get_or (punctuator_text p) 0 0)
-mark_first punctuators.LeftParenthesis = (low_mark _ (omega arith), omega arith)
-mark_first punctuators.RightParenthesis = (low_mark _ (omega arith), omega arith)
-mark_first punctuators.LeftBrace = (high_mark _ (omega arith), omega arith)
-mark_first punctuators.RightBrace = (high_mark _ (omega arith), omega arith)
-mark_first punctuators.Plus = (low_mark _ (omega arith), omega arith)
-mark_first punctuators.Increment = (low_mark _ (omega arith), omega arith)
-mark_first punctuators.Minus = (low_mark _ (omega arith), omega arith)
-mark_first punctuators.Decrement = (low_mark _ (omega arith), omega arith)
-mark_first punctuators.Star = (low_mark _ (omega arith), omega arith)
-mark_first punctuators.Slash = (low_mark _ (omega arith), omega arith)
-mark_first punctuators.Semicolon = (middle_mark _ (omega arith) (omega arith), omega arith)
-
--- a punctuator of two bytes is one byte twice
-mark_twice : (p : Punctuator) → (length (punctuator_text p) ≤ 1) ⊎ ((1 < length (punctuator_text p)) × (get_or (punctuator_text p) 1 0 ≡ get_or (punctuator_text p) 0 0))
-mark_twice punctuators.LeftParenthesis = inl (omega arith)
-mark_twice punctuators.RightParenthesis = inl (omega arith)
-mark_twice punctuators.LeftBrace = inl (omega arith)
-mark_twice punctuators.RightBrace = inl (omega arith)
-mark_twice punctuators.Plus = inl (omega arith)
-mark_twice punctuators.Increment = inr (omega arith, refl)
-mark_twice punctuators.Minus = inl (omega arith)
-mark_twice punctuators.Decrement = inr (omega arith, refl)
-mark_twice punctuators.Star = inl (omega arith)
-mark_twice punctuators.Slash = inl (omega arith)
-mark_twice punctuators.Semicolon = inl (omega arith)
-
--- the forms
-pub token_form : (s : List ℕ) (t : Token) → IsToken s t → HasForm s
-token_form s (kinds.Word name) h = inl h.0
-token_form s (kinds.Keyword k) h = inl (subst IsWord (sym h) (keyword_word k))
-token_form s (kinds.Number c) h = inr (inl (constant_number s c h))
-token_form s (kinds.Punctuator p) h = inr (inr (p, h))
+pub literal_first : (q : ℕ) (vs : List (Option ℕ)) (s : List ℕ) → IsLiteral q vs s → get_or s 0 0 ≡ q
+literal_first q vs s l = ap (λ v. get_or v 0 0) l.1
 
 pub form_long : (s : List ℕ) → HasForm s → 0 < length s
 form_long s (inl w) = w.some
-form_long s (inr (inl n)) = n.some
-form_long s (inr (inr p)) = subst (λ v. 0 < length v) (sym p.1) (mark_long p.0).0
+form_long s (inr (inl n)) = number_long s n
+form_long s (inr (inr (inl l))) = literal_long 39 l.0 s l.1
+form_long s (inr (inr (inr (inl l)))) = literal_long 34 l.0 s l.1
+form_long s (inr (inr (inr (inr p)))) = omega (arith, ap length p.1, (mark_long p.0).0)
 
-pub form_high : (s : List ℕ) → HasForm s → 32 < get_or s 0 0
-form_high s (inl w) = omega (arith, word_high (get_or s 0 0) (inl w.first))
-form_high s (inr (inl n)) = omega (arith, word_high (get_or s 0 0) (inr n.first))
-form_high s (inr (inr p)) = subst (λ v. 32 < get_or v 0 0) (sym p.1) (mark_first p.0).1
+pub mark_byte : (s : List ℕ) (p : Punctuator) → s ≡ punctuator_text p → IsMarkByte (get_or s 0 0)
+mark_byte s p e = subst (λ v. IsMarkByte (get_or v 0 0)) (sym e) (mark_first p)
 
-pub white_long : (s : List ℕ) → IsWhite s → 0 < length s
-white_long s w = subst (λ v. 0 < length v) (sym w.1) (omega arith)
+pub number_apart : (s : List ℕ) → IsNumber s → IsApart (get_or s 0 0) → ⊥
+number_apart s n a = elim n.begins [ inl d ↦ digit_apart (get_or s 0 0) d.1 a | inr d ↦ dot_apart (get_or s 0 0) d.1 a ]
 
-pub white_low : (s : List ℕ) → IsWhite s → get_or s 0 0 ≤ 32
-white_low s w = subst (λ v. get_or v 0 0 ≤ 32) (sym w.1) (blank_low w.0 w.2)
+pub number_mark : (s : List ℕ) (p : Punctuator) → IsNumber s → s ≡ punctuator_text p → ⊥
+number_mark s p n e =
+    elim n.begins [
+      | inl d ↦ digit_mark (get_or s 0 0) d.1 (mark_byte s p e)
+      | inr d ↦ elim (mark_dot p (sym (ap (λ v. get_or v 0 0) e) ∙ d.1)) [
+        | inl one ↦ omega (arith, ap length e, d.0)
+        | inr two ↦ (let f : get_or s 1 0 ≡ 46 = ap (λ v. get_or v 1 0) e ∙ two.1 in omega (arith, d.2.0, d.2.1))
+      ]
+    ]
 
--- letters and digits at the front are no more than the run of them
-run_longest : (text : List ℕ) (n : ℕ) → IsWordRun text n → (a b : List ℕ) → text ≡ a ++ b → ((k : ℕ) → k < length a → IsWordByte (get_or a k 0)) → length a ≤ n
-run_longest text n r a b e h =
-    elim (cases_lt n (length a)) [ inl lt ↦ absurd (r.no_more (omega (arith, front_long text a b e)) (subst IsWordByte (sym (at_front text a b e n lt)) (h n lt))) | inr ge ↦ ge ]
+pub word_number : (s : List ℕ) → IsWord s → IsNumber s → ⊥
+word_number s w n = elim n.begins [ inl d ↦ letter_digit (get_or s 0 0) w.first d.1 | inr d ↦ letter_dot (get_or s 0 0) w.first d.1 ]
 
--- a front of a text that begins with a letter or a digit is no punctuator
-no_mark : (text : List ℕ) → IsWordByte (get_or text 0 0) → (p : Punctuator) (s r : List ℕ) → text ≡ s ++ r → s ≡ punctuator_text p → ⊥
-no_mark text w p s r e f =
-    let g : text ≡ punctuator_text p ++ r = e ∙ ap (λ v. v ++ r) f in
-    (mark_first p).0 (subst IsWordByte (at_front text (punctuator_text p) r g 0 (mark_long p).0) w)
+-- what begins with a quote is a literal
+pub character_form : (s : List ℕ) → HasForm s → get_or s 0 0 ≡ 39 → (vs : List (Option ℕ)) × IsLiteral 39 vs s
+character_form s (inl w) e = absurd (letter_apart (get_or s 0 0) w.first (inr (inr (inl e))))
+character_form s (inr (inl n)) e = absurd (number_apart s n (inr (inr (inl e))))
+character_form s (inr (inr (inl l))) e = l
+character_form s (inr (inr (inr (inl l)))) e = absurd (omega (arith, literal_first 34 l.0 s l.1))
+character_form s (inr (inr (inr (inr p)))) e = absurd (mark_apart (get_or s 0 0) (mark_byte s p.0 p.1) (inr (inr (inl e))))
 
-form_within : (text : List ℕ) (n : ℕ) → IsWordByte (get_or text 0 0) → IsWordRun text n → (a b : List ℕ) → text ≡ a ++ b → HasForm a → length a ≤ n
-form_within text n w r a b e (inl h) = run_longest text n r a b e h.bytes
-form_within text n w r a b e (inr (inl h)) = run_longest text n r a b e h.bytes
-form_within text n w r a b e (inr (inr p)) = absurd (no_mark text w p.0 a b e p.1)
+pub string_form : (s : List ℕ) → HasForm s → get_or s 0 0 ≡ 34 → (vs : List (Option ℕ)) × IsLiteral 34 vs s
+string_form s (inl w) e = absurd (letter_apart (get_or s 0 0) w.first (inl e))
+string_form s (inr (inl n)) e = absurd (number_apart s n (inl e))
+string_form s (inr (inr (inl l))) e = absurd (omega (arith, literal_first 39 l.0 s l.1))
+string_form s (inr (inr (inr (inl l)))) e = l
+string_form s (inr (inr (inr (inr p)))) e = absurd (mark_apart (get_or s 0 0) (mark_byte s p.0 p.1) (inl e))
 
-first_white : (text : List ℕ) → 32 < get_or text 0 0 → (s r : List ℕ) → text ≡ s ++ r → IsWhite s → ⊥
-first_white text h s r e w = omega (arith, white_low s w, at_front text s r e 0 (white_long s w))
+-- a byte that begins no form of a token
+abbrev pub IsNoForm : ℕ → Type 0
+IsNoForm b = (b ≡ 35) ⊎ ((b ≡ 92) ⊎ IsBlank b)
 
--- the run of letters and digits, as a front
-run_front : (text : List ℕ) (n : ℕ) → IsWordRun text n → length (take n text) ≡ n
-run_front text n r = omega (arith, length-take n text, r.within)
+no_form_apart : (b : ℕ) → IsNoForm b → IsApart b
+no_form_apart b (inl e) = inr (inl e)
+no_form_apart b (inr (inl e)) = inr (inr (inr (inl e)))
+no_form_apart b (inr (inr e)) = inr (inr (inr (inr e)))
 
-run_number : (text : List ℕ) (n : ℕ) → 0 < n → IsDigit (get_or text 0 0) → IsWordRun text n → IsNumber (take n text)
-run_number text n l d r =
-    let e : text ≡ take n text ++ drop n text = sym (take-append-drop n text) in
-    let m : length (take n text) ≡ n = run_front text n r in
-    record {
-      some = omega arith;
-      first = subst IsDigit (at_front text (take n text) (drop n text) e 0 (omega arith)) d;
-      bytes = λ k lt. subst IsWordByte (at_front text (take n text) (drop n text) e k lt) (r.all k (omega arith));
-    }
+no_form_quote : (b : ℕ) → IsNoForm b → (b ≡ 39) ⊎ (b ≡ 34) → ⊥
+no_form_quote b h i = grind arith
 
-run_some : (text : List ℕ) (n : ℕ) → 0 < length text → IsWordByte (get_or text 0 0) → IsWordRun text n → 0 < n
-run_some text n l w r = elim (cases_lt 0 n) [ inl lt ↦ lt | inr ge ↦ (let z : n ≡ 0 = omega arith in absurd (r.no_more (omega arith) (subst (λ k. IsWordByte (get_or text k 0)) (sym z) w))) ]
+pub no_form_begins : (s : List ℕ) → HasForm s → IsNoForm (get_or s 0 0) → ⊥
+no_form_begins s (inl w) h = letter_apart (get_or s 0 0) w.first (no_form_apart (get_or s 0 0) h)
+no_form_begins s (inr (inl n)) h = number_apart s n (no_form_apart (get_or s 0 0) h)
+no_form_begins s (inr (inr (inl l))) h = no_form_quote (get_or s 0 0) h (inl (literal_first 39 l.0 s l.1))
+no_form_begins s (inr (inr (inr (inl l)))) h = no_form_quote (get_or s 0 0) h (inr (literal_first 34 l.0 s l.1))
+no_form_begins s (inr (inr (inr (inr p)))) h = mark_apart (get_or s 0 0) (mark_byte s p.0 p.1) (no_form_apart (get_or s 0 0) h)
 
--- a token at the front of a text that begins with a digit is a constant, and the whole run
-number_only : (text : List ℕ) (n : ℕ) → IsDigit (get_or text 0 0) → (s r : List ℕ) (t : Token) → text ≡ s ++ r → IsToken s t → (c : Constant) × IsConstant s c
-number_only text n d s r (kinds.Word name) e h = absurd (digit_no_letter _ (subst IsDigit (at_front text s r e 0 h.0.some) d) h.0.first)
-number_only text n d s r (kinds.Keyword k) e h =
-    let w : IsWord s = subst IsWord (sym h) (keyword_word k) in
-    absurd (digit_no_letter _ (subst IsDigit (at_front text s r e 0 w.some) d) w.first)
-number_only text n d s r (kinds.Number c) e h = (c, h)
-number_only text n d s r (kinds.Punctuator p) e h = absurd (no_mark text (inr d) p s r e h)
+-- the forms of tokens
+pub token_form : (s : List ℕ) (t : Token) → IsToken s t → HasForm s
+token_form s (kinds.Word name) h = inl h.0
+token_form s (kinds.Keyword k) h = inl (subst IsWord (sym h) (keyword_word k))
+token_form s (kinds.Number c) h = inr (inl h.0)
+token_form s (kinds.Character n) h = inr (inr (inl (Some h.0 ∷ [], h.1.literal)))
+token_form s (kinds.Text vs) h = inr (inr (inr (inl (map Some vs, h))))
+token_form s (kinds.Punctuator p) h = inr (inr (inr (inr (p, h))))
 
-pub stuck_number : (text : List ℕ) (n : ℕ) → 0 < length text → IsDigit (get_or text 0 0) → IsWordRun text n → ((c : Constant) → IsConstant (take n text) c → ⊥) → IsStuck text
-stuck_number text n l d r none = record {
-  some = l;
-  no_white = first_white text (omega (arith, word_high (get_or text 0 0) (inr d)));
-  no_token = λ s rest t e x.
-      let c = number_only text n d s rest t e x.spells in
-      let f : text ≡ take n text ++ drop n text = sym (take-append-drop n text) in
-      let long : length (take n text) ≤ length s = x.longest (take n text) (drop n text) (sym e ∙ f) (inr (inl (run_number text n (run_some text n l (inr d) r) d r))) in
-      let short : length s ≤ n = form_within text n (inr d) r s rest e (token_form s t x.spells) in
-      let same : s ≡ take n text = same_split s (take n text) rest (drop n text) (sym e ∙ f) (omega (arith, run_front text n r)) in
-      none c.0 (subst (λ v. IsConstant v c.0) same c.1);
-}
+-- what a token with the form of a number, of a character constant or of a string is
+pub word_literal : (q : ℕ) (vs : List (Option ℕ)) (s : List ℕ) → (q ≡ 39) ⊎ (q ≡ 34) → IsWord s → IsLiteral q vs s → ⊥
+word_literal q vs s (inl e) w l = letter_apart (get_or s 0 0) w.first (inr (inr (inl (literal_first q vs s l ∙ e))))
+word_literal q vs s (inr e) w l = letter_apart (get_or s 0 0) w.first (inl (literal_first q vs s l ∙ e))
 
-pub number_next : (text : List ℕ) (n : ℕ) → 0 < length text → IsDigit (get_or text 0 0) → IsWordRun text n → (c : Constant) → IsConstant (take n text) c → IsPiece text (pieces.Token (kinds.Number c) n)
-number_next text n l d r c h =
-    let f : take n text ++ drop n text ≡ text = take-append-drop n text in (
-      run_some text n l (inr d) r,
-      r.within,
-      record {
-        spells = h;
-        longest = λ a b e form. omega (arith, run_front text n r, form_within text n (inr d) r a b (sym f ∙ e) form);
-        no_comment = λ k. let never : BeginsComment text = subst BeginsComment f k in omega (arith, never.slash, word_high (get_or text 0 0) (inr d));
-      },
-    )
+pub number_literal : (q : ℕ) (vs : List (Option ℕ)) (s : List ℕ) → (q ≡ 39) ⊎ (q ≡ 34) → IsNumber s → IsLiteral q vs s → ⊥
+number_literal q vs s (inl e) n l = number_apart s n (inr (inr (inl (literal_first q vs s l ∙ e))))
+number_literal q vs s (inr e) n l = number_apart s n (inl (literal_first q vs s l ∙ e))
 
-pub word_next : (text : List ℕ) (n : ℕ) → 0 < length text → IsLetter (get_or text 0 0) → IsWordRun text n → (t : Token) → IsToken (take n text) t → IsPiece text (pieces.Token t n)
-word_next text n l d r t h =
-    let f : take n text ++ drop n text ≡ text = take-append-drop n text in (
-      run_some text n l (inl d) r,
-      r.within,
-      record {
-        spells = h;
-        longest = λ a b e form. omega (arith, run_front text n r, form_within text n (inl d) r a b (sym f ∙ e) form);
-        no_comment = λ k. let comment : BeginsComment text = subst BeginsComment f k in omega (arith, comment.slash, word_high (get_or text 0 0) (inl d));
-      },
-    )
+pub mark_literal : (q : ℕ) (vs : List (Option ℕ)) (s : List ℕ) (p : Punctuator) → (q ≡ 39) ⊎ (q ≡ 34) → s ≡ punctuator_text p → IsLiteral q vs s → ⊥
+mark_literal q vs s p (inl e) m l = mark_apart (get_or s 0 0) (mark_byte s p m) (inr (inr (inl (literal_first q vs s l ∙ e))))
+mark_literal q vs s p (inr e) m l = mark_apart (get_or s 0 0) (mark_byte s p m) (inl (literal_first q vs s l ∙ e))
 
--- longest punctuators
-first_text : (x : ℕ) (text : List ℕ) → 0 < length text → get_or text 0 0 ≡ x → text ≡ (x ∷ []) ++ drop 1 text
-first_text x [] l e = absurd (omega arith)
-first_text x (y ∷ text) l e = ap (λ v. v ∷ text) e
+pub two_literals : (vs ws : List (Option ℕ)) (s : List ℕ) → IsLiteral 39 vs s → IsLiteral 34 ws s → ⊥
+two_literals vs ws s l m = omega (arith, literal_first 39 vs s l, literal_first 34 ws s m)
 
-two_text : (x : ℕ) (text : List ℕ) → 1 < length text → get_or text 0 0 ≡ x → get_or text 1 0 ≡ x → text ≡ (x ∷ x ∷ []) ++ drop 2 text
-two_text x [] l e f = absurd (omega arith)
-two_text x (y ∷ []) l e f = absurd (omega arith)
-two_text x (y ∷ z ∷ text) l e f = ap (λ v. v ∷ z ∷ text) e ∙ ap (λ v. x ∷ v ∷ text) f
+pub word_mark : (s : List ℕ) (p : Punctuator) → IsWord s → s ≡ punctuator_text p → ⊥
+word_mark s p w e = letter_mark (get_or s 0 0) w.first (mark_byte s p e)
 
-pub twice_longest : (text : List ℕ) (p : Punctuator) → punctuator_text p ≡ get_or text 0 0 ∷ get_or text 0 0 ∷ [] → 1 < length text → get_or text 1 0 ≡ get_or text 0 0 → IsLongest text p
-twice_longest text p h l e = record {
-  rest = drop 2 text;
-  is = two_text (get_or text 0 0) text l refl e ∙ ap (λ v. v ++ drop 2 text) (sym h);
-  longest = λ q b f. omega (arith, (mark_long q).1, ap length h);
-}
+pub keyword_is_word : (s : List ℕ) (k : Keyword) → s ≡ keyword_text k → IsWord s
+keyword_is_word s k e = subst IsWord (sym e) (keyword_word k)
 
-pub once_longest : (text : List ℕ) (p : Punctuator) → punctuator_text p ≡ get_or text 0 0 ∷ [] → 0 < length text → (1 < length text → get_or text 1 0 ≡ get_or text 0 0 → ⊥) → IsLongest text p
-once_longest text p h l never = record {
-  rest = drop 1 text;
-  is = first_text (get_or text 0 0) text l refl ∙ ap (λ v. v ++ drop 1 text) (sym h);
-  longest = λ q b f. elim (mark_twice q) [
-    | inl short ↦ omega (arith, ap length h)
-    | inr two ↦
-        (let i : get_or text 0 0 ≡ get_or (punctuator_text q) 0 0 = at_front text (punctuator_text q) b f 0 (omega (arith, two.0)) in
-        let j : get_or text 1 0 ≡ get_or (punctuator_text q) 1 0 = at_front text (punctuator_text q) b f 1 (omega (arith, two.0)) in
-        absurd (never (omega (arith, two.0, front_long text (punctuator_text q) b f)) (j ∙ two.1 ∙ sym i)))
-  ];
-}
+pub token_number : (s : List ℕ) (t : Token) → IsNumber s → IsToken s t → (c : Constant) × IsConstant s c × (t ≡ kinds.Number c)
+token_number s (kinds.Word name) n h = absurd (word_number s h.0 n)
+token_number s (kinds.Keyword k) n h = absurd (word_number s (keyword_is_word s k h) n)
+token_number s (kinds.Number c) n h = (c, h.1, refl)
+token_number s (kinds.Character m) n h = absurd (number_literal 39 (Some h.0 ∷ []) s (inl refl) n h.1.literal)
+token_number s (kinds.Text vs) n h = absurd (number_literal 34 (map Some vs) s (inr refl) n h)
+token_number s (kinds.Punctuator p) n h = absurd (number_mark s p n h)
+
+pub token_character : (s : List ℕ) (t : Token) (vs : List (Option ℕ)) → IsLiteral 39 vs s → IsToken s t → (v : ℕ) × IsOneCharacter (Some v) s
+token_character s (kinds.Word name) vs n h = absurd (word_literal 39 vs s (inl refl) h.0 n)
+token_character s (kinds.Keyword k) vs n h = absurd (word_literal 39 vs s (inl refl) (keyword_is_word s k h) n)
+token_character s (kinds.Number c) vs n h = absurd (number_literal 39 vs s (inl refl) h.0 n)
+token_character s (kinds.Character m) vs n h = (h.0, h.1)
+token_character s (kinds.Text ws) vs n h = absurd (two_literals vs (map Some ws) s n h)
+token_character s (kinds.Punctuator p) vs n h = absurd (mark_literal 39 vs s p (inl refl) h n)
+
+pub token_string : (s : List ℕ) (t : Token) (vs : List (Option ℕ)) → IsLiteral 34 vs s → IsToken s t → (ws : List ℕ) × IsLiteral 34 (map Some ws) s
+token_string s (kinds.Word name) vs n h = absurd (word_literal 34 vs s (inr refl) h.0 n)
+token_string s (kinds.Keyword k) vs n h = absurd (word_literal 34 vs s (inr refl) (keyword_is_word s k h) n)
+token_string s (kinds.Number c) vs n h = absurd (number_literal 34 vs s (inr refl) h.0 n)
+token_string s (kinds.Character m) vs n h = absurd (two_literals (Some h.0 ∷ []) vs s h.1.literal n)
+token_string s (kinds.Text ws) vs n h = (ws, h)
+token_string s (kinds.Punctuator p) vs n h = absurd (mark_literal 34 vs s p (inr refl) h n)

@@ -4,7 +4,7 @@ use Rattle.std.proofs.lemmas.Bool.Decides.{nat_tests}
 use Rattle.c_syntax.specs.declared.place.Pos.{Pos}
 use Rattle.c_syntax.specs.declared.token.Placed.{Placed}
 use Rattle.c_lexer.specs.Cut.{step, moved_of, Front, here, white, token, IsBefore, StandInOrder}
-use Rattle.c_lexer.proofs.Forms.{token_form, form_long}
+use Rattle.c_lexer.proofs.Forms.{form_long}
 
 -- one place is another, or before it
 abbrev IsNotAfter : Pos → Pos → Type 0
@@ -46,5 +46,5 @@ pub in_order : {text last : List ℕ} {at to : Pos} {ts : List Placed} → Front
 in_order here i j d h k = absurd (omega arith)
 in_order (white s rest e w f) i j d h k = in_order f i j d h k
 in_order (token s rest e n f) i zero d h k = absurd (omega arith)
-in_order {at = at} (token {ts = us} {t = t} s rest e n f) zero (suc j) d h k = before_then at (moved_of at s) (get_or us j d).pos (moved_past at s (form_long s (token_form s t n.spells))) (from_place f j d (omega arith))
+in_order {at = at} (token {ts = us} {t = t} s rest e n f) zero (suc j) d h k = before_then at (moved_of at s) (get_or us j d).pos (moved_past at s (form_long s n.is_longest.form)) (from_place f j d (omega arith))
 in_order (token s rest e n f) (suc i) (suc j) d h k = in_order f i j d (omega arith) (omega arith)

@@ -1,2 +1,4 @@
+pub mod Spelling
 pub mod Cut
+pub mod Uncut
 pub mod Piece

@@ -10,3 +10,4 @@ pub mod WrittenParts
 pub mod Operand
 pub mod Admission
 pub mod Fact
+pub mod Constant

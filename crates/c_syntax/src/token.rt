@@ -1,34 +1,111 @@
 // Tokens with their places.
 
-use crate::{Name, Pos};
+use crate::{Bytes, Name, Pos};
 use std::alloc::Global;
 use std::marker::Model;
 
-/// The keywords of C11 6.4.1 that the forms built so far use. Any other word is a `Token::Word`.
+/// The keywords of C11 6.4.1. Any other word is a `Token::Word`.
 #[derive(Clone, Copy, Debug, PartialEq, Eq)]
 pub enum Keyword {
+    Auto,
+    Break,
+    Case,
+    Char,
+    Const,
+    Continue,
+    Default,
+    Do,
+    Double,
+    Else,
+    Enum,
+    Extern,
+    Float,
+    For,
+    Goto,
+    If,
+    Inline,
     Int,
+    Long,
+    Register,
+    Restrict,
     Return,
+    Short,
+    Signed,
+    Sizeof,
+    Static,
+    Struct,
+    Switch,
+    Typedef,
+    Union,
+    Unsigned,
     Void,
+    Volatile,
+    While,
+    AlignAs,
+    AlignOf,
+    Atomic,
+    Bool,
+    Complex,
+    Generic,
+    Imaginary,
+    NoReturn,
+    StaticAssert,
+    ThreadLocal,
 }
 
-/// The punctuators of C11 6.4.6 that the forms built so far meet.
+/// The punctuators of C11 6.4.6 but `#`, `##` and the digraphs.
 #[derive(Clone, Copy, Debug, PartialEq, Eq)]
 pub enum Punctuator {
+    LeftBracket,
+    RightBracket,
     LeftParenthesis,
     RightParenthesis,
     LeftBrace,
     RightBrace,
-    Plus,
+    Dot,
+    Arrow,
     Increment,
-    Minus,
     Decrement,
+    Ampersand,
     Star,
+    Plus,
+    Minus,
+    Tilde,
+    Exclamation,
     Slash,
+    Percent,
+    ShiftLeft,
+    ShiftRight,
+    Less,
+    Greater,
+    LessEqual,
+    GreaterEqual,
+    Equal,
+    NotEqual,
+    Caret,
+    Bar,
+    And,
+    Or,
+    Question,
+    Colon,
     Semicolon,
+    Ellipsis,
+    Assign,
+    MultiplyAssign,
+    DivideAssign,
+    RemainderAssign,
+    AddAssign,
+    SubtractAssign,
+    ShiftLeftAssign,
+    ShiftRightAssign,
+    AndAssign,
+    XorAssign,
+    OrAssign,
+    Comma,
 }
 
-/// An integer constant. `decimal` tells its base, and `unsigned` and `longs` its suffix.
+/// An integer constant (C11 6.4.4.1). `decimal` tells that it is neither octal nor hexadecimal.
+/// `unsigned` and `longs`, from 0 to 2, are its suffix.
 #[derive(Clone, Copy, Debug, PartialEq, Eq)]
 pub struct Constant {
     pub value: u64,
@@ -37,12 +114,15 @@ pub struct Constant {
     pub longs: u8,
 }
 
-/// A token of C11 6.4.
+/// A token of C11 6.4. A character constant has its value as an int, of -128 to 127, and a string
+/// literal the bytes between its quotes, with each escape replaced by its value.
 #[derive(Debug, Drop)]
 pub enum Token {
     Word(Name),
     Keyword(Keyword),
     Number(Constant),
+    Character(i32),
+    Text(Bytes),
     Punctuator(Punctuator),
 }
 

@@ -1,8 +1,11 @@
-use Rattle.c_lexer.proofs.Forms.{stuck_number, number_next}
+use Rattle.c_lexer.proofs.PieceLemmas.{number_piece, wide_piece, bad_number_piece}
 use Rattle.c_lexer.proofs.piece.number.Goals as goal
 
-pub returns-in-None : goal.returns-in-None
-returns-in-None c = stuck_number c.args.bytes.now c.word_len-n.result c.requires.some c.requires.first c.word_len-n.ensures c.in-None.ensures
+pub returns-in-Constant : goal.returns-in-Constant
+returns-in-Constant c = number_piece c.args.bytes.now c.number_len-n.result c.in-Constant.constant c.requires c.number_len-n.ensures c.in-Constant.ensures
 
-pub returns-in-Some : goal.returns-in-Some
-returns-in-Some c = number_next c.args.bytes.now c.word_len-n.result c.requires.some c.requires.first c.word_len-n.ensures c.in-Some.constant c.in-Some.ensures
+pub returns-in-TooWide : goal.returns-in-TooWide
+returns-in-TooWide c = wide_piece c.args.bytes.now c.number_len-n.result c.requires c.number_len-n.ensures c.in-TooWide.ensures.0 c.in-TooWide.ensures.1
+
+pub returns-in-NoInteger : goal.returns-in-NoInteger
+returns-in-NoInteger c = bad_number_piece c.args.bytes.now c.number_len-n.result c.requires c.number_len-n.ensures c.in-NoInteger.ensures

@@ -1,0 +1,12 @@
+use Rattle.std.proofs.Common.{◌≡◌, ℕ, ◌-◌, ◌<◌, ◌≤◌, length, get_or}
+use Rattle.c_lexer.proofs.comment.line_len.Given as goal
+
+abbrev pub invariant-loop-n : goal.invariant-loop-n
+invariant-loop-n l = record {
+  from : 2 ≤ l.n;
+  within : l.n ≤ length l.bytes;
+  none : (k : ℕ) → k < l.n → get_or l.bytes k 0 ≡ 10 → ⊥;
+}
+
+abbrev pub decreases-loop-n : goal.decreases-loop-n
+decreases-loop-n l = length l.bytes - l.n
