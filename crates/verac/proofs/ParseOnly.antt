@@ -8,7 +8,7 @@ use Rattle.c_syntax.specs.declared.token.Punctuator.TheVariants as marks
 use Rattle.verac.specs.declared.tree.Operator.{Operator}
 use Rattle.verac.specs.Tree.{ExprTree, Negate, Binary}
 use Rattle.verac.specs.Tree as trees
-use Rattle.verac.specs.Grammar.{Level, Sum, Product, Part, Run, Rest, Unary, Primary, operand_of, IsOperator, plus, minus, star, slash, Derives, run, rest_end, rest_more, negated, plain, constant, enclosed}
+use Rattle.verac.specs.Grammar.{IsInt, Level, Sum, Product, Part, Run, Rest, Unary, Primary, operand_of, IsOperator, plus, minus, star, slash, Derives, run, rest_end, rest_more, negated, plain, constant, enclosed}
 use Rattle.verac.specs.Descent.{Outcome, Done, NotFirst, NoOperator, Goes, run_stops, run_goes, rest_done, rest_stops, rest_goes, negated_stops, negated_done, plain_goes, constant_done, enclosed_stops, enclosed_left, enclosed_done, no_primary}
 
 -- no operator of the level or of one below it is first
@@ -99,7 +99,7 @@ primary_first : {x : List Placed} {e : ExprTree} (r : List Placed) → Derives P
 primary_first r (constant h small) = λ k. cc
 primary_first r (enclosed u h k d) = λ m. cc
 
-constant_only : {t : Placed} {c : Constant} {r : List Placed} → t.token ≡ tokens.Number c → c.value ≤ 2147483647 → Ends Primary (t ∷ r) (trees.Constant t.pos (pos c.value)) r
+constant_only : {t : Placed} {c : Constant} {r : List Placed} → t.token ≡ tokens.Number c → IsInt c → Ends Primary (t ∷ r) (trees.Constant t.pos (pos c.value)) r
 constant_only {t} {c} {r} h small o (constant_done (d, k, less, tree)) =
     let same : d ≡ c = cc in
     ap (λ v. Done v r) (tree ∙ ap (λ v. trees.Constant t.pos (pos (v.value))) same)

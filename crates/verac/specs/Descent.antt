@@ -10,7 +10,7 @@ use Rattle.c_syntax.specs.declared.token.Punctuator.TheVariants as marks
 use Rattle.verac.specs.declared.tree.Operator.{Operator}
 use Rattle.verac.specs.Tree.{ExprTree, Negate, Binary}
 use Rattle.verac.specs.Tree as trees
-use Rattle.verac.specs.Grammar.{Level, Sum, Part, Run, Rest, Unary, Primary, operand_of, IsOperator, Derives, tail}
+use Rattle.verac.specs.Grammar.{IsInt, Level, Sum, Part, Run, Rest, Unary, Primary, operand_of, IsOperator, Derives, tail}
 
 -- a tree and the tokens after it, or no tree
 pub data Outcome : Type 0 where
@@ -41,7 +41,7 @@ IsOperatorFirst level ts at op rest = (t : Placed) × (ts ≡ t ∷ rest) × (t.
 
 -- the token is a constant of a file, with this tree
 abbrev pub IsConstant : Placed → ExprTree → Type 0
-IsConstant t e = (c : Constant) × (t.token ≡ tokens.Number c) × (c.value ≤ 2147483647) × (e ≡ trees.Constant t.pos (pos c.value))
+IsConstant t e = (c : Constant) × (t.token ≡ tokens.Number c) × IsInt c × (e ≡ trees.Constant t.pos (pos c.value))
 
 -- the first token is such a constant
 abbrev pub IsConstantFirst : List Placed → ExprTree → List Placed → Type 0
@@ -50,7 +50,7 @@ IsConstantFirst ts e rest = (t : Placed) × (ts ≡ t ∷ rest) × IsConstant t 
 -- the first token is no constant of a file
 abbrev pub NoConstant : List Placed → Type 0
 NoConstant [] = Unit {0}
-NoConstant (t ∷ rest) = (c : Constant) → t.token ≡ tokens.Number c → c.value ≤ 2147483647 → ⊥
+NoConstant (t ∷ rest) = (c : Constant) → t.token ≡ tokens.Number c → IsInt c → ⊥
 
 -- one constructor for each way through a part
 pub data Goes : Part → List Placed → Outcome → Type 0 where

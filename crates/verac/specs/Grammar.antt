@@ -4,7 +4,7 @@
 --   product = unary { ("*" | "/") unary }
 --   unary   = "-" unary | primary
 --   primary = constant | "(" sum ")"
-use Rattle.std.specs.Prelude.{◌≡◌, ◌≤◌, pos, List, [], ◌∷◌, ◌++◌, length, map, codes}
+use Rattle.std.specs.Prelude.{◌≡◌, ◌≤◌, pos, false, List, [], ◌∷◌, ◌++◌, length, map, codes}
 use Rattle.c_syntax.specs.declared.token.Placed.{Placed}
 use Rattle.c_syntax.specs.declared.token.Constant.{Constant}
 use Rattle.c_syntax.specs.declared.token.Token.{Token}
@@ -16,6 +16,10 @@ use Rattle.verac.specs.declared.tree.Operator.{Operator}
 use Rattle.verac.specs.declared.tree.Operator.TheVariants.{Add, Subtract, Multiply, Divide}
 use Rattle.verac.specs.Tree.{ExprTree, Negate, Binary}
 use Rattle.verac.specs.Tree as trees
+
+-- the constant has type int: a small value, and no suffix (C11 6.4.4.1)
+abbrev pub IsInt : Constant → Type 0
+IsInt c = (c.value ≤ 2147483647) × (c.unsigned ≡ false) × (c.longs ≡ 0)
 
 -- the two levels of left-associative operators
 pub data Level : Type 0 where
@@ -51,7 +55,7 @@ pub data Derives : Part → List Placed → ExprTree → Type 0 where
       → Derives (operand_of level) x right → Derives (Rest level (Binary t.pos op left right)) y e → Derives (Rest level left) (t ∷ (x ++ y)) e
   negated : {t : Placed} {x : List Placed} {a : ExprTree} → t.token ≡ tokens.Punctuator marks.Minus → Derives Unary x a → Derives Unary (t ∷ x) (Negate t.pos a)
   plain : {x : List Placed} {e : ExprTree} → Derives Primary x e → Derives Unary x e
-  constant : {t : Placed} {c : Constant} → t.token ≡ tokens.Number c → c.value ≤ 2147483647 → Derives Primary (t ∷ []) (trees.Constant t.pos (pos c.value))
+  constant : {t : Placed} {c : Constant} → t.token ≡ tokens.Number c → IsInt c → Derives Primary (t ∷ []) (trees.Constant t.pos (pos c.value))
   enclosed : {t : Placed} (u : Placed) {x : List Placed} {e : ExprTree} → t.token ≡ tokens.Punctuator marks.LeftParenthesis → u.token ≡ tokens.Punctuator marks.RightParenthesis
       → Derives (Run Sum) x e → Derives Primary (t ∷ (x ++ u ∷ [])) e
 

@@ -55,7 +55,11 @@ fn is_keyword(placed: &Placed, keyword: Keyword) -> bool
 {
     match placed.token {
         Token::Keyword(found) => found == keyword,
-        Token::Word(_) | Token::Number(_) | Token::Punctuator(_) => false,
+        Token::Word(_)
+        | Token::Number(_)
+        | Token::Character(_)
+        | Token::Text(_)
+        | Token::Punctuator(_) => false,
     }
 }
 
@@ -64,7 +68,11 @@ fn is_mark(placed: &Placed, mark: Punctuator) -> bool
 {
     match placed.token {
         Token::Punctuator(found) => found == mark,
-        Token::Word(_) | Token::Number(_) | Token::Keyword(_) => false,
+        Token::Word(_)
+        | Token::Number(_)
+        | Token::Character(_)
+        | Token::Text(_)
+        | Token::Keyword(_) => false,
     }
 }
 
@@ -73,7 +81,11 @@ fn is_main(placed: &Placed) -> bool
 {
     match &placed.token {
         Token::Word(name) => name.as_slice() == "main".as_bytes(),
-        Token::Keyword(_) | Token::Number(_) | Token::Punctuator(_) => false,
+        Token::Keyword(_)
+        | Token::Number(_)
+        | Token::Character(_)
+        | Token::Text(_)
+        | Token::Punctuator(_) => false,
     }
 }
 
@@ -145,7 +157,11 @@ fn operator_at(level: Level, placed: &Placed) -> Option<Operator>
 {
     match placed.token {
         Token::Punctuator(mark) => operator_of(level, mark),
-        Token::Word(_) | Token::Keyword(_) | Token::Number(_) => None,
+        Token::Word(_)
+        | Token::Keyword(_)
+        | Token::Number(_)
+        | Token::Character(_)
+        | Token::Text(_) => None,
     }
 }
 
@@ -166,13 +182,17 @@ fn constant_at(placed: &Placed) -> Option<Expr>
 {
     match placed.token {
         Token::Number(constant) => {
-            if constant.value <= GREATEST {
+            if constant.value <= GREATEST && !constant.unsigned && constant.longs == 0 {
                 Some(Expr::Constant(placed.pos, i128::from(constant.value)))
             } else {
                 None
             }
         }
-        Token::Word(_) | Token::Keyword(_) | Token::Punctuator(_) => None,
+        Token::Word(_)
+        | Token::Keyword(_)
+        | Token::Character(_)
+        | Token::Text(_)
+        | Token::Punctuator(_) => None,
     }
 }
 

@@ -20,7 +20,14 @@ pub fn program_of(alloc: Global, bytes: &[u8]) -> Result<Option<Expr>, AllocErro
 {
     match lex(alloc, 0, bytes) {
         Err(LexError::NoMemory) => Err(AllocError),
-        Err(LexError::NotBuilt) => Ok(None),
+        Err(
+            LexError::BadByte(_)
+            | LexError::Unterminated(_)
+            | LexError::BadNumber(_)
+            | LexError::TooWide(_)
+            | LexError::BadEscape(_)
+            | LexError::Directive(_),
+        ) => Ok(None),
         Ok(tokens) => {
             let found = file(alloc, tokens.list.as_slice())?;
             Ok(found)
