@@ -34,9 +34,9 @@ spec_pos (written.Const at) = at
 spec_pos (written.Basic at word) = at
 spec_pos (written.TypedefName at name) = at
 spec_pos (written.Struct at tag) = at
-spec_pos (written.StructBody at tag members) = at
+spec_pos (written.StructBody at tag _) = at
 spec_pos (written.Enum at tag) = at
-spec_pos (written.EnumBody at tag enumerators) = at
+spec_pos (written.EnumBody at tag _) = at
 
 abbrev pub stmt_pos : StmtTree → Pos
 stmt_pos (stmts.Label at name body) = at

@@ -15,7 +15,8 @@ use Rattle.verac.specs.Walk.{Walks}
 use Rattle.verac.specs.Sound.{IsSound}
 use Rattle.verac.specs.Admission.{IsAdmitted}
 use Rattle.verac.specs.Report.{Precedes, IsPrintable, text_of}
-use Rattle.verac.specs.Verdict.{Refusal, FileTooLarge, NotBuilt, IsRefused}
+use Rattle.verac.specs.Verdict.{Refusal, FileTooLarge, Lexing, NotBuilt, HasNoUncut, IsRefused}
+use Rattle.verac.specs.Read.{IsOneProgram}
 use Rattle.verac.specs.Headline.{IsReport}
 use Rattle.verac.proofs.AlarmLemmas.{none_all, none_ordered, none_sound, one_sound, one_admitted, one_ordered, one_printable}
 
@@ -26,19 +27,20 @@ same_name words a b one two = let (p, e) = one.words_are in let (q, f) = two.wor
 abbrev IsOnlyCut : List ℕ → Tokens → Type 0
 IsOnlyCut bytes ts = (us : Tokens) → IsCut 0 bytes us → ts ≡ us
 
-pub program_found : (bytes : List ℕ) (ts : Tokens) (found : Option Expr) → IsCut 0 bytes ts → IsOnlyCut bytes ts → MatchOption found ((e : ExprTree) → IsFile ts.list e → ⊥) (λ e. IsFile ts.list (expr_tree e))
-    → MatchOption found ((program : ProgramTree) → IsProgram bytes program → ⊥) (λ e. IsProgram bytes (returning (expr_tree e)))
-program_found bytes ts None cut only none = λ program is.
+pub program_read : (bytes : List ℕ) (ts : Tokens) (e : Expr) → IsCut 0 bytes ts → IsOnlyCut bytes ts → HasNoUncut bytes → IsFile ts.list (expr_tree e) → ((other : ExprTree) → IsFile ts.list other → other ≡ expr_tree e)
+    → IsOneProgram bytes (returning (expr_tree e))
+program_read bytes ts e cut only whole file one = record {
+  is = record { read = (ts, expr_tree e, cut, file, refl) };
+  only = λ other is.
+      let (us, d, cut', file', same) = is.read in
+      same ∙ ap returning (one d (subst (λ (v : Tokens). IsFile v.list d) (sym (only us cut')) file'));
+  cut = whole;
+}
+
+pub no_program : (bytes : List ℕ) (ts : Tokens) → IsOnlyCut bytes ts → ((e : ExprTree) → IsFile ts.list e → ⊥) → (program : ProgramTree) → IsProgram bytes program → ⊥
+no_program bytes ts only none program is =
     let (us, e, other, file, same) = is.read in
     none e (subst (λ (v : Tokens). IsFile v.list e) (sym (only us other)) file)
-program_found bytes ts (Some e) cut only file = record { read = (ts, expr_tree e, cut, file, refl) }
-
-pub program_only : (bytes : List ℕ) (ts : Tokens) (found : Option Expr) → IsOnlyCut bytes ts → IfSome found (λ e. (other : ExprTree) → IsFile ts.list other → other ≡ expr_tree e)
-    → IfSome found (λ e. (other : ProgramTree) → IsProgram bytes other → other ≡ returning (expr_tree e))
-program_only bytes ts None only one = one
-program_only bytes ts (Some e) only one = λ other is.
-    let (us, d, cut, file, same) = is.read in
-    same ∙ ap returning (one d (subst (λ (v : Tokens). IsFile v.list d) (sym (only us cut)) file))
 
 -- what is found of the alarms of a walk
 pub walk_sound : (e : ExprTree) (f : Found) (value : Option Interval) (alarms : List Alarm) → found_of e ≡ f → Walks f value [] alarms → IsSound (returning e) alarms
@@ -62,17 +64,18 @@ walk_printable (Value n) value alarms (point, none) = subst (All IsPrintable) (s
 walk_printable (Wrong p kind operand) value alarms (none, (alarm, (n, is, tells), grown)) = subst (All IsPrintable) (sym grown) (one_printable p kind n alarm tells)
 
 -- a small file that is a program is not refused
-accepted : (bytes : List ℕ) (program : ProgramTree) → length bytes ≤ 4194304 → IsProgram bytes program → (r : Refusal) → IsRefused bytes r → ⊥
-accepted bytes program small is FileTooLarge large = absurd (omega arith)
-accepted bytes program small is NotBuilt (low, none) = none program is
+accepted : (bytes : List ℕ) (program : ProgramTree) → length bytes ≤ 4194304 → IsOneProgram bytes program → (r : Refusal) → IsRefused bytes r → ⊥
+accepted bytes program small one FileTooLarge large = absurd (omega arith)
+accepted bytes program small one (Lexing reason at) (low, uncut) = one.cut reason at uncut
+accepted bytes program small one NotBuilt (low, cut, none) = none program one.is
 
-pub report : (name bytes : List ℕ) (program : ProgramTree) (alarms : List Alarm) (text : List ℕ) → length bytes ≤ 4194304 → IsProgram bytes program → ((other : ProgramTree) → IsProgram bytes other → other ≡ program)
+pub report : (name bytes : List ℕ) (program : ProgramTree) (alarms : List Alarm) (text : List ℕ) → length bytes ≤ 4194304 → IsOneProgram bytes program
     → IsSound program alarms → All (IsAdmitted program) alarms → AllPairs Precedes alarms → All IsPrintable alarms → text ≡ text_of name alarms → IsReport name bytes alarms text
-report name bytes program alarms text small is only sound admitted ordered printable text_is = record {
+report name bytes program alarms text small one sound admitted ordered printable text_is = record {
   program = program;
-  read = is;
-  only = only;
-  accepted = accepted bytes program small is;
+  read = one.is;
+  only = one.only;
+  accepted = accepted bytes program small one;
   sound = sound;
   admitted = admitted;
   ordered = ordered;

@@ -14,3 +14,4 @@ pub mod Walk
 pub mod Descent
 pub mod Answers
 pub mod Status
+pub mod Read

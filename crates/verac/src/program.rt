@@ -1,36 +1,40 @@
 // The program that a file's bytes are.
-ghost use Rattle.std.specs.Prelude.{◌≡◌, ◌≤◌, length, IfOk, IfSome, MatchOption};
-ghost use Rattle.verac.specs.Program.{IsProgram};
-ghost use Rattle.verac.specs.Tree.{ProgramTree, expr_tree, returning, HasConstants};
+ghost use Rattle.std.specs.Prelude.{◌≤◌, length, IfOk};
+ghost use Rattle.verac.specs.Read.{Tells};
 
 use crate::parse::file;
 use crate::tree::Expr;
-use c_lexer::{LexError, lex};
+use c_lexer::{LexError, Reason, lex};
+use c_syntax::Pos;
 use std::alloc::{AllocError, Global};
 
-/// The expression that the program of the bytes returns; None exactly where the bytes are no
-/// program of the built form.
-pub fn program_of(alloc: Global, bytes: &[u8]) -> Result<Option<Expr>, AllocError>
+/// What a file's bytes are.
+#[derive(Debug, Drop)]
+pub enum Read {
+    /// The program that returns this expression.
+    Program(Expr),
+    /// Bytes that are cut into tokens up to this place alone.
+    Refused(Reason, Pos),
+    /// Tokens of another form.
+    NotBuilt,
+}
+
+/// Reads the program of the bytes.
+pub fn program_of(alloc: Global, bytes: &[u8]) -> Result<Read, AllocError>
     requires { length bytes.now ≤ 4194304 }
-    ensures found { IfOk result (λ found. MatchOption found ((program : ProgramTree) → IsProgram bytes.now program → ⊥)
-        (λ e. IsProgram bytes.now (returning (expr_tree e)))) }
-    // The bytes are no other program.
-    ensures only { IfOk result (λ found. IfSome found (λ e. (other : ProgramTree) → IsProgram bytes.now other → other ≡ returning (expr_tree e))) }
-    ensures constants { IfOk result (λ found. IfSome found (λ e. HasConstants (expr_tree e))) }
+    ensures { IfOk result (λ read. Tells bytes.now read) }
 {
     match lex(alloc, 0, bytes) {
         Err(LexError::NoMemory) => Err(AllocError),
-        Err(
-            LexError::BadByte(_)
-            | LexError::Unterminated(_)
-            | LexError::BadNumber(_)
-            | LexError::TooWide(_)
-            | LexError::BadEscape(_)
-            | LexError::Directive(_),
-        ) => Ok(None),
-        Ok(tokens) => {
-            let found = file(alloc, tokens.list.as_slice())?;
-            Ok(found)
-        }
+        Err(LexError::BadByte(at)) => Ok(Read::Refused(Reason::BadByte, at)),
+        Err(LexError::Unterminated(at)) => Ok(Read::Refused(Reason::Unterminated, at)),
+        Err(LexError::BadNumber(at)) => Ok(Read::Refused(Reason::BadNumber, at)),
+        Err(LexError::TooWide(at)) => Ok(Read::Refused(Reason::TooWide, at)),
+        Err(LexError::BadEscape(at)) => Ok(Read::Refused(Reason::BadEscape, at)),
+        Err(LexError::Directive(at)) => Ok(Read::Refused(Reason::Directive, at)),
+        Ok(tokens) => match file(alloc, tokens.list.as_slice())? {
+            Some(e) => Ok(Read::Program(e)),
+            None => Ok(Read::NotBuilt),
+        },
     }
 }

@@ -1,16 +1,19 @@
-use Rattle.std.proofs.Common.{◌≡◌}
-use Rattle.std.specs.Prelude.{MatchOption, IfSome}
-use Rattle.verac.specs.Tree.{ExprTree, expr_tree}
+use Rattle.std.proofs.Common.{rules, ◌≡◌}
+use Rattle.verac.specs.Tree.{ExprTree, expr_tree, HasConstants}
 use Rattle.verac.specs.Grammar.{IsFile}
-use Rattle.verac.proofs.HeadlineLemmas.{program_found, program_only}
+use Rattle.verac.specs.Verdict.{HasNoUncut}
+use Rattle.verac.proofs.HeadlineLemmas.{program_read, no_program}
 use Rattle.verac.proofs.program.program_of.Goals as goal
 
-pub returns-in_ok-found-in-Ok-clause-found : goal.returns-in_ok-found-in-Ok-clause-found
-returns-in_ok-found-in-Ok-clause-found c =
-    let file : MatchOption c.in_ok-found-in-Ok.found ((e : ExprTree) → IsFile c.in-Ok.tokens.list e → ⊥) (λ e. IsFile c.in-Ok.tokens.list (expr_tree e)) = rw c.as_slice.ensures at c.in_ok-found-in-Ok.ensures.found in
-    program_found c.args.bytes.now c.in-Ok.tokens c.in_ok-found-in-Ok.found c.in-Ok.ensures.cut c.in-Ok.ensures.only_cut file
+pub returns-in-Some : goal.returns-in-Some
+returns-in-Some c =
+    let whole : HasNoUncut c.args.bytes.now = λ reason at uncut. c.in-Ok.ensures.only_refused at reason uncut in
+    let found = rw (c.in-Some.is, c.as_slice.ensures) at c.in_ok-e-in-Ok.ensures.found in
+    let only = rw (c.in-Some.is, c.as_slice.ensures) at c.in_ok-e-in-Ok.ensures.only in
+    let constants = rw c.in-Some.is at c.in_ok-e-in-Ok.ensures.constants in
+    (program_read c.args.bytes.now c.in-Ok.tokens c.in-Some.e c.in-Ok.ensures.cut c.in-Ok.ensures.only_cut whole found only, constants)
 
-pub returns-in_ok-found-in-Ok-clause-only : goal.returns-in_ok-found-in-Ok-clause-only
-returns-in_ok-found-in-Ok-clause-only c =
-    let one : IfSome c.in_ok-found-in-Ok.found (λ e. (other : ExprTree) → IsFile c.in-Ok.tokens.list other → other ≡ expr_tree e) = rw c.as_slice.ensures at c.in_ok-found-in-Ok.ensures.only in
-    program_only c.args.bytes.now c.in-Ok.tokens c.in_ok-found-in-Ok.found c.in-Ok.ensures.only_cut one
+pub returns : goal.returns
+returns c =
+    let none = rw (c.in-None.is, c.as_slice.ensures) at c.in_ok-e-in-Ok.ensures.found in
+    (λ reason at uncut. c.in-Ok.ensures.only_refused at reason uncut, no_program c.args.bytes.now c.in-Ok.tokens c.in-Ok.ensures.only_cut none)
