@@ -115,7 +115,7 @@ fn reports_and_refusals(rt: HostRuntime) -> Result<(), Fail> {
             NOT_BUILT_TEXT,
         ),
         (
-            "int main(void){return 07;}",
+            "int main(void){return 08;}",
             Status::Refused,
             NOT_BUILT_TEXT,
         ),
