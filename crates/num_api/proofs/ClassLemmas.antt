@@ -1,5 +1,5 @@
 -- Facts of classes.
-use Rattle.std.proofs.Common.{ℤ, pos, ◌≡◌, ◌+ℤ◌, ◌*ℤ◌, arith}
+use Rattle.std.proofs.Common.{ℤ, pos, arith}
 use Rattle.std.proofs.lemmas.Int.{ints}
 use Rattle.num_api.specs.Residues.{InResidue}
 

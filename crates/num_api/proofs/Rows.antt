@@ -1,11 +1,10 @@
 -- The plain rule and the operators, worked by hand at numbers.
-use Rattle.std.proofs.Common.{ℕ, ℤ, pos, negsuc, neg_ℤ, ◌≡◌, zero, suc, Some, None, true, false, refl}
-use Rattle.ext_int.specs.declared.Ext.TheVariants.{Fin}
+use Rattle.std.proofs.Common.{ℕ, pos, neg_ℤ, ◌≡◌, zero, suc, Some, None, true, false, refl}
 use Rattle.num_api.specs.declared.message.Range.{Range}
 use Rattle.num_api.specs.declared.expr.NOp.TheVariants.{Neg, Not, Add, Sub, Mul, Quot, Rem, Shl, Shr, And, Or, Xor, Eq, Ne, Lt, Le}
-use Rattle.num_api.specs.Exprs.{NExprTree, Const, Read, Unary, Binary}
-use Rattle.num_api.specs.Value.{unary_value, binary_value}
-use Rattle.num_api.specs.Spans.{Span, span, point, range_of, unary_span, binary_span}
+use Rattle.num_api.specs.Exprs.{Const, Read, Unary, Binary}
+use Rattle.num_api.specs.Value.{binary_value}
+use Rattle.num_api.specs.Spans.{span, point, range_of, unary_span, binary_span}
 use Rattle.num_api.specs.Plain.{plain, tested, excludes}
 
 -- ---- operators

@@ -1,7 +1,7 @@
 -- Expressions whose value is a multiple of a number by their form.
 use Rattle.std.specs.Prelude.{ℤ, pos, ◌≡◌, ◌⊎◌}
 use Rattle.num_api.specs.declared.expr.NOp.TheVariants.{Add, Mul}
-use Rattle.num_api.specs.Exprs.{NExprTree, Const, Read, Unary, Binary}
+use Rattle.num_api.specs.Exprs.{NExprTree, Const, Binary}
 use Rattle.num_api.specs.Residues.{IsMultiple}
 
 -- a c-fold expression: a constant that is a multiple of c, a product of which one factor is such a constant,

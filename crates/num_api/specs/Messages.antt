@@ -1,5 +1,5 @@
 -- What a message says of a valuation.
-use Rattle.std.specs.Prelude.{ℕ, ℤ, pos, negsuc, ◌≡◌, ◌⊎◌, ◌+ℤ◌, ◌*ℤ◌, ◌≤ℤ◌, List, ◌++◌, length, drop, Some, All}
+use Rattle.std.specs.Prelude.{ℤ, pos, negsuc, ◌≡◌, ◌⊎◌, ◌+ℤ◌, ◌*ℤ◌, ◌≤ℤ◌, List, ◌++◌, length, drop, Some, All}
 use Rattle.num_api.specs.declared.message.Message.{Message}
 use Rattle.num_api.specs.declared.message.Message.TheVariants as messages
 use Rattle.num_api.specs.Exprs.{nexpr_tree}

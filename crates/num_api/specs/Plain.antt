@@ -1,11 +1,10 @@
 -- The plain rule: from a range for each variable to the range of an expression, and to the ranges behind a test.
-use Rattle.std.specs.Prelude.{ℕ, ℤ, pos, ◌≡◌, ◌+ℤ◌, ◌-ℤ◌, Option, Some, None, IsSomeAnd, Bool, true, false, not, ◌&&◌, if◌then◌else◌}
+use Rattle.std.specs.Prelude.{ℕ, ℤ, pos, ◌+ℤ◌, ◌-ℤ◌, Option, Some, None, IsSomeAnd, Bool, true, false, not, if◌then◌else◌}
 use Rattle.std.specs.Int.{int_min, int_max}
-use Rattle.std.specs.Int.RustNames.{int_le}
 use Rattle.std.specs.Ordering.{int_eq}
 use Rattle.num_api.specs.declared.message.Range.{Range}
 use Rattle.num_api.specs.declared.expr.NOp.{NOp}
-use Rattle.num_api.specs.declared.expr.NOp.TheVariants.{Neg, Not, Add, Sub, Mul, Quot, Rem, Shl, Shr, And, Or, Xor, Eq, Ne, Lt, Le}
+use Rattle.num_api.specs.declared.expr.NOp.TheVariants.{Not, Eq, Ne, Lt, Le}
 use Rattle.num_api.specs.Exprs.{NExprTree, Const, Read, Unary, Binary}
 use Rattle.num_api.specs.Ranges.{with_range}
 use Rattle.num_api.specs.Spans.{Span, span, point, range_of, span_between, FitsSpan, may_equal, may_differ, unary_span, binary_span}

@@ -1,7 +1,6 @@
 -- Ranges of whole numbers.
 use Rattle.std.specs.Prelude.{ℕ, ℤ, ◌≡◌, Bool, nat_eq, if◌then◌else◌}
 use Rattle.ext_int.specs.Ext.{Below, Above, AtMost, lesser, greater, holds_number}
-use Rattle.ext_int.specs.declared.Ext.{Ext}
 use Rattle.ext_int.specs.declared.Ext.TheVariants.{Low, Fin, High}
 use Rattle.num_api.specs.declared.message.Range.{Range}
 

@@ -1,5 +1,5 @@
 -- The value of an expression under a valuation, where it has one. Operators are those of C on whole numbers, with no width.
-use Rattle.std.specs.Prelude.{ℕ, ℤ, zero, suc, pos, negsuc, ◌≡◌, ◌^◌, ◌+ℤ◌, ◌-ℤ◌, ◌*ℤ◌, neg_ℤ, int_div, int_rem, bit_and, bit_or, bit_xor, List, Option, Some, None, IsSomeAnd, Bool, not, if◌then◌else◌}
+use Rattle.std.specs.Prelude.{ℕ, ℤ, pos, negsuc, ◌^◌, ◌+ℤ◌, ◌-ℤ◌, ◌*ℤ◌, neg_ℤ, int_div, int_rem, bit_and, bit_or, bit_xor, List, Option, Some, None, IsSomeAnd, Bool, not, if◌then◌else◌}
 use Rattle.std.specs.Int.{int_div_euclid}
 use Rattle.std.specs.Int.RustNames.{int_le, int_lt, FitsSigned}
 use Rattle.std.specs.Ordering.{int_eq}

@@ -10,14 +10,13 @@ mod expr;
 mod fixpoint;
 mod lists;
 mod message;
-
 mod value;
 
 pub use domain::{Exact, NumDomain, Oracle};
 pub use expr::{NExpr, NOp, Var};
+pub use fixpoint::{settle, settle_value};
 pub use lists::{Messages, NumFacts};
 pub use message::{Live, Message, Range, Residue};
-pub use fixpoint::{settle, settle_value};
 pub use value::{ExactValue, ValueDomain};
 
 #[cfg(test)]
