@@ -147,9 +147,11 @@ impl Cells {
     pub fn split(&mut self, n: u64, out: &mut Numbers) -> Result<(), NoMemory>
         requires { used_at self.old.slots n ≡ Some true }
         ensures slots { OnOk result ((c : Cell) → cell_at self.old.slots n ≡ Some c
-            → self.new.slots ≡ in_use_with_all (in_use_without self.old.slots n) (byte_cells c.object c.offset c.size)) }
+            → self.new.slots
+            ≡ in_use_with_all (in_use_without self.old.slots n) (byte_cells c.object c.offset c.size)) }
         ensures numbers { OnOk result ((c : Cell) → cell_at self.old.slots n ≡ Some c
-            → out.new ≡ out.old ++ numbers_of (in_use_without self.old.slots n) (byte_cells c.object c.offset c.size)) }
+            → out.new
+            ≡ out.old ++ numbers_of (in_use_without self.old.slots n) (byte_cells c.object c.offset c.size)) }
 
         // It follows that a cell of one byte stays.
         ensures one_byte { OnOk result ((c : Cell) → cell_at self.old.slots n ≡ Some c

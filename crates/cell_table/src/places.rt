@@ -22,7 +22,8 @@ pub fn push_overlapping(
     to: u64,
     numbers: &mut Vec<u64>,
 ) -> Result<(), NoMemory>
-    ensures numbers { OnOk result (numbers.new.items ≡ numbers.old.items ++ numbers_in object from to places.now.entries) }
+    ensures numbers { OnOk result (numbers.new.items
+        ≡ numbers.old.items ++ numbers_in object from to places.now.entries) }
     ensures ordered { OnOk result (IsOrdered place_cmp places.now) }
 {
     for ((_, offset), place) in places.range((object, 0)..(object, to)) {

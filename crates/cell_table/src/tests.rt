@@ -11,7 +11,8 @@ use std::test::Fail;
 
 /// Whether these are all numbers of this one cell.
 fn is_only(cells: &Cells, numbers: &[u64], c: Cell) -> bool
-    ensures { IsTrue result → (k : ℕ) → k < length numbers.now → cell_at cells.now.slots (slice_index numbers.now k) ≡ Some c }
+    ensures { IsTrue result → (k : ℕ) → k < length numbers.now
+        → cell_at cells.now.slots (slice_index numbers.now k) ≡ Some c }
 {
     for n in numbers {
         if *n >= cells.count() || cells.cell(*n) != c {
