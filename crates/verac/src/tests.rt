@@ -115,9 +115,44 @@ fn reports_and_refusals(rt: HostRuntime) -> Result<(), Fail> {
             NOT_BUILT_TEXT,
         ),
         (
-            "int main(void){return 08;}",
+            "/* a */int main(void){//b\nreturn/**/010+0x10/*c*/;}",
+            Status::NoAlarm,
+            NO_ALARM_TEXT,
+        ),
+        (
+            "int main(void){return 7u;}",
             Status::Refused,
             NOT_BUILT_TEXT,
+        ),
+        (
+            "int main(void){/*",
+            Status::Refused,
+            "a.c:1:16: refused: unterminated comment or literal\n",
+        ),
+        (
+            "int main(void){return 08;}",
+            Status::Refused,
+            "a.c:1:23: refused: not an integer constant\n",
+        ),
+        (
+            "int main(void){return 18446744073709551616;}",
+            Status::Refused,
+            "a.c:1:23: refused: integer constant too wide\n",
+        ),
+        (
+            "int main(void){return '';}",
+            Status::Refused,
+            "a.c:1:23: refused: bad character or escape\n",
+        ),
+        (
+            "int main(void){\n\treturn 1@2;}",
+            Status::Refused,
+            "a.c:2:10: refused: byte not allowed\n",
+        ),
+        (
+            "#include <stdio.h>\nint main(void){return 0;}",
+            Status::Refused,
+            "a.c:1:1: refused: directive\n",
         ),
         (
             "int main(void){return 1--1;}",
@@ -134,8 +169,8 @@ fn reports_and_refusals(rt: HostRuntime) -> Result<(), Fail> {
         let answer = run_on(rt.alloc(), text.as_bytes(), &[], 1000, &[])?;
         assert_eq!(rt; answer.status, status, "{text}");
         assert_eq!(rt; answer.text.as_slice(), written.as_bytes(), "{text}");
-        // The first call begins the file, and the second and third read it.
-        for call in 1..4 {
+        // The first call begins the file, and the second reads it.
+        for call in 1..3 {
             let answer = run_on(rt.alloc(), text.as_bytes(), &[call], 1000, &[])?;
             assert_eq!(rt; answer.status, Status::ReadFault, "{text}");
             assert!(rt; answer.text.is_empty(), "{text}");
