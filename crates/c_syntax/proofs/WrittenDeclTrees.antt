@@ -1,5 +1,5 @@
 -- The trees of initialisers, by the constructors that the code has.
-use Rattle.std.proofs.Common.{◌≡◌, ℕ, List, [], ◌∷◌, ◌++◌, refl, ap, ◌∙◌}
+use Rattle.std.proofs.Common.{◌≡◌, List, [], ◌∷◌, ◌++◌, refl, ap, ◌∙◌}
 use Rattle.c_syntax.specs.declared.place.Pos.{Pos}
 use Rattle.c_syntax.specs.declared.written.Expr.{Expr}
 use Rattle.c_syntax.specs.declared.declaration.Init.{Init}

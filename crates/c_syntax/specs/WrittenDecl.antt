@@ -1,7 +1,6 @@
 -- Declarations as trees without pointers. Each constructor has the fields of the code's variant, in their order.
 use Rattle.std.specs.Prelude.{List, [], ◌∷◌, map, Option, option_map}
 use Rattle.c_syntax.specs.declared.place.Pos.{Pos}
-use Rattle.c_syntax.specs.declared.written.Expr.{Expr}
 use Rattle.c_syntax.specs.declared.declaration.Init.{Init}
 use Rattle.c_syntax.specs.declared.declaration.Init.TheVariants as inits
 use Rattle.c_syntax.specs.declared.declaration.Inits.{Inits, Row_of-Init, end_of-Init, more_of-Init}

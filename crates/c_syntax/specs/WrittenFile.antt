@@ -1,8 +1,6 @@
 -- Statements and files as trees without pointers. Each constructor has the fields of the code's variant, in their order.
 use Rattle.std.specs.Prelude.{ℕ, List, [], ◌∷◌, map, Option, option_map}
 use Rattle.c_syntax.specs.declared.place.Pos.{Pos}
-use Rattle.c_syntax.specs.declared.written.Expr.{Expr}
-use Rattle.c_syntax.specs.declared.declaration.Decl.{Decl}
 use Rattle.c_syntax.specs.declared.file.ForStart.{ForStart}
 use Rattle.c_syntax.specs.declared.file.ForStart.TheVariants as starts
 use Rattle.c_syntax.specs.declared.file.Stmt.{Stmt}

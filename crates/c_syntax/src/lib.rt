@@ -11,6 +11,8 @@ mod operator;
 mod place;
 mod program;
 mod statement;
+#[cfg(test)]
+mod tests;
 mod token;
 mod typed;
 mod types;
@@ -36,7 +38,7 @@ pub use program::{
 pub use statement::{BlockKind, TInit, TInits, TStmt, TStmts};
 pub use token::{Constant, Keyword, Mark, Marks, Placed, PlacedList, Punctuator, Token, Tokens};
 pub use typed::{TExpr, TExprs, TLvalue};
-pub use types::{CType, IntType, Object, Target};
+pub use types::{CType, IntType, Object, Target, same_type};
 pub use written::{
     AssignOp, BinaryOp, Declarator, Declarators, Enumerator, Enumerators, Expr, Exprs, MemberDecl,
     MemberDecls, Param, Params, Spec, Specs, StorageWord, Tag, TypeWord, UnaryOp,

@@ -1,6 +1,6 @@
 // Types of C, and the objects that have them.
 
-ghost use Rattle.std.specs.Prelude.{◌≡◌, IfOk};
+ghost use Rattle.std.specs.Prelude.{◌≡◌, ◌↔◌, IfOk, IsTrue};
 ghost use Rattle.c_syntax.specs.Types.{ctype_tree};
 
 use crate::{Name, Pos};
@@ -83,5 +83,37 @@ impl CType {
             CType::Struct(n) => Ok(CType::Struct(*n)),
             CType::Function(n) => Ok(CType::Function(*n)),
         }
+    }
+}
+
+/// Whether the two are one type, const included.
+pub fn same_type(a: &CType, b: &CType) -> bool
+    ensures { IsTrue result ↔ (ctype_tree a.now ≡ ctype_tree b.now) }
+{
+    match a {
+        CType::Void => match b {
+            CType::Void => true,
+            _ => false,
+        },
+        CType::Int(s) => match b {
+            CType::Int(t) => s == t,
+            _ => false,
+        },
+        CType::Pointer(s) => match b {
+            CType::Pointer(t) => s.is_const == t.is_const && same_type(&s.ty, &t.ty),
+            _ => false,
+        },
+        CType::Array(s, m) => match b {
+            CType::Array(t, n) => { m == n && s.is_const == t.is_const && same_type(&s.ty, &t.ty) }
+            _ => false,
+        },
+        CType::Struct(m) => match b {
+            CType::Struct(n) => m == n,
+            _ => false,
+        },
+        CType::Function(m) => match b {
+            CType::Function(n) => m == n,
+            _ => false,
+        },
     }
 }
