@@ -14,7 +14,7 @@ bar i = if nat_eq (i % 2) 0 then i + 1 else i - 1
 abbrev pub reach : ℕ → ℕ
 reach i = if nat_eq (i % 2) 0 then i + 2 else i
 
--- how many places the rows before this one have: each has as many as its two variables' pair of rows needs
+-- how many places the rows before this one have: each has one for every column up to its own pair of signs
 unfoldable pub row_start : ℕ → ℕ
 row_start zero = 0
 row_start (suc i) = row_start i + (i + 2 - i % 2)
@@ -42,6 +42,7 @@ InRange Low = ⊥
 InRange (Fin w) = (w ≤ℤ pos (2 ^ 100)) × (neg_ℤ (pos (2 ^ 100)) ≤ℤ w)
 InRange High = Unit {0}
 
+-- every bound is one that a matrix may have
 pub record AllInRange (m : ℕ → ℕ → Ext) : Type 0 where
   pub range : (i j : ℕ) → InRange (m i j)
 
