@@ -1,2 +1,4 @@
 pub mod Arithmetic
 pub mod Parts
+pub mod Shifts
+pub mod TwosComplement

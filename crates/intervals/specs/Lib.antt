@@ -1,1 +1,4 @@
 pub mod Interval
+pub mod Order
+pub mod Operations
+pub mod Widening

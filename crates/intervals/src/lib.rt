@@ -6,7 +6,11 @@ ghost use Rattle.ext_int.specs.Ext.{holds_number};
 
 use ext_int::{Ext, add_high, add_low, max, min, neg_high, neg_low};
 
+mod bits;
+mod domain;
 mod ends;
+mod operators;
+mod widening;
 
 use ends::{
     greatest_product, greatest_quotient, is_range, least_product, least_quotient, sub_high, sub_low,
@@ -101,8 +105,8 @@ impl Interval {
         ensures point { (x y : ℤ) → IsPoint self.now x → IsPoint other.now y → y ≢ pos 0 → FitsSigned w128 (int_div x y) → IsPoint result (int_div x y) }
         ensures least { (l h d : ℤ) → FitsSigned w128 l → FitsSigned w128 h → IsFinite self.now → IsFinite other.now → Admits other.now d → d ≢ pos 0 → ((x y : ℤ) → Admits self.now x → Admits other.now y → y ≢ pos 0 → IsBetween l h (int_div x y)) → LiesBetween l h result }
     {
-        let negative = other.meet(Ext::Low, Ext::Fin(-1));
-        let positive = other.meet(Ext::Fin(1), Ext::High);
+        let negative = other.part(Ext::Low, Ext::Fin(-1));
+        let positive = other.part(Ext::Fin(1), Ext::High);
         match (negative, positive) {
             (Some(below), Some(above)) => self.quot_by(below).hull(self.quot_by(above)),
             (Some(below), None) => self.quot_by(below),
@@ -132,11 +136,11 @@ impl Interval {
         ensures some { IfSome result (λ i. (n : ℤ) → Admits i n ↔ (Admits self.now n × IsBetween lo hi n)) }
         ensures point { (n : ℤ) → IsPoint self.now n → IsBetween lo hi n → IsSomeAnd result (λ i. IsPoint i n) }
     {
-        self.meet(Ext::Fin(lo), Ext::Fin(hi))
+        self.part(Ext::Fin(lo), Ext::Fin(hi))
     }
 
     // The numbers that lie between these ends, or None where there is none.
-    fn meet(&self, lo: Ext, hi: Ext) -> Option<Interval>
+    fn part(&self, lo: Ext, hi: Ext) -> Option<Interval>
         ensures none { IsNone result ↔ ((n : ℤ) → Admits self.now n → Below lo n → Above hi n → ⊥) }
         ensures some { IfSome result (λ i. (n : ℤ) → Admits i n ↔ (Admits self.now n × Below lo n × Above hi n)) }
         ensures ends { IfSome result (λ i. (least_end i ≡ greater (least_end self.now) lo) × (greatest_end i ≡ lesser (greatest_end self.now) hi)) }
@@ -188,7 +192,7 @@ mod tests {
     // The interval between two ends, or all numbers where they hold none.
     fn between(ends: (Ext, Ext)) -> Interval {
         let all = Interval { lo: Low, hi: High };
-        all.meet(ends.0, ends.1).unwrap_or(all)
+        all.part(ends.0, ends.1).unwrap_or(all)
     }
 
     // Two operands; then their sums, differences and products.
