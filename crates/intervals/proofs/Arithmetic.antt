@@ -64,7 +64,7 @@ module _ (l h : ℤ) (f : FitsSigned w128 l) (g : FitsSigned w128 h) where
       let high = within b c (i, AtMost_refl (Fin b)) (AtMost_refl (Fin c), j) in
       ((rounded_between (a -ℤ d) low).0, (rounded_between (b -ℤ c) high).1))
 
-  corners_between : (p q r s : ℤ) → IsBetween l h p → IsBetween l h q → IsBetween l h r → IsBetween l h s → EndsBetween l h (least_of (low_end p) (low_end q) (low_end r) (low_end s)) (greatest_of (high_end p) (high_end q) (high_end r) (high_end s))
+  pub corners_between : (p q r s : ℤ) → IsBetween l h p → IsBetween l h q → IsBetween l h r → IsBetween l h s → EndsBetween l h (least_of (low_end p) (low_end q) (low_end r) (low_end s)) (greatest_of (high_end p) (high_end q) (high_end r) (high_end s))
   corners_between p q r s i j k m =
       let at_p = rounded_between p i in
       let at_q = rounded_between q j in

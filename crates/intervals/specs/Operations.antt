@@ -16,13 +16,13 @@ use Rattle.intervals.specs.Interval.{Admits, IsPoint, IsWithin, ends_of, least_e
 pub record CarriesOne (op : NOp) (a r : Interval) : Type 0 where
   pub holds : (x n : ℤ) → Admits a x → unary_value op x ≡ Some n → Admits r n
   pub point : (x n : ℤ) → IsPoint a x → unary_value op x ≡ Some n → FitsSigned w128 n → IsPoint r n
-  pub plain : (s u : Span) → IsWithin s a → unary_span op s ≡ Some u → FitsSpan u → IsWithin u r
+  pub plain : (s u : Span) → FitsSpan s → IsWithin s a → unary_span op s ≡ Some u → FitsSpan u → IsWithin u r
 
 -- the same of two operands
 pub record Carries (op : NOp) (a b r : Interval) : Type 0 where
   pub holds : (x y n : ℤ) → Admits a x → Admits b y → binary_value op x y ≡ Some n → Admits r n
   pub point : (x y n : ℤ) → IsPoint a x → IsPoint b y → binary_value op x y ≡ Some n → FitsSigned w128 n → IsPoint r n
-  pub plain : (s t u : Span) → IsNotByZero op (ends_of b) → IsWithin s a → IsWithin t b → binary_span op s t ≡ Some u → FitsSpan u → IsWithin u r
+  pub plain : (s t u : Span) → IsNotByZero op (ends_of b) → FitsSpan s → IsWithin s a → FitsSpan t → IsWithin t b → binary_span op s t ≡ Some u → FitsSpan u → IsWithin u r
 
 -- the operators on bits
 abbrev pub IsBitwise : NOp → Type 0
@@ -51,4 +51,4 @@ greatest_remainder b = greater (Fin (pos 0)) (greater (size_less_one (least_end 
 -- the interval holds the remainders by the divisors other than 0, and is no wider than the plain rule
 pub record HoldsRemainders (a b r : Interval) : Type 0 where
   pub holds : (x y : ℤ) → Admits a x → Admits b y → y ≢ pos 0 → Admits r (int_rem x y)
-  pub plain : (s t u : Span) → IsWithin s a → IsWithin t b → remainders s t ≡ Some u → IsWithin u r
+  pub plain : (s t u : Span) → IsWithin s a → FitsSpan t → IsWithin t b → remainders s t ≡ Some u → IsWithin u r

@@ -1,0 +1,9 @@
+use Rattle.intervals.proofs.Carried.{carries_negation, carries_no_one, IsNegation}
+use Rattle.intervals.proofs.Quotients.{carries_quotient}
+use Rattle.intervals.proofs.Tests.{carries_not}
+use Rattle.intervals.proofs.operators.unary.Goals as goal
+
+pub returns-in-Neg : goal.returns-in-Neg
+returns-in-Neg c =
+    let negation : IsNegation c.args.a.now c.neg.result = record { keeps = c.neg.ensures.keeps; point = c.neg.ensures.point; least = c.neg.ensures.least } in
+    rw c.in-Neg.is (carries_negation c.args.a.now c.neg.result negation)
