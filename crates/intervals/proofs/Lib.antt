@@ -3,6 +3,7 @@ pub mod Carried
 pub mod Inside
 pub mod Parts
 pub mod Quotients
+pub mod Remainders
 pub mod Shifts
 pub mod Tests
 pub mod TwosComplement
