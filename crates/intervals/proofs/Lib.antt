@@ -2,6 +2,7 @@ pub mod Arithmetic
 pub mod Carried
 pub mod Inside
 pub mod Parts
+pub mod Points
 pub mod Quotients
 pub mod Remainders
 pub mod Shifts
