@@ -8,3 +8,4 @@ pub mod Remainders
 pub mod Shifts
 pub mod Tests
 pub mod TwosComplement
+pub mod Widenings
