@@ -1,5 +1,6 @@
 pub mod Arithmetic
 pub mod Carried
+pub mod Domains
 pub mod Inside
 pub mod Parts
 pub mod Points

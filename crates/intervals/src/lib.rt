@@ -172,6 +172,7 @@ impl Interval {
         ensures left { (n : ℤ) → Admits self n → Admits result n }
         ensures right { (n : ℤ) → Admits other n → Admits result n }
         ensures least { (l h : ℤ) → LiesBetween l h self → LiesBetween l h other → LiesBetween l h result }
+        ensures ends { (least_end result ≡ lesser (least_end self) (least_end other)) × (greatest_end result ≡ greater (greatest_end self) (greatest_end other)) }
     {
         Interval {
             lo: min(self.lo, other.lo),
