@@ -25,29 +25,6 @@ use Rattle.intervals.proofs.Inside.{within_number, within_finite}
 some_same : {A : Type 0} (a b : A) → Some a ≡ Some b → a ≡ b
 some_same a b e = cc
 
--- ---- nothing is an answer
-
--- an interval of all numbers carries an operator that has no value and no rule
-pub carries_nothing : (op : NOp) (a b r : Interval) → ((x y : ℤ) → binary_value op x y ≡ None) → ((s t : Span) → binary_span op s t ≡ None) → Carries op a b r
-carries_nothing op a b r value rule = record {
-  holds = λ x y n p q e. absurd (never n (sym (value x y) ∙ e));
-  point = λ x y n p q e f. absurd (never n (sym (value x y) ∙ e));
-  plain = λ s t u not_by_zero f p g q e h. absurd (never u (sym (rule s t) ∙ e));
-}
-  where
-    never : {A : Type 0} (n : A) → None ≡ Some n → ⊥
-    never n e = cc
-
-pub carries_no_one : (op : NOp) (a r : Interval) → ((x : ℤ) → unary_value op x ≡ None) → ((s : Span) → unary_span op s ≡ None) → CarriesOne op a r
-carries_no_one op a r value rule = record {
-  holds = λ x n p e. absurd (never n (sym (value x) ∙ e));
-  point = λ x n p e f. absurd (never n (sym (value x) ∙ e));
-  plain = λ s u f p e h. absurd (never u (sym (rule s) ∙ e));
-}
-  where
-    never : {A : Type 0} (n : A) → None ≡ Some n → ⊥
-    never n e = cc
-
 -- ---- sums, differences and products
 
 -- the interval holds the results of the operation, is exact on points, and least

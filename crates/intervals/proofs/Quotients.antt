@@ -34,13 +34,6 @@ by_not_zero v n y e =
     let value = by_test (int_eq y (pos 0)) v n e in
     (λ same. let test = (Decides-int_eq y (pos 0)).1 same in cc (test, value.0), value.1)
 
-not_true : (b : Bool) → (b ≡ true → ⊥) → b ≡ false
-not_true true never = absurd (never refl)
-not_true false never = refl
-
-pub value_by : (v y : ℤ) → y ≢ pos 0 → (if int_eq y (pos 0) then None else Some v) ≡ Some v
-value_by v y ne = let test = not_true (int_eq y (pos 0)) (λ e. ne ((Decides-int_eq y (pos 0)).0 e)) in rw test refl
-
 -- ---- the corners of a part of the divisors
 
 four_above : (l p q r s : ℤ) → l ≤ℤ int_min (int_min p q) (int_min r s) → (l ≤ℤ p) × (l ≤ℤ q) × (l ≤ℤ r) × (l ≤ℤ s)
@@ -86,12 +79,6 @@ part_between l h f g s t x y one_side p q low high =
 
 -- ---- both parts
 
--- the span of a part is there and lies inside the whole
-record IsPart (part : Option Span) (u : Span) (q : Span) : Type 0 where
-  there : part ≡ Some q
-  low : u.lo ≤ℤ q.lo
-  high : q.hi ≤ℤ u.hi
-
 joined_first : (q u : Span) (other : Option Span) → joined (Some q) other ≡ Some u → (u.lo ≤ℤ q.lo) × (q.hi ≤ℤ u.hi)
 joined_first q u None e = let same : q ≡ u = cc in subst (λ (v : Span). (v.lo ≤ℤ q.lo) × (q.hi ≤ℤ v.hi)) same (omega (arith, ints), omega (arith, ints))
 joined_first q u (Some r) e =
@@ -100,6 +87,7 @@ joined_first q u (Some r) e =
   where
     least_first : (x y : ℤ) → int_min x y ≤ℤ x
     least_first x y = grind (arith, ints)
+
     greatest_first : (x y : ℤ) → x ≤ℤ int_max x y
     greatest_first x y = grind (arith, ints)
 
@@ -111,6 +99,7 @@ joined_second q u (Some r) e =
   where
     least_second : (x y : ℤ) → int_min x y ≤ℤ y
     least_second x y = grind (arith, ints)
+
     greatest_second : (x y : ℤ) → y ≤ℤ int_max x y
     greatest_second x y = grind (arith, ints)
 
@@ -138,12 +127,16 @@ quotient_between s t u x y fits e p q ne = ⊎_elim
     side_of (pos zero) ne = absurd (ne refl)
     side_of (pos (suc n)) ne = inr (omega (arith, ints))
     side_of (negsuc n) ne = inl (omega (arith, ints))
+
     at_most_second : (x : ℤ) → int_min x (negsuc 0) ≤ℤ negsuc 0
     at_most_second x = grind (arith, ints)
+
     at_least_second : (x : ℤ) → pos 1 ≤ℤ int_max x (pos 1)
     at_least_second x = grind (arith, ints)
+
     both_least : (y x : ℤ) → y ≤ℤ x → y ≤ℤ negsuc 0 → y ≤ℤ int_min x (negsuc 0)
     both_least y x h k = grind (arith, ints)
+
     both_greatest : (y x : ℤ) → x ≤ℤ y → pos 1 ≤ℤ y → int_max x (pos 1) ≤ℤ y
     both_greatest y x h k = grind (arith, ints)
 

@@ -77,12 +77,15 @@ less_one_ends c d y p q = by_lt_z (pos 0) y
   where
     number_high : (h y : ℤ) → y ≤ℤ h → pos 0 <ℤ y → less_one y ≤ℤ less_one h
     number_high h y q above = grind (arith, ints)
+
     number_low : (l y : ℤ) → l ≤ℤ y → y ≤ℤ pos 0 → less_one y ≤ℤ less_one l
     number_low l y p below = grind (arith, ints)
+
     by_high : (d : Ext) → Above d y → pos 0 <ℤ y → AtMost (Fin (less_one y)) (size_less_one d)
     by_high Low q above = absurd q
     by_high (Fin h) q above = number_high h y q above
     by_high High q above = tt
+
     by_low : (c : Ext) → Below c y → y ≤ℤ pos 0 → AtMost (Fin (less_one y)) (size_less_one c)
     by_low Low p below = tt
     by_low (Fin l) p below = number_low l y p below
@@ -198,7 +201,7 @@ module _ (s t : Span) (m : ℤ) (fits : FitsSpan t) (most : m ≡ greatest_size 
       let high : d ≤ℤ t.hi = j in
       let k = int_max (pos 0) (int_max (less_one c) (less_one d)) in
       let sizes = max_least (pos 0) (int_max (less_one c) (less_one d)) m not_below
-        (max_least (less_one c) (less_one d) m (less_one_between t.lo t.hi c m low (omega (arith, ints)) most) (less_one_between t.lo t.hi d m (omega (arith, ints)) high most)) in
+      (max_least (less_one c) (less_one d) m (less_one_between t.lo t.hi c m low (omega (arith, ints)) most) (less_one_between t.lo t.hi d m (omega (arith, ints)) high most)) in
       let negated : low_end (neg_ℤ k) ≡ Fin (neg_ℤ k) = low_end-fits (neg_ℤ k) (negation_fits k m (greatest_size t) (max_first (pos 0) (int_max (less_one c) (less_one d))) sizes most (max_fits t.lo t.hi fits.low fits.high)) in (
         subst (λ (e : Ext). AtMost (Fin (ruled s m).lo) (greater e (Fin (int_min a (pos 0))))) (sym negated) (low_within s.lo a m k p sizes),
         high_within s.hi b m k q sizes,
@@ -254,17 +257,20 @@ remainder_within s t u x y fits p q ne e =
     let size = less_one_between t.lo t.hi y (greatest_size t -ℤ pos 1) q.0 q.1 refl in
     subst (λ (v : Span). IsBetween v.lo v.hi (int_rem x y)) rule.is (
       max_least (neg_ℤ (greatest_size t -ℤ pos 1)) (int_min s.lo (pos 0)) (int_rem x y)
-      (negated _ _ _ size rest.size_low) (lower s.lo x (int_rem x y) p.0 rest.low),
+          (negated _ _ _ size rest.size_low) (lower s.lo x (int_rem x y) p.0 rest.low),
       min_greatest (greatest_size t -ℤ pos 1) (int_max s.hi (pos 0)) (int_rem x y)
-      (omega (arith, ints, size, rest.size_high)) (upper s.hi x (int_rem x y) p.1 rest.high),
+          (omega (arith, ints, size, rest.size_high)) (upper s.hi x (int_rem x y) p.1 rest.high),
     )
   where
     negated : (k m n : ℤ) → k ≤ℤ m → neg_ℤ k ≤ℤ n → neg_ℤ m ≤ℤ n
     negated k m n h i = omega (arith, ints)
+
     lower : (l x n : ℤ) → l ≤ℤ x → int_min x (pos 0) ≤ℤ n → int_min l (pos 0) ≤ℤ n
     lower l x n h i = grind (arith, ints)
+
     upper : (l x n : ℤ) → x ≤ℤ l → n ≤ℤ int_max x (pos 0) → n ≤ℤ int_max l (pos 0)
     upper l x n h i = grind (arith, ints)
+
     min_greatest : (x y m : ℤ) → m ≤ℤ x → m ≤ℤ y → m ≤ℤ int_min x y
     min_greatest x y m h k = grind (arith, ints)
 

@@ -37,15 +37,6 @@ shifted_right-is (pos a) (pos k) m z f h e is = ap Some (ap pos (capped_by a k m
 shifted_right-is (negsuc a) (pos k) m z f h e is = ap Some (ap negsuc (capped_by a k m f.sfits e) ∙ sym is)
 shifted_right-is x (negsuc k) m z f h e is = absurd (omega (arith, ints))
 
--- a negative amount gives nothing
-pub no_shifted_right : (x amount n : ℤ) → amount <ℤ pos 0 → shifted_right x amount ≡ Some n → ⊥
-no_shifted_right x (pos k) n h e = omega (arith, ints)
-no_shifted_right x (negsuc k) n h e = cc
-
-pub no_shifted_left : (x amount n : ℤ) → amount <ℤ pos 0 → shifted_left x amount ≡ Some n → ⊥
-no_shifted_left x (pos k) n h e = omega (arith, ints)
-no_shifted_left x (negsuc k) n h e = cc
-
 -- ---- to the left, in two steps
 
 neg_times : (m b : ℕ) → neg_ℤ (pos m) *ℤ pos b ≡ neg_ℤ (pos (m * b))
@@ -69,7 +60,7 @@ power_twice k h i = sym (pow-add 2 h (k - h)) ∙ ap (λ m. 2 ^ m) (omega arith)
 pub second_step : (x p q partial : ℤ) (k h : ℕ) (r : Option ℤ) → h ≤ k → p ≡ pos (2 ^ h) → q ≡ pos (2 ^ (k - h)) → partial ≡ x *ℤ p → SomeIff r (FitsSigned w128 (partial *ℤ q)) (partial *ℤ q) → SomeIff r (FitsSigned w128 (x *ℤ pos (2 ^ k))) (x *ℤ pos (2 ^ k))
 second_step x p q partial k h r i e f is answer =
     let same : partial *ℤ q ≡ x *ℤ pos (2 ^ k) =
-      ap (λ m. m *ℤ q) is ∙ ap (λ m. (x *ℤ m) *ℤ q) e ∙ ap (λ m. (x *ℤ pos (2 ^ h)) *ℤ m) f ∙ times_twice x (2 ^ h) (2 ^ (k - h)) ∙ ap (λ m. x *ℤ pos m) (power_twice k h i) in
+    ap (λ m. m *ℤ q) is ∙ ap (λ m. (x *ℤ m) *ℤ q) e ∙ ap (λ m. (x *ℤ pos (2 ^ h)) *ℤ m) f ∙ times_twice x (2 ^ h) (2 ^ (k - h)) ∙ ap (λ m. x *ℤ pos m) (power_twice k h i) in
     subst (λ (z : ℤ). SomeIff r (FitsSigned w128 z) z) same answer
 
 -- a product by less fits where that by more does

@@ -176,6 +176,7 @@ less_other x y e = either (int_lt x y) (int_lt y x)
     apart_by : (b : Bool) → (b ≡ true → ⊥) → not b ≡ true
     apart_by true never = absurd (never refl)
     apart_by false never = refl
+
     apart : (x y : ℤ) → (x ≡ y → ⊥) → other x y ≡ true
     apart x y never = apart_by (int_eq x y) (λ e. never ((Decides-int_eq x y).0 e))
 
@@ -243,8 +244,7 @@ carries_test op test rule fails a b r hold fail value plain holding failing answ
       subst (λ (z : ℤ). IsPoint r z) (some_same _ _ (sym (value x y) ∙ e))
       (answer.low ∙ ap Fin same.0, answer.high ∙ ap Fin same.1);
   plain = λ s t u not_by_zero fits_s p fits_t q e g.
-      subst (λ (v : Span). IsWithin v r) (some_same _ _ (sym (plain s t) ∙ e))
-      (
+      subst (λ (v : Span). IsWithin v r) (some_same _ _ (sym (plain s t) ∙ e)) (
         subst (λ (v : Ext). AtMost (Fin (tests (rule s t) (fails s t)).lo) v) (sym answer.low) (truth_falls fail (fails s t) (failing.only s t p q)),
         subst (λ (v : Ext). AtMost v (Fin (tests (rule s t) (fails s t)).hi)) (sym answer.high) (truth_rises hold (rule s t) (holding.only s t p q)),
       );
@@ -292,13 +292,3 @@ carries_less a b r = carries_test Lt int_lt spans.may_be_less (λ s t. spans.may
 pub carries_at_most : (a b r : Interval) → IsTests (may_be_at_most a b) (may_be_less b a) r → Carries Le a b r
 carries_at_most a b r = carries_test Le int_le spans.may_be_at_most (λ s t. spans.may_be_less t s) a b r _ _ (λ x y. refl) (λ s t. refl) (tells_at_most a b)
     (tells_same (λ x y. int_lt y x) (opposite int_le) (λ s t. spans.may_be_less t s) a b (may_be_less b a) not_at_most (tells_turned int_lt spans.may_be_less b a (may_be_less b a) (tells_less b a)))
-
--- a negation compares with 0
-pub carries_not : (a zero_point r : Interval) → IsPoint zero_point (pos 0) → IsTests (may_equal a zero_point) (may_differ a zero_point) r → CarriesOne Not a r
-carries_not a zero_point r at_zero answer =
-    let carries = carries_equal a zero_point r answer in
-    record {
-      holds = λ x n p e. carries.holds x (pos 0) n p (has_number zero_point (pos 0) at_zero) e;
-      point = λ x n p e f. carries.point x (pos 0) n p at_zero e f;
-      plain = λ s u fits p e f. carries.plain s (point (pos 0)) u (λ (is : Eq ≡ Quot) at. cc) fits p (record { low = omega (arith, ints); high = omega (arith, ints) }) (point_within zero_point (pos 0) at_zero) e f;
-    }

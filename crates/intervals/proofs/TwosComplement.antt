@@ -86,12 +86,6 @@ minus n h = ap (to_z w128) (omega arith) ∙ to_z-neg w128 n h
 of_minus : (n : ℕ) → n < 2 ^ 127 → of_z w128 (negsuc n) ≡ bit_not w128 n
 of_minus n h = omega arith
 
-fits_plus : (n : ℕ) → FitsSigned w128 (pos n) → n < 2 ^ 127
-fits_plus n h = h.sfits
-
-fits_minus : (n : ℕ) → FitsSigned w128 (negsuc n) → n < 2 ^ 127
-fits_minus n h = h.sfits
-
 pub both-is : (x y : ℤ) → FitsSigned w128 x → FitsSigned w128 y → to_z w128 (bit_and (of_z w128 x) (of_z w128 y)) ≡ bits_of_both x y
 both-is (pos a) (pos b) f g = plus (bit_and a b) (and_lt 127 a b f.sfits g.sfits)
 both-is (pos a) (negsuc b) f g =

@@ -55,6 +55,7 @@ same_above (x ∷ xs) n m small e =
   where
     over : (x n m : ℤ) → m ≡ int_max n (neg_ℤ (pos (2 ^ 100))) → x <ℤ n → x <ℤ m
     over x n m e h = grind (arith, ints)
+
     under : (x n m : ℤ) → m ≡ int_max n (neg_ℤ (pos (2 ^ 100))) → n ≤ℤ x → neg_ℤ (pos (2 ^ 100)) ≤ℤ x → m ≤ℤ x
     under x n m e h k = grind (arith, ints)
 
@@ -124,6 +125,7 @@ step_falls xs (Fin k) (Fin n) not_low e = by_step (least xs n) refl
   where
     over : (k n : ℤ) → int_le n k ≡ false → k <ℤ n
     over k n e = grind (arith, ints)
+
     by_step : (o : Option ℤ) → least xs n ≡ o → weight_above xs (step_or High o) < steps_above xs k + 1
     by_step None is = omega arith
     by_step (Some s) is = let fewer = above-falls xs k n s is (over k n e) in omega arith
@@ -180,6 +182,7 @@ down_falls xs (Fin k) (Fin n) not_high e = by_step (greatest xs n) refl
   where
     under : (k n : ℤ) → int_le k n ≡ false → n <ℤ k
     under k n e = grind (arith, ints)
+
     by_step : (o : Option ℤ) → greatest xs n ≡ o → weight_below xs (step_or Low o) < steps_below xs k + 1
     by_step None is = omega arith
     by_step (Some s) is = let fewer = below-falls xs k n s is (under k n e) in omega arith

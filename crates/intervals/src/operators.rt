@@ -108,10 +108,7 @@ fn remainders(a: &Interval, b: &Interval) -> Interval
 fn most_remainder(b: &Interval) -> Ext
     ensures { result ≡ greatest_remainder b.now }
 {
-    max(
-        Ext::Fin(0),
-        max(one_below_size(b.lo), one_below_size(b.hi)),
-    )
+    max(Ext::Fin(0), max(one_below_size(b.lo), one_below_size(b.hi)))
 }
 
 // One less than the size of a number.

@@ -46,8 +46,8 @@ returns-in_default c =
     let a = c.args.a.now in
     let b = c.args.b.now in
     let others : (x y : ℤ) → IsPoint a x → IsPoint b y → ⊥ =
-      elim c.in_default.branch [
-        | in_default-via-in-Some+in_default w ↦ λ x y p q. w.in_default.ensures'.none y q
-        | in_default-via-in_default w ↦ λ x y p q. (rw w.in_default.is-0 at c.number.ensures.none) x p
-      ] in
+    elim c.in_default.branch [
+      | in_default-via-in-Some+in_default w ↦ λ x y p q. w.in_default.ensures'.none y q
+      | in_default-via-in_default w ↦ λ x y p q. (rw w.in_default.is-0 at c.number.ensures.none) x p
+    ] in
     carries_all c.args.op c.requires a b c.all_numbers-in_default.result c.all_numbers-in_default.ensures (λ x y n p q e fits. others x y p q)

@@ -29,11 +29,11 @@ returns-in_default c =
     let a = c.args.a.now in
     let b = c.args.b.now in
     let others : (x y : ℤ) → IsPoint a x → IsPoint b y → y ≢ pos 0 → ⊥ =
-      elim c.in_default.branch [
-        | in_default-via-in-Some-Some+else-y-ne0 w ↦ λ x y p q ne.
-            let f : FitsSigned w128 w.in-Some-Some.y = search rules in
-            ne (same_point b w.in-Some-Some.y y w.in-Some-Some.ensures'.some q ∙ is_zero w.in-Some-Some.y f w.if-y-ne0.false)
-        | in_default-via-in-Some+in_default w ↦ λ x y p q ne. w.in_default.ensures'.none y q
-        | in_default-via-in_default w ↦ λ x y p q ne. (rw w.in_default.is-0 at c.number.ensures.none) x p
-      ] in
+    elim c.in_default.branch [
+      | in_default-via-in-Some-Some+else-y-ne0 w ↦ λ x y p q ne.
+          let f : FitsSigned w128 w.in-Some-Some.y = search rules in
+          ne (same_point b w.in-Some-Some.y y w.in-Some-Some.ensures'.some q ∙ is_zero w.in-Some-Some.y f w.if-y-ne0.false)
+      | in_default-via-in-Some+in_default w ↦ λ x y p q ne. w.in_default.ensures'.none y q
+      | in_default-via-in_default w ↦ λ x y p q ne. (rw w.in_default.is-0 at c.number.ensures.none) x p
+    ] in
     carries_remainders a b c.remainders.result others c.remainders.ensures

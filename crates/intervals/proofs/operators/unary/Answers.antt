@@ -1,6 +1,4 @@
-use Rattle.intervals.proofs.Carried.{carries_negation, carries_no_one, IsNegation}
-use Rattle.intervals.proofs.Quotients.{carries_quotient}
-use Rattle.intervals.proofs.Tests.{carries_not}
+use Rattle.intervals.proofs.Carried.{carries_negation, IsNegation}
 use Rattle.intervals.proofs.operators.unary.Goals as goal
 
 pub returns-in-Neg : goal.returns-in-Neg
