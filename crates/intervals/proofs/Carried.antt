@@ -1,25 +1,18 @@
 -- What the operations on numbers carry over to intervals.
-use Rattle.std.proofs.Common.{◌≡◌, ◌≢◌, ℤ, pos, negsuc, zero, suc, ◌+ℤ◌, ◌-ℤ◌, ◌*ℤ◌, neg_ℤ, ◌≤ℤ◌, ◌⊎◌, inl, inr, ⊎_elim, Option, Some, None, arith, refl, sym, ◌∙◌, ap, subst, FitsSigned}
-use Rattle.std.specs.Prelude.{int_div, IsTrue}
-use Rattle.std.specs.Int.{int_min, int_max}
+use Rattle.std.proofs.Common.{◌≡◌, ℤ, ◌+ℤ◌, ◌-ℤ◌, ◌*ℤ◌, neg_ℤ, ◌≤ℤ◌, Some, arith, refl, sym, ◌∙◌, subst, FitsSigned}
 use Rattle.std.proofs.lemmas.Int.{ints}
 use mir.Syntax.{w128}
-use Rattle.ext_int.specs.declared.Ext.{Ext}
-use Rattle.ext_int.specs.declared.Ext.TheVariants.{Low, Fin, High}
-use Rattle.ext_int.specs.Ext.{Below, Above, AtMost, IsNumber, IsPositive, IsNegative, holds_number, product, quotient, low_end, high_end, least_of, greatest_of}
-use Rattle.ext_int.proofs.Ends.{AtMost_trans, AtMost-from_below, AtMost-from_above, le-from_int_le}
+use Rattle.ext_int.specs.declared.Ext.TheVariants.{Fin}
+use Rattle.ext_int.specs.Ext.{product}
 use Rattle.ext_int.proofs.Corners.{AnyEnd, corners_low, corners_high}
 use Rattle.ext_int.proofs.Products.{product_turns, product_turns_first}
-use Rattle.ext_int.proofs.Quotients.{quotient_corners_low, quotient_corners_high}
 use Rattle.num_api.specs.declared.expr.NOp.{NOp}
-use Rattle.num_api.specs.declared.expr.NOp.TheVariants.{Neg, Not, Add, Sub, Mul, Quot}
-use Rattle.num_api.specs.Ranges as ranges
-use Rattle.num_api.specs.Value.{unary_value, binary_value}
-use Rattle.num_api.specs.Spans.{Span, span, FitsSpan, IsNotByZero, unary_span, binary_span, corners, quotients, quotients_by, joined, below_zero, above_zero}
+use Rattle.num_api.specs.declared.expr.NOp.TheVariants.{Neg, Add, Sub, Mul}
+use Rattle.num_api.specs.Value.{binary_value}
+use Rattle.num_api.specs.Spans.{Span, span, binary_span, corners}
 use Rattle.intervals.specs.declared.Interval.{Interval}
-use Rattle.intervals.specs.Interval.{Admits, IsPoint, IsFinite, IsBetween, LiesBetween, IsWithin, ends_of, least_end, greatest_end}
+use Rattle.intervals.specs.Interval.{Admits, IsPoint, IsFinite, IsBetween, LiesBetween}
 use Rattle.intervals.specs.Operations.{CarriesOne, Carries}
-use Rattle.intervals.proofs.Arithmetic.{corners_between}
 use Rattle.intervals.proofs.Inside.{within_number, within_finite}
 
 some_same : {A : Type 0} (a b : A) → Some a ≡ Some b → a ≡ b

@@ -1,13 +1,10 @@
 -- The laws of value domains at intervals, said by ranges.
-use Rattle.std.proofs.Common.{◌≡◌, ℤ, Option, Some, None, sym, subst, FitsSigned}
+use Rattle.std.proofs.Common.{◌≡◌, Option, Some, None, sym, subst}
 use Rattle.std.specs.Prelude.{IsTrue, true, IfSome}
-use mir.Syntax.{w128}
 use Rattle.ext_int.specs.declared.Ext.{Ext}
-use Rattle.ext_int.specs.declared.Ext.TheVariants.{Fin}
 use Rattle.ext_int.specs.Ext.{AtMost, lesser, greater}
 use Rattle.ext_int.proofs.Ends.{AtMost_refl, greater_first, greater_second, lesser_first, lesser_second}
 use Rattle.num_api.specs.declared.expr.NOp.{NOp}
-use Rattle.num_api.specs.Ranges as ranges
 use Rattle.num_api.specs.Ranges.{NoWider, hull}
 use Rattle.num_api.specs.Spans.{Span, FitsSpan, IsNotByZero, range_of, unary_span, binary_span}
 use Rattle.intervals.specs.declared.Interval.{Interval}

@@ -1,10 +1,9 @@
 -- Intervals inside spans.
-use Rattle.std.proofs.Common.{◌≡◌, ◌≢◌, ℤ, pos, ◌≤ℤ◌, arith, refl, sym, subst}
-use Rattle.std.specs.Prelude.{IsTrue}
+use Rattle.std.proofs.Common.{◌≡◌, ℤ, ◌≤ℤ◌, arith, sym, subst}
 use Rattle.std.proofs.lemmas.Int.{ints}
 use Rattle.ext_int.specs.declared.Ext.{Ext}
 use Rattle.ext_int.specs.declared.Ext.TheVariants.{Low, Fin, High}
-use Rattle.ext_int.specs.Ext.{Below, Above, AtMost, IsNumber, holds_number}
+use Rattle.ext_int.specs.Ext.{Below, Above, AtMost, IsNumber}
 use Rattle.ext_int.proofs.Ends.{AtMost_trans, AtMost-from_below, AtMost-from_above, number_between}
 use Rattle.num_api.specs.Spans.{Span, point}
 use Rattle.intervals.specs.declared.Interval.{Interval}

@@ -1,5 +1,6 @@
 pub mod Arithmetic
 pub mod Carried
+pub mod Comparisons
 pub mod Domains
 pub mod Inside
 pub mod Parts
@@ -7,6 +8,5 @@ pub mod Points
 pub mod Quotients
 pub mod Remainders
 pub mod Shifts
-pub mod Tests
 pub mod TwosComplement
 pub mod Widenings

@@ -1,5 +1,5 @@
 -- What quotients carry over to intervals.
-use Rattle.std.proofs.Common.{◌≡◌, ◌≢◌, ℤ, pos, negsuc, zero, suc, ◌≤ℤ◌, ◌<ℤ◌, ◌⊎◌, inl, inr, ⊎_elim, Option, Some, None, arith, refl, sym, ◌∙◌, ap, subst, FitsSigned, true, false}
+use Rattle.std.proofs.Common.{◌≡◌, ◌≢◌, ℤ, pos, negsuc, zero, suc, ◌≤ℤ◌, ◌⊎◌, inl, inr, ⊎_elim, Option, Some, None, arith, refl, sym, ◌∙◌, ap, subst, FitsSigned, true, false}
 use Rattle.std.specs.Prelude.{Bool, int_div, IsTrue, if◌then◌else◌}
 use Rattle.std.specs.Int.{int_min, int_max}
 use Rattle.std.specs.Int.RustNames.{int_lt}
@@ -9,15 +9,14 @@ use Rattle.std.proofs.lemmas.Int.{ints}
 use mir.Syntax.{w128}
 use Rattle.ext_int.specs.declared.Ext.{Ext}
 use Rattle.ext_int.specs.declared.Ext.TheVariants.{Low, Fin, High}
-use Rattle.ext_int.specs.Ext.{Below, Above, AtMost, IsNumber, IsPositive, IsNegative, holds_number, low_end, high_end, least_of, greatest_of}
+use Rattle.ext_int.specs.Ext.{Below, Above, IsNumber, IsPositive, IsNegative, holds_number}
 use Rattle.ext_int.proofs.Ends.{AtMost_trans, AtMost-from_below, AtMost-from_above, le-from_int_le}
 use Rattle.ext_int.proofs.Quotients.{quotient_corners_low, quotient_corners_high}
 use Rattle.num_api.specs.declared.expr.NOp.TheVariants.{Quot}
 use Rattle.num_api.specs.Ranges as ranges
-use Rattle.num_api.specs.Value.{binary_value}
 use Rattle.num_api.specs.Spans.{Span, span, FitsSpan, corners, quotients, quotients_by, joined, below_zero, above_zero}
 use Rattle.intervals.specs.declared.Interval.{Interval}
-use Rattle.intervals.specs.Interval.{Admits, IsPoint, IsFinite, IsBetween, LiesBetween, IsWithin, ends_of, least_end, greatest_end}
+use Rattle.intervals.specs.Interval.{Admits, IsPoint, IsFinite, IsBetween, LiesBetween, least_end, greatest_end}
 use Rattle.intervals.specs.Operations.{Carries}
 use Rattle.intervals.proofs.Arithmetic.{corners_between}
 use Rattle.intervals.proofs.Inside.{within_number, within_finite}

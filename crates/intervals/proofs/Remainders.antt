@@ -1,5 +1,5 @@
 -- What remainders carry over to intervals.
-use Rattle.std.proofs.Common.{◌≡◌, ◌≢◌, ℕ, ℤ, pos, negsuc, zero, suc, ◌%◌, ◌^◌, ◌+◌, ◌<◌, ◌≤◌, ◌-ℤ◌, neg_ℤ, ◌≤ℤ◌, ◌<ℤ◌, Option, Some, None, arith, refl, sym, ◌∙◌, ap, subst, FitsSigned, true, false}
+use Rattle.std.proofs.Common.{◌≡◌, ◌≢◌, ℕ, ℤ, pos, negsuc, zero, suc, ◌%◌, ◌^◌, ◌<◌, ◌≤◌, ◌-ℤ◌, neg_ℤ, ◌≤ℤ◌, ◌<ℤ◌, Some, None, arith, refl, sym, ◌∙◌, ap, subst, FitsSigned, true, false}
 use Rattle.std.specs.Prelude.{int_rem, Bool, IsTrue, if◌then◌else◌}
 use Rattle.std.specs.Int.{int_min, int_max}
 use Rattle.std.specs.Int.RustNames.{int_lt}
@@ -16,7 +16,7 @@ use Rattle.intervals.specs.declared.Interval.{Interval}
 use Rattle.intervals.specs.Interval.{Admits, IsPoint, IsBetween, IsWithin, least_end, greatest_end}
 use Rattle.intervals.specs.Operations.{Carries, HoldsRemainders, size_less_one, greatest_remainder}
 use Rattle.intervals.proofs.Arithmetic.{on_numbers}
-use Rattle.intervals.proofs.Inside.{within_number, within_finite, same_point, only_number, has_number, point_within}
+use Rattle.intervals.proofs.Inside.{within_number, within_finite, same_point, only_number, has_number}
 use Rattle.intervals.proofs.Quotients.{by_not_zero}
 
 -- ---- one remainder

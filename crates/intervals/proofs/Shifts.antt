@@ -1,5 +1,5 @@
 -- Shifts of i128 numbers are those of whole numbers.
-use Rattle.std.proofs.Common.{◌≡◌, ℕ, ℤ, pos, negsuc, zero, suc, ◌+◌, ◌-◌, ◌*◌, ◌/◌, ◌%◌, ◌^◌, ◌<◌, ◌≤◌, ◌*ℤ◌, neg_ℤ, ◌≤ℤ◌, ◌<ℤ◌, ◌⊎◌, ⊎_elim, Option, Some, None, IfSome, IfNone, arith, refl, sym, ◌∙◌, ap, subst, to_z, FitsSigned}
+use Rattle.std.proofs.Common.{◌≡◌, ℕ, ℤ, pos, negsuc, zero, suc, ◌-◌, ◌*◌, ◌/◌, ◌%◌, ◌^◌, ◌<◌, ◌≤◌, ◌*ℤ◌, neg_ℤ, ◌≤ℤ◌, ⊎_elim, Option, Some, None, IfSome, IfNone, arith, refl, sym, ◌∙◌, ap, subst, to_z, FitsSigned}
 use Rattle.std.specs.Int.{int_min}
 use Rattle.std.specs.Option.{SomeIff}
 use Rattle.std.specs.Int.Signed.{shr_z}

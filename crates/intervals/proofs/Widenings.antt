@@ -1,24 +1,24 @@
 -- An end that is widened goes on to the next step, and its weight falls.
-use Rattle.std.proofs.Common.{◌≡◌, ℕ, ℤ, pos, neg_ℤ, ◌^◌, ◌+◌, ◌<◌, ◌≤◌, ◌≤ℤ◌, ◌<ℤ◌, List, [], ◌∷◌, Option, None, Some, All, cond, true, false, refl, sym, ◌∙◌, ap, subst, arith, FitsSigned}
+use Rattle.std.proofs.Common.{◌≡◌, ℤ, pos, neg_ℤ, ◌^◌, ◌+◌, ◌<◌, ◌≤◌, ◌≤ℤ◌, ◌<ℤ◌, List, [], ◌∷◌, Option, None, Some, All, cond, true, false, refl, sym, ◌∙◌, subst, arith, FitsSigned}
 use Rattle.std.specs.Prelude.{Bool, IsTrue, ◌&&◌}
 use Rattle.std.specs.Int.{int_min, int_max}
 use Rattle.std.specs.Int.RustNames.{int_le}
 use Rattle.std.proofs.lemmas.Int.{ints, by_lt_z}
 use Rattle.std.proofs.lemmas.List.Elements.{All-head, All-tail}
 use mir.Syntax.{w128}
-use Rattle.ramps.specs.Steps.{IsSmall, least, greatest, later, steps_above, steps_below}
+use Rattle.ramps.specs.Steps.{IsSmall, least, greatest, steps_above, steps_below}
 use Rattle.ramps.proofs.StepLemmas.{least-hit, least-miss}
 use Rattle.ramps.proofs.WeightLemmas.{least-ge, above-falls, greatest-le, below-falls}
 use Rattle.ext_int.specs.declared.Ext.{Ext}
 use Rattle.ext_int.specs.declared.Ext.TheVariants.{Low, Fin, High}
 use Rattle.ext_int.specs.Ext.{Below, Above, AtMost, holds_number}
 use Rattle.ext_int.proofs.Ends.{AtMost_trans, AtMost-from_below, AtMost-from_above, Below-from_at_most, Above-from_at_most, number_between}
-use Rattle.num_api.specs.Weight.{weight_above, weight_below, range_weight}
+use Rattle.num_api.specs.Weight.{weight_above, weight_below}
 use Rattle.intervals.specs.declared.Interval.{Interval}
-use Rattle.intervals.specs.Interval.{Admits, ends_of, least_end, greatest_end}
+use Rattle.intervals.specs.Interval.{Admits, least_end, greatest_end}
 use Rattle.intervals.specs.Order.{is_at_most, includes}
-use Rattle.intervals.specs.Widening.{step_or, step_above, step_below, raised, lowered, widened}
-use Rattle.intervals.proofs.Tests.{AtMost-true, at_most-true}
+use Rattle.intervals.specs.Widening.{step_or, step_above, step_below, raised, lowered}
+use Rattle.intervals.proofs.Comparisons.{AtMost-true}
 
 -- ---- numbers past all steps
 

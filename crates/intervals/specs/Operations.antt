@@ -6,7 +6,7 @@ use Rattle.ext_int.specs.declared.Ext.{Ext}
 use Rattle.ext_int.specs.declared.Ext.TheVariants.{Low, Fin, High}
 use Rattle.ext_int.specs.Ext.{greater}
 use Rattle.num_api.specs.declared.expr.NOp.{NOp}
-use Rattle.num_api.specs.declared.expr.NOp.TheVariants.{Neg, Not, Add, Sub, Mul, Quot, Rem, Shl, Shr, And, Or, Xor, Eq, Ne, Lt, Le}
+use Rattle.num_api.specs.declared.expr.NOp.TheVariants.{Shl, Shr, And, Or, Xor}
 use Rattle.num_api.specs.Value.{unary_value, binary_value, truth}
 use Rattle.num_api.specs.Spans.{Span, FitsSpan, IsNotByZero, unary_span, binary_span, remainders}
 use Rattle.intervals.specs.declared.Interval.{Interval}

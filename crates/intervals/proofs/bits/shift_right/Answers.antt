@@ -1,4 +1,4 @@
-use Rattle.std.proofs.Common.{◌≡◌, ℤ, ◌^◌, to_z, of_z, arith, ap, ◌∙◌, FitsSigned, rules}
+use Rattle.std.proofs.Common.{◌≡◌, ℤ, ◌^◌, to_z, of_z, arith, ap, ◌∙◌, FitsSigned}
 use Rattle.std.specs.Int.Signed.{shr_z, mag_shr}
 use Rattle.std.proofs.Math.IntN.{nat_abs}
 use Rattle.std.proofs.lemmas.Int.{ints, to_z-of_z}

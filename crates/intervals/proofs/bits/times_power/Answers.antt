@@ -1,5 +1,4 @@
-use Rattle.std.proofs.Common.{◌/◌, ◌≤◌, to_z, of_z, arith, ap, ◌∙◌, refl, rules, FitsSigned, subst, ℤ, ◌*ℤ◌, ◌*◌, ◌%◌, ◌^◌, ◌-◌, ◌≡◌}
-use Rattle.std.specs.Option.{SomeIff}
+use Rattle.std.proofs.Common.{◌/◌, ◌≤◌, arith, FitsSigned, ◌-◌}
 use Rattle.std.proofs.lemmas.Int.{to_z-of_z}
 use mir.Syntax.{w128}
 use Rattle.intervals.proofs.Shifts.{power_is, second_step, no_first_step}

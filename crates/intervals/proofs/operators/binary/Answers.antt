@@ -3,7 +3,7 @@ use Rattle.intervals.specs.Operations.{IsTests}
 use Rattle.intervals.specs.Order.{may_equal, may_differ, may_be_less, may_be_at_most}
 use Rattle.intervals.proofs.Carried.{IsTotal, carries_sum, carries_difference, carries_product}
 use Rattle.intervals.proofs.Quotients.{IsQuotientOf, carries_quotient}
-use Rattle.intervals.proofs.Tests.{carries_equal, carries_other, carries_less, carries_at_most}
+use Rattle.intervals.proofs.Comparisons.{carries_equal, carries_other, carries_less, carries_at_most}
 use Rattle.intervals.proofs.operators.binary.Goals as goal
 
 pub returns-in-Add : goal.returns-in-Add

@@ -1,4 +1,4 @@
-use Rattle.std.proofs.Common.{◌≡◌, ◌≢◌, ℤ, pos, negsuc, to_z, of_z, arith, rules, ap, sym, ◌∙◌, subst, FitsSigned, int_rem}
+use Rattle.std.proofs.Common.{◌≡◌, ◌≢◌, ℤ, pos, to_z, of_z, arith, rules, ap, ◌∙◌, subst, FitsSigned, int_rem}
 use Rattle.std.proofs.lemmas.Int.{ints, to_z-of_z}
 use mir.Syntax.{w128}
 use Rattle.intervals.specs.Interval.{IsPoint}

@@ -1,4 +1,4 @@
-use Rattle.std.proofs.Common.{◌≡◌, ap, ◌∙◌, sym, arith, rules, FitsSigned}
+use Rattle.std.proofs.Common.{ap, ◌∙◌, sym, arith, FitsSigned}
 use Rattle.std.proofs.lemmas.Int.{ints, to_z-of_z}
 use mir.Syntax.{w128}
 use Rattle.ext_int.specs.declared.Ext.TheVariants.{Fin, High}

@@ -1,24 +1,23 @@
 -- What comparisons carry over to intervals.
-use Rattle.std.proofs.Common.{◌≡◌, ℤ, pos, negsuc, zero, suc, ◌≤ℤ◌, ◌<ℤ◌, Some, arith, refl, sym, ◌∙◌, ap, subst, FitsSigned}
-use Rattle.std.specs.Prelude.{Bool, true, false, not, ◌&&◌, ◌||◌, IsTrue}
+use Rattle.std.proofs.Common.{◌≡◌, ℤ, pos, ◌≤ℤ◌, ◌<ℤ◌, Some, arith, refl, sym, ◌∙◌, ap, subst}
+use Rattle.std.specs.Prelude.{Bool, true, false, not, ◌&&◌, ◌||◌}
 use Rattle.std.specs.Int.RustNames.{int_le, int_lt}
 use Rattle.std.specs.Ordering.{int_eq}
 use Rattle.std.proofs.lemmas.Int.{ints, by_lt_z}
 use Rattle.std.proofs.lemmas.Bool.Decides.{Decides-int_eq}
-use mir.Syntax.{w128}
 use Rattle.ext_int.specs.declared.Ext.{Ext}
 use Rattle.ext_int.specs.declared.Ext.TheVariants.{Low, Fin, High}
 use Rattle.ext_int.specs.Ext.{Below, Above, AtMost}
 use Rattle.ext_int.proofs.Ends.{AtMost_trans, AtMost-from_below, AtMost-from_above}
 use Rattle.num_api.specs.declared.expr.NOp.{NOp}
-use Rattle.num_api.specs.declared.expr.NOp.TheVariants.{Not, Quot, Eq, Ne, Lt, Le}
-use Rattle.num_api.specs.Value.{unary_value, binary_value, truth}
+use Rattle.num_api.specs.declared.expr.NOp.TheVariants.{Eq, Ne, Lt, Le}
+use Rattle.num_api.specs.Value.{binary_value, truth}
 use Rattle.num_api.specs.Spans as spans
 use Rattle.num_api.specs.Spans.{Span, FitsSpan, point, tests, unary_span, binary_span}
 use Rattle.intervals.specs.declared.Interval.{Interval}
 use Rattle.intervals.specs.Interval.{Admits, IsPoint, IsWithin, least_end, greatest_end}
 use Rattle.intervals.specs.Order.{is_at_most, is_before, may_equal, may_differ, may_be_less, may_be_at_most}
-use Rattle.intervals.specs.Operations.{CarriesOne, Carries, IsTests}
+use Rattle.intervals.specs.Operations.{Carries, IsTests}
 use Rattle.intervals.proofs.Inside.{has_number, point_within}
 
 -- ---- tests of ends
