@@ -1,6 +1,7 @@
 pub mod Arithmetic
 pub mod Carried
 pub mod Comparisons
+pub mod Corners
 pub mod Domains
 pub mod Inside
 pub mod Parts

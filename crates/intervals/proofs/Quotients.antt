@@ -10,15 +10,14 @@ use mir.Syntax.{w128}
 use Rattle.ext_int.specs.declared.Ext.{Ext}
 use Rattle.ext_int.specs.declared.Ext.TheVariants.{Low, Fin, High}
 use Rattle.ext_int.specs.Ext.{Below, Above, IsNumber, IsPositive, IsNegative, holds_number}
-use Rattle.ext_int.proofs.Ends.{AtMost_trans, AtMost-from_below, AtMost-from_above, le-from_int_le}
-use Rattle.ext_int.proofs.Quotients.{quotient_corners_low, quotient_corners_high}
+use Rattle.ext_int.proofs.Ends.{le-from_int_le}
+use Rattle.ext_int.proofs.Quotients.{ends_low, ends_high}
 use Rattle.num_api.specs.declared.expr.NOp.TheVariants.{Quot}
 use Rattle.num_api.specs.Ranges as ranges
-use Rattle.num_api.specs.Spans.{Span, span, FitsSpan, corners, quotients, quotients_by, joined, below_zero, above_zero}
+use Rattle.num_api.specs.Spans.{Span, span, corners, quotients, quotients_by, joined, below_zero, above_zero}
 use Rattle.intervals.specs.declared.Interval.{Interval}
 use Rattle.intervals.specs.Interval.{Admits, IsPoint, IsFinite, IsBetween, LiesBetween, least_end, greatest_end}
 use Rattle.intervals.specs.Operations.{Carries}
-use Rattle.intervals.proofs.Arithmetic.{corners_between}
 use Rattle.intervals.proofs.Inside.{within_number, within_finite}
 
 -- ---- the value of a quotient
@@ -34,12 +33,6 @@ by_not_zero v n y e =
     (λ same. let test = (Decides-int_eq y (pos 0)).1 same in cc (test, value.0), value.1)
 
 -- ---- the corners of a part of the divisors
-
-four_above : (l p q r s : ℤ) → l ≤ℤ int_min (int_min p q) (int_min r s) → (l ≤ℤ p) × (l ≤ℤ q) × (l ≤ℤ r) × (l ≤ℤ s)
-four_above l p q r s h = (grind (arith, ints), grind (arith, ints), grind (arith, ints), grind (arith, ints))
-
-four_below : (h p q r s : ℤ) → int_max (int_max p q) (int_max r s) ≤ℤ h → (p ≤ℤ h) × (q ≤ℤ h) × (r ≤ℤ h) × (s ≤ℤ h)
-four_below h p q r s k = (grind (arith, ints), grind (arith, ints), grind (arith, ints), grind (arith, ints))
 
 positive_end : (c : ℤ) → pos 1 ≤ℤ c → IsPositive (Fin c)
 positive_end (pos zero) h = absurd (omega (arith, ints))
@@ -60,21 +53,15 @@ one_side_ends t one_side = ⊎_elim
     (λ (h : t.hi ≤ℤ negsuc 0). inr (negative_end t.hi h))
     one_side
 
--- where the corners lie between two i128 numbers, so do the quotients
-part_between : (l h : ℤ) → FitsSigned w128 l → FitsSigned w128 h → (s t : Span) (x y : ℤ) → IsOnOneSide t → IsBetween s.lo s.hi x → IsBetween t.lo t.hi y → l ≤ℤ (corners int_div s t).lo → (corners int_div s t).hi ≤ℤ h → IsBetween l h (int_div x y)
-part_between l h f g s t x y one_side p q low high =
-    let a = int_div s.lo t.lo in
-    let b = int_div s.lo t.hi in
-    let c = int_div s.hi t.lo in
-    let d = int_div s.hi t.hi in
-    let lows = four_above l a b c d low in
-    let highs = four_below h a b c d high in
-    let ends = corners_between l h f g a b c d (lows.0, highs.0) (lows.1, highs.1) (lows.2, highs.2) (lows.3, highs.3) in
-    let at_low = quotient_corners_low (Fin s.lo) (Fin s.hi) (Fin t.lo) (Fin t.hi) x y p.0 p.1 q.0 q.1 (one_side_ends t one_side) in
-    let at_high = quotient_corners_high (Fin s.lo) (Fin s.hi) (Fin t.lo) (Fin t.hi) x y p.0 p.1 q.0 q.1 (one_side_ends t one_side) in (
-      AtMost_trans (Fin l) _ (Fin (int_div x y)) ends.0 (AtMost-from_below _ (int_div x y) at_low),
-      AtMost_trans (Fin (int_div x y)) _ (Fin h) (AtMost-from_above _ (int_div x y) at_high) ends.1,
-    )
+-- the quotients lie between the corners
+part_between : (s t : Span) (x y : ℤ) → IsOnOneSide t → IsBetween s.lo s.hi x → IsBetween t.lo t.hi y → IsBetween (corners int_div s t).lo (corners int_div s t).hi (int_div x y)
+part_between s t x y one_side p q = (
+  ends_low (Fin s.lo) (Fin s.hi) (Fin t.lo) (Fin t.hi) (Fin x) (Fin y) p.0 p.1 q.0 q.1 (one_side_ends t one_side),
+  ends_high (Fin s.lo) (Fin s.hi) (Fin t.lo) (Fin t.hi) (Fin x) (Fin y) p.0 p.1 q.0 q.1 (one_side_ends t one_side),
+)
+
+between_others : (l h p q n : ℤ) → IsBetween p q n → l ≤ℤ p → q ≤ℤ h → IsBetween l h n
+between_others l h p q n between low high = let first : p ≤ℤ n = between.0 in let second : n ≤ℤ q = between.1 in (omega (arith, ints), omega (arith, ints))
 
 -- ---- both parts
 
@@ -108,18 +95,18 @@ part_below t h = let test : int_lt t.lo (pos 0) ≡ true = grind (arith, ints) i
 part_above : (t : Span) → pos 1 ≤ℤ t.hi → above_zero t ≡ Some (span (int_max t.lo (pos 1)) t.hi)
 part_above t h = let test : int_lt (pos 0) t.hi ≡ true = grind (arith, ints) in rw test refl
 
-quotient_between : (s t u : Span) (x y : ℤ) → FitsSpan u → quotients s t ≡ Some u → IsBetween s.lo s.hi x → IsBetween t.lo t.hi y → y ≢ pos 0 → IsBetween u.lo u.hi (int_div x y)
-quotient_between s t u x y fits e p q ne = ⊎_elim
+quotient_between : (s t u : Span) (x y : ℤ) → quotients s t ≡ Some u → IsBetween s.lo s.hi x → IsBetween t.lo t.hi y → y ≢ pos 0 → IsBetween u.lo u.hi (int_div x y)
+quotient_between s t u x y e p q ne = ⊎_elim
     (λ (h : y ≤ℤ negsuc 0).
     let part = span t.lo (int_min t.hi (negsuc 0)) in
     let there : below_zero t ≡ Some part = part_below t (omega (arith, ints, q.0, h)) in
     let ends = joined_first (corners int_div s part) u (quotients_by s (above_zero t)) (ap (λ o. joined (quotients_by s o) (quotients_by s (above_zero t))) (sym there) ∙ e) in
-    part_between u.lo u.hi fits.low fits.high s part x y (inr (at_most_second t.hi)) p (q.0, both_least y t.hi q.1 h) ends.0 ends.1)
+    between_others u.lo u.hi _ _ (int_div x y) (part_between s part x y (inr (at_most_second t.hi)) p (q.0, both_least y t.hi q.1 h)) ends.0 ends.1)
     (λ (h : pos 1 ≤ℤ y).
     let part = span (int_max t.lo (pos 1)) t.hi in
     let there : above_zero t ≡ Some part = part_above t (omega (arith, ints, q.1, h)) in
     let ends = joined_second (corners int_div s part) u (quotients_by s (below_zero t)) (ap (λ o. joined (quotients_by s (below_zero t)) (quotients_by s o)) (sym there) ∙ e) in
-    part_between u.lo u.hi fits.low fits.high s part x y (inl (at_least_second t.lo)) p (both_greatest y t.lo q.0 h, q.1) ends.0 ends.1)
+    between_others u.lo u.hi _ _ (int_div x y) (part_between s part x y (inl (at_least_second t.lo)) p (both_greatest y t.lo q.0 h, q.1)) ends.0 ends.1)
     (side_of y ne)
   where
     side_of : (y : ℤ) → y ≢ pos 0 → (y ≤ℤ negsuc 0) ⊎ (pos 1 ≤ℤ y)
@@ -176,5 +163,5 @@ carries_quotient a b r quotient = record {
       let finite_b = within_finite t b q in
       let d = other_divisor (least_end b) (greatest_end b) finite_b.0 finite_b.1 b.holds (not_by_zero refl) in
       quotient.least u.lo u.hi d.0 g.low g.high finite_a finite_b (d.1, d.2) d.3
-      (λ x y i j ne. quotient_between s t u x y g e (within_number s a x p i) (within_number t b y q j) ne);
+      (λ x y i j ne. quotient_between s t u x y e (within_number s a x p i) (within_number t b y q j) ne);
 }

@@ -247,14 +247,14 @@ mod tests {
                 (Fin(-1), Fin(-1)),
                 (Low, High),
                 (Fin(i128::MIN + 1), Fin(i128::MIN + 1)),
-                (Low, High),
+                (MAX, High),
             ),
             (
                 (Fin(-1), Fin(-1)),
                 (MIN, MIN),
                 (Low, High),
                 (MAX, MAX),
-                (Low, High),
+                (MAX, High),
             ),
         ];
         for (a, b, sums, differences, products) in rows {
@@ -276,7 +276,7 @@ mod tests {
             ((Fin(-9), Fin(20)), (Fin(-4), Fin(-2)), (Fin(-10), Fin(4))),
             ((Low, Fin(5)), (Fin(2), Fin(3)), (Low, Fin(2))),
             ((Fin(-8), Fin(5)), (Fin(2), High), (Fin(-4), Fin(2))),
-            ((MIN, MIN), (Fin(-1), Fin(-1)), (Low, High)),
+            ((MIN, MIN), (Fin(-1), Fin(-1)), (MAX, High)),
             ((MIN, MAX), (Fin(1), Fin(1)), (MIN, MAX)),
         ];
         for (a, b, quotients) in rows {
