@@ -15,7 +15,7 @@ use Rattle.intervals.specs.Interval.{Admits, IsPoint, IsFinite, IsBetween, LiesB
 use Rattle.intervals.specs.Operations.{CarriesOne, Carries}
 use Rattle.intervals.proofs.Inside.{within_number, within_finite}
 
-some_same : {A : Type 0} (a b : A) → Some a ≡ Some b → a ≡ b
+pub some_same : {A : Type 0} (a b : A) → Some a ≡ Some b → a ≡ b
 some_same a b e = cc
 
 -- ---- sums, differences and products

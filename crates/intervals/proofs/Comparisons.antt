@@ -18,6 +18,7 @@ use Rattle.intervals.specs.declared.Interval.{Interval}
 use Rattle.intervals.specs.Interval.{Admits, IsPoint, IsWithin, least_end, greatest_end}
 use Rattle.intervals.specs.Order.{is_at_most, is_before, may_equal, may_differ, may_be_less, may_be_at_most}
 use Rattle.intervals.specs.Operations.{Carries, IsTests}
+use Rattle.intervals.proofs.Carried.{some_same}
 use Rattle.intervals.proofs.Inside.{has_number, point_within}
 
 -- ---- tests of ends
@@ -228,9 +229,6 @@ truth_falls : (p q : Bool) → (p ≡ true → q ≡ true) → truth (not q) ≤
 truth_falls true q f = let e = f refl in rw e (omega (arith, ints))
 truth_falls false true f = omega (arith, ints)
 truth_falls false false f = omega (arith, ints)
-
-some_same : {A : Type 0} (a b : A) → Some a ≡ Some b → a ≡ b
-some_same a b e = cc
 
 carries_test : (op : NOp) (test : ℤ → ℤ → Bool) (rule fails : Span → Span → Bool) (a b r : Interval) (hold fail : Bool) → ((x y : ℤ) → binary_value op x y ≡ Some (truth (test x y))) → ((s t : Span) → binary_span op s t ≡ Some (tests (rule s t) (fails s t))) → Tells test rule a b hold → Tells (opposite test) fails a b fail → IsTests hold fail r → Carries op a b r
 carries_test op test rule fails a b r hold fail value plain holding failing answer = record {

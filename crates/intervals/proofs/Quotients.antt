@@ -18,6 +18,7 @@ use Rattle.num_api.specs.Spans.{Span, span, corners, quotients, quotients_by, jo
 use Rattle.intervals.specs.declared.Interval.{Interval}
 use Rattle.intervals.specs.Interval.{Admits, IsPoint, IsFinite, IsBetween, LiesBetween, least_end, greatest_end}
 use Rattle.intervals.specs.Operations.{Carries}
+use Rattle.intervals.proofs.Parts.{by_side}
 use Rattle.intervals.proofs.Inside.{within_number, within_finite}
 
 -- ---- the value of a quotient
@@ -107,13 +108,8 @@ quotient_between s t u x y e p q ne = ⊎_elim
     let there : above_zero t ≡ Some part = part_above t (omega (arith, ints, q.1, h)) in
     let ends = joined_second (corners int_div s part) u (quotients_by s (below_zero t)) (ap (λ o. joined (quotients_by s (below_zero t)) (quotients_by s o)) (sym there) ∙ e) in
     between_others u.lo u.hi _ _ (int_div x y) (part_between s part x y (inl (at_least_second t.lo)) p (both_greatest y t.lo q.0 h, q.1)) ends.0 ends.1)
-    (side_of y ne)
+    (by_side y ne)
   where
-    side_of : (y : ℤ) → y ≢ pos 0 → (y ≤ℤ negsuc 0) ⊎ (pos 1 ≤ℤ y)
-    side_of (pos zero) ne = absurd (ne refl)
-    side_of (pos (suc n)) ne = inr (omega (arith, ints))
-    side_of (negsuc n) ne = inl (omega (arith, ints))
-
     at_most_second : (x : ℤ) → int_min x (negsuc 0) ≤ℤ negsuc 0
     at_most_second x = grind (arith, ints)
 

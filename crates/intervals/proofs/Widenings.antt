@@ -12,7 +12,7 @@ use Rattle.ramps.proofs.WeightLemmas.{least-ge, above-falls, greatest-le, below-
 use Rattle.ext_int.specs.declared.Ext.{Ext}
 use Rattle.ext_int.specs.declared.Ext.TheVariants.{Low, Fin, High}
 use Rattle.ext_int.specs.Ext.{Below, Above, AtMost, holds_number}
-use Rattle.ext_int.proofs.Ends.{AtMost_trans, AtMost-from_below, AtMost-from_above, Below-from_at_most, Above-from_at_most, number_between}
+use Rattle.ext_int.proofs.Ends.{AtMost_refl, AtMost_trans, AtMost-from_below, AtMost-from_above, Below-from_at_most, Above-from_at_most, number_between}
 use Rattle.num_api.specs.Weight.{weight_above, weight_below}
 use Rattle.intervals.specs.declared.Interval.{Interval}
 use Rattle.intervals.specs.Interval.{Admits, least_end, greatest_end}
@@ -106,13 +106,8 @@ by_raised P xs old next stays goes = go (is_at_most next old) refl
 
 pub raised-old : (xs : List ℤ) (old next : Ext) → AtMost old (raised xs old next)
 raised-old xs old next = by_raised (AtMost old) xs old next
-    (λ e. refl_at old)
+    (λ e. AtMost_refl old)
     (λ e. AtMost_trans old next (step_above xs next) (not_at_most next old e) (next_up xs next))
-  where
-    refl_at : (e : Ext) → AtMost e e
-    refl_at Low = tt
-    refl_at (Fin x) = omega (arith, ints)
-    refl_at High = tt
 
 pub raised-next : (xs : List ℤ) (old next : Ext) → AtMost next (raised xs old next)
 raised-next xs old next = by_raised (AtMost next) xs old next (λ e. AtMost-true next old e) (λ e. next_up xs next)
@@ -164,13 +159,8 @@ by_lowered P xs old next stays goes = go (is_at_most old next) refl
 
 pub lowered-old : (xs : List ℤ) (old next : Ext) → AtMost (lowered xs old next) old
 lowered-old xs old next = by_lowered (λ e. AtMost e old) xs old next
-    (λ e. refl_at old)
+    (λ e. AtMost_refl old)
     (λ e. AtMost_trans (step_below xs next) next old (next_down xs next) (not_at_most old next e))
-  where
-    refl_at : (e : Ext) → AtMost e e
-    refl_at Low = tt
-    refl_at (Fin x) = omega (arith, ints)
-    refl_at High = tt
 
 pub lowered-next : (xs : List ℤ) (old next : Ext) → AtMost (lowered xs old next) next
 lowered-next xs old next = by_lowered (λ e. AtMost e next) xs old next (λ e. AtMost-true old next e) (λ e. next_down xs next)

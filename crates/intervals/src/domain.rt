@@ -71,6 +71,8 @@ impl ValueDomain for Interval {
         self.hull(*other)
     }
 
+    // A lower end that moves goes to the next step below, an upper end to the next step above; past the
+    // last step it is infinite.
     fn widen<U: Fn(i128) -> Option<i128>, S: Steps>(&self, next: &Self, ramp: &Ramp<U>) -> Self
         requires { Keeps U.pre U.post ramp.now S.list }
         ensures left { (n : ℤ) → Admits self.now n → Admits result n }

@@ -1,7 +1,6 @@
 //! What each operator makes of intervals.
 
-ghost use Rattle.std.specs.Prelude.{◌≡◌, ◌≢◌, ℤ, pos, int_rem, ◌||◌, IsTrue, IfSome, IfNone};
-ghost use Rattle.num_api.specs.declared.expr.NOp.TheVariants.{Rem};
+ghost use Rattle.std.specs.Prelude.{◌≡◌, ℤ, ◌||◌, IsTrue, IfSome, IfNone};
 ghost use Rattle.intervals.specs.Interval.{Admits, IsPoint};
 ghost use Rattle.intervals.specs.Order.{is_at_most, is_before, may_equal, may_differ, may_be_less, may_be_at_most};
 ghost use Rattle.intervals.specs.Operations.{CarriesOne, Carries, IsBitwise, IsTests, HoldsRemainders, size_less_one, greatest_remainder};

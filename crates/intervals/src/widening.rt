@@ -1,7 +1,6 @@
 //! Where ends go when an interval is widened.
 
 ghost use Rattle.std.specs.Prelude.{◌≡◌};
-ghost use Rattle.ext_int.specs.declared.Ext.TheVariants.{Low, Fin, High};
 ghost use Rattle.ramps.specs.Told.{Keeps};
 ghost use Rattle.ramps.specs.Steps.{least, greatest};
 ghost use Rattle.intervals.specs.Widening.{step_or, raised, lowered};
