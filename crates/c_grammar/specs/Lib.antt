@@ -1,0 +1,13 @@
+pub mod Parts
+pub mod Classes
+pub mod Process
+pub mod Made
+pub mod Ahead
+pub mod ExprRules
+pub mod TypeRules
+pub mod FileRules
+pub mod Grammar
+pub mod Front
+pub mod Refused
+pub mod Choice
+pub mod Descent
