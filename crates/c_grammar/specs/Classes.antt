@@ -1,5 +1,5 @@
 -- What tokens stand at a place of a production, and how its operators and words are written.
-use Rattle.std.specs.Prelude.{◌≡◌, ℕ, ◌-◌, ℤ, pos, negsuc, Bool, true, false, List, []}
+use Rattle.std.specs.Prelude.{◌≡◌, ℕ, ◌-◌, ◌%◌, ℤ, pos, negsuc, Bool, true, false, List, []}
 use Rattle.std.specs.List.{list_any}
 use Rattle.std.specs.Str.{bytes_eq}
 use Rattle.c_syntax.specs.declared.operator.StepWay.{StepWay}
@@ -93,10 +93,10 @@ abbrev pub constant_of : Token → Constant
 constant_of (kinds.Number c) = c
 constant_of _ = record { value = 0; decimal = false; unsigned = false; longs = 0 }
 
--- a char's value as a byte
+-- the lowest byte of a number, in two's complement
 abbrev pub low_byte : ℤ → ℕ
-low_byte (pos n) = n
-low_byte (negsuc n) = 255 - n
+low_byte (pos n) = n % 256
+low_byte (negsuc n) = 255 - n % 256
 
 -- the byte of a character constant
 abbrev pub byte_of : Token → ℕ
