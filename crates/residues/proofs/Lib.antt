@@ -1,0 +1,4 @@
+pub mod Moves
+pub mod Rings
+pub mod Multiples
+pub mod Remainders

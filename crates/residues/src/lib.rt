@@ -1,0 +1,4 @@
+//! Congruence classes of whole numbers, and pairs of two value domains.
+#![tactic(auto)]
+
+mod numbers;
