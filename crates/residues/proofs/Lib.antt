@@ -2,3 +2,5 @@ pub mod Moves
 pub mod Rings
 pub mod Multiples
 pub mod Remainders
+pub mod Members
+pub mod Steps

@@ -1,11 +1,22 @@
--- Numbers that are the same up to a multiple of a modulus, and common divisors.
-use Rattle.std.specs.Prelude.{ℤ, pos, ◌≡◌, ◌+ℤ◌, ◌*ℤ◌, ◌≤ℤ◌}
-use Rattle.num_api.specs.Residues.{InResidue, IsMultiple}
+-- Classes of numbers that are the same up to a multiple of a modulus, and common divisors.
+use Rattle.std.specs.Prelude.{ℤ, pos, ◌≡◌, ◌+ℤ◌, ◌*ℤ◌, ◌≤ℤ◌, ◌^◌}
+use Rattle.num_api.specs.Residues.{InResidue, IsMultiple, IsFoldResidue}
+use Rattle.num_api.specs.Fold.{IsAlignment}
 use Rattle.num_api.specs.declared.message.Residue.{Residue}
 
--- the class of the numbers that are `rem` up to a multiple of `modulus`
+-- the numbers that are `rem` up to a multiple of `modulus`
 abbrev pub class_of : ℤ → ℤ → Residue
 class_of rem modulus = record { rem = rem; modulus = modulus }
+
+-- the class has this modulus, and this number is in it
+pub record IsClassOf (rem modulus : ℤ) (r : Residue) : Type 0 where
+  pub modulus_is : r.modulus ≡ modulus
+  pub contains : InResidue r rem
+
+-- every number of the first class is in the second: the moduli divide, and a number is
+pub record LiesIn (r s : Residue) : Type 0 where
+  pub divides : IsMultiple s.modulus r.modulus
+  pub contains : InResidue s r.rem
 
 -- a divisor of both numbers that is a multiple of the one and one of the other, added: the greatest common divisor
 pub record IsGreatestDivisor (a b g : ℤ) : Type 0 where
@@ -13,3 +24,17 @@ pub record IsGreatestDivisor (a b g : ℤ) : Type 0 where
   pub first : IsMultiple g a
   pub second : IsMultiple g b
   pub combined : (x : ℤ) × (y : ℤ) × (g ≡ (x *ℤ a) +ℤ (y *ℤ b))
+
+-- a divisor of both numbers that may be the modulus of a class, and that each alignment divides which divides both
+pub record IsCommonStep (m n g : ℤ) : Type 0 where
+  pub not_negative : pos 0 ≤ℤ g
+  pub bounded : g ≤ℤ pos (2 ^ 100)
+  pub first : IsMultiple g m
+  pub second : IsMultiple g n
+  pub folds : (c : ℤ) → IsAlignment c → IsMultiple c m → IsMultiple c n → IsMultiple c g
+
+-- the class of this number by a step that divides both moduli
+pub record IsByCommonStep (m n z : ℤ) (r : Residue) : Type 0 where
+  pub step : ℤ
+  pub common : IsCommonStep m n step
+  pub is : IsClassOf z step r

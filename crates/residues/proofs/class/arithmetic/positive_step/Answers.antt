@@ -1,0 +1,21 @@
+use Rattle.std.proofs.Common.{◌≡◌, ℤ, pos, ◌+ℤ◌, ◌-ℤ◌, ◌≤ℤ◌, ◌<ℤ◌, ◌^◌, arith, sym, subst, FitsSigned, to_z, of_z, rules}
+use Rattle.std.proofs.lemmas.Int.{ints, to_z-of_z}
+use mir.Syntax.{w128}
+use Rattle.num_api.specs.declared.message.Residue.{Residue}
+use Rattle.num_api.specs.Residues.{InResidue, IsMultiple, IsFoldResidue}
+use Rattle.residues.specs.Class.{residue_of}
+use Rattle.residues.specs.Classes.{class_of, IsClassOf, IsGreatestDivisor, IsCommonStep, IsByCommonStep}
+use Rattle.residues.proofs.Moves.{moved, unmoved}
+use Rattle.residues.proofs.Multiples.{multiple_along, zero_multiple, self_multiple}
+use Rattle.residues.proofs.Steps.{fold_greatest, class_of_sum, class_of_difference, common_from_greatest, common_wider}
+use Rattle.residues.proofs.class.arithmetic.positive_step.Goals as goal
+
+pub returns-then-step-eq0-clause-divides : goal.returns-then-step-eq0-clause-divides
+returns-then-step-eq0-clause-divides c =
+    let e : pos 0 ≡ c.args.step = omega (arith, ints) in multiple_along (pos (2 ^ 100)) (pos 0) c.args.step e (zero_multiple (pos (2 ^ 100)))
+
+pub returns-then-step-eq0-clause-folds : goal.returns-then-step-eq0-clause-folds
+returns-then-step-eq0-clause-folds c = λ d a h. fold_greatest d a
+
+pub returns-clause-divides : goal.returns-clause-divides
+returns-clause-divides c = moved (λ (t : ℤ). IsMultiple t c.args.step) c.args.step c.ranges.step (self_multiple c.args.step)
