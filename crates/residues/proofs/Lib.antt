@@ -4,3 +4,4 @@ pub mod Multiples
 pub mod Remainders
 pub mod Members
 pub mod Steps
+pub mod Products

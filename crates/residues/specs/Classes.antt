@@ -38,3 +38,9 @@ pub record IsByCommonStep (m n z : ℤ) (r : Residue) : Type 0 where
   pub step : ℤ
   pub common : IsCommonStep m n step
   pub is : IsClassOf z step r
+
+-- the class of a product of two numbers, of which f divides all numbers of the first class and g all of the second
+pub record IsProductBy (a b : Residue) (f g : ℤ) (r : Residue) : Type 0 where
+  pub step : ℤ
+  pub divisor : IsGreatestDivisor (a.modulus *ℤ g) (f *ℤ b.modulus) step
+  pub is : IsClassOf (a.rem *ℤ b.rem) step r

@@ -4,6 +4,7 @@ ghost use Rattle.std.specs.Prelude.{◌≡◌, ℤ, pos, ◌^◌, ◌≤ℤ◌, 
 ghost use Rattle.num_api.specs.Residues.{IsResidue};
 
 mod arithmetic;
+mod products;
 
 use crate::numbers::remainder;
 use num_api::Residue;
