@@ -5,3 +5,4 @@ pub mod Remainders
 pub mod Members
 pub mod Steps
 pub mod Products
+pub mod Lattice

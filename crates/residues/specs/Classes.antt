@@ -1,5 +1,5 @@
 -- Classes of numbers that are the same up to a multiple of a modulus, and common divisors.
-use Rattle.std.specs.Prelude.{ℤ, pos, ◌≡◌, ◌+ℤ◌, ◌*ℤ◌, ◌≤ℤ◌, ◌^◌}
+use Rattle.std.specs.Prelude.{ℤ, pos, ◌≡◌, ◌+ℤ◌, ◌-ℤ◌, ◌*ℤ◌, ◌≤ℤ◌, ◌^◌}
 use Rattle.num_api.specs.Residues.{InResidue, IsMultiple, IsFoldResidue}
 use Rattle.num_api.specs.Fold.{IsAlignment}
 use Rattle.num_api.specs.declared.message.Residue.{Residue}
@@ -44,3 +44,9 @@ pub record IsProductBy (a b : Residue) (f g : ℤ) (r : Residue) : Type 0 where
   pub step : ℤ
   pub divisor : IsGreatestDivisor (a.modulus *ℤ g) (f *ℤ b.modulus) step
   pub is : IsClassOf (a.rem *ℤ b.rem) step r
+
+-- what divides the step divides this number exactly where it divides the difference
+pub record IsGap (x y step g : ℤ) : Type 0 where
+  pub not_negative : pos 0 ≤ℤ g
+  pub forth : (d : ℤ) → IsMultiple d step → IsMultiple d (x -ℤ y) → IsMultiple d g
+  pub back : (d : ℤ) → IsMultiple d step → IsMultiple d g → IsMultiple d (x -ℤ y)

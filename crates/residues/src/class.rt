@@ -4,10 +4,19 @@ ghost use Rattle.std.specs.Prelude.{◌≡◌, ℤ, pos, ◌^◌, ◌≤ℤ◌, 
 ghost use Rattle.num_api.specs.Residues.{IsResidue};
 
 mod arithmetic;
+mod lattice;
+mod meeting;
+mod operators;
 mod products;
+mod ranges;
 
 use crate::numbers::remainder;
-use num_api::Residue;
+use lattice::{holds_all, joined};
+use meeting::met;
+use num_api::{NOp, Range, Residue, ValueDomain};
+use operators::{binary, unary};
+use ramps::{Ramp, Steps};
+use ranges::{range, within};
 
 /// A congruence class: the whole numbers that are one remainder up to a multiple of a modulus. A
 /// modulus of 0 leaves one number; one of 1 or more is at most 2^100.
@@ -62,5 +71,64 @@ impl Class {
                 modulus,
             },
         }
+    }
+}
+
+impl ValueDomain for Class {
+    ghost use Rattle.residues.specs.Class.{residue_of, range_of_class, holds_class, class_weight};
+    ghost use Rattle.num_api.specs.Residues.{InResidue};
+
+    ghost admits = { λ c n. InResidue (residue_of c) n };
+
+    ghost known = { λ c. range_of_class (residue_of c) };
+
+    ghost class = { residue_of };
+
+    ghost holds = { λ c d. holds_class (residue_of c) (residue_of d) };
+
+    ghost weight = { λ steps c. class_weight (residue_of c) };
+
+    ghost exact = { false };
+
+    ghost folds = { true };
+
+    fn top() -> Self {
+        Class::all()
+    }
+
+    fn within(r: Range) -> Option<Self> {
+        within(r)
+    }
+
+    fn range(&self) -> Range {
+        range(*self)
+    }
+
+    fn residue(&self) -> Residue {
+        self.residue
+    }
+
+    fn unary(op: NOp, a: &Self) -> Self {
+        unary(op, *a)
+    }
+
+    fn binary(op: NOp, a: &Self, b: &Self) -> Self {
+        binary(op, *a, *b)
+    }
+
+    fn meet(&self, other: &Self) -> Option<Self> {
+        met(*self, *other)
+    }
+
+    fn join(&self, other: &Self) -> Self {
+        joined(*self, *other)
+    }
+
+    fn widen<U: Fn(i128) -> Option<i128>, S: Steps>(&self, next: &Self, _ramp: &Ramp<U>) -> Self {
+        joined(*self, *next)
+    }
+
+    fn covers(&self, other: &Self) -> bool {
+        holds_all(*self, *other)
     }
 }

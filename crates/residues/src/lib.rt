@@ -5,3 +5,6 @@ mod class;
 mod numbers;
 
 pub use class::Class;
+
+#[cfg(test)]
+mod tests;

@@ -54,7 +54,7 @@ fn exact_product(a: Class, b: Class, f: i128, g: i128) -> Option<Class>
 }
 
 // The class of the number by the greatest common divisor of two others, where that may be a modulus.
-fn small_class(rem: i128, m: i128, n: i128) -> Option<Class>
+pub(super) fn small_class(rem: i128, m: i128, n: i128) -> Option<Class>
     requires m_is_not_negative { pos 0 ≤ℤ m }
     requires n_is_not_negative { pos 0 ≤ℤ n }
     ensures { IfSome result (λ r. (d : ℤ) × IsGreatestDivisor m n d × IsClassOf rem d (residue_of r)) }

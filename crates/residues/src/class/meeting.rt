@@ -1,0 +1,56 @@
+// The numbers that are in two classes, by the Chinese remainder theorem.
+
+ghost use Rattle.std.specs.Prelude.{◌≡◌, ℤ, pos, ◌^◌, ◌+ℤ◌, ◌-ℤ◌, ◌*ℤ◌, ◌≤ℤ◌, ◌<ℤ◌, IfSome, IfNone, int_div};
+ghost use Rattle.num_api.specs.Residues.{InResidue, IsMultiple};
+ghost use Rattle.residues.specs.Class.{residue_of};
+ghost use Rattle.residues.specs.Classes.{class_of, IsClassOf, IsGreatestDivisor};
+
+use super::Class;
+use super::lattice::has;
+use crate::numbers::{GREATEST_MODULUS, greatest_divisor, remainder};
+
+// The numbers that are in both; `None` exactly where there is none. Where their modulus would pass
+// the greatest one, it is the first class.
+pub(super) fn met(a: Class, b: Class) -> Option<Class> {
+    if a.residue.modulus == 0 {
+        return if has(b, a.residue.rem) { Some(a) } else { None };
+    }
+    if b.residue.modulus == 0 {
+        return if has(a, b.residue.rem) { Some(b) } else { None };
+    }
+    let common = greatest_divisor(a.residue.modulus, b.residue.modulus);
+    if remainder(b.residue.rem - a.residue.rem, common) != 0 {
+        return None;
+    }
+    Some(shared(a, b, common))
+}
+
+// The numbers that are in both of two classes which share some.
+fn shared(a: Class, b: Class, common: i128) -> Class {
+    match (a.residue.modulus / common).checked_mul(b.residue.modulus) {
+        Some(modulus) if modulus <= GREATEST_MODULUS => {
+            if b.residue.modulus <= a.residue.modulus {
+                Class::of(number_in(a, b, common), modulus)
+            } else {
+                Class::of(number_in(b, a, common), modulus)
+            }
+        }
+        _ => a,
+    }
+}
+
+// A number that is in both.
+fn number_in(a: Class, b: Class, common: i128) -> i128 {
+    let period = b.residue.modulus / common;
+    let gap = remainder(b.residue.rem - a.residue.rem, b.residue.modulus) / common;
+    a.residue.rem + a.residue.modulus * turns(remainder(a.residue.modulus / common, period), gap, period)
+}
+
+// How often `step` is to be added to 0 for a number that is `gap` up to a multiple of the modulus,
+// with which the step has no divisor in common.
+fn turns(step: i128, gap: i128, modulus: i128) -> i128 {
+    if step == 0 {
+        return 0;
+    }
+    (modulus * turns(remainder(modulus, step), remainder(-gap, step), step) + gap) / step
+}

@@ -1,0 +1,98 @@
+// What the operators make of classes.
+
+ghost use Rattle.std.specs.Prelude.{◌≡◌, ℕ, ℤ, pos, ◌^◌, Some, IfSome};
+ghost use Rattle.num_api.specs.Residues.{InResidue};
+ghost use Rattle.num_api.specs.Value.{unary_value, binary_value};
+ghost use Rattle.num_api.specs.declared.expr.NOp.TheVariants.{Not, Shl};
+ghost use Rattle.residues.specs.Class.{residue_of};
+
+use super::Class;
+use super::arithmetic::{difference, sum};
+use super::lattice::has;
+use super::products::{product, rest};
+use num_api::NOp;
+
+// What an operator of one operand makes of the numbers of a class.
+pub(super) fn unary(op: NOp, a: Class) -> Class
+    ensures { (x n : ℤ) → InResidue (residue_of a) x → unary_value op x ≡ Some n → InResidue (residue_of result) n }
+{
+    match op {
+        NOp::Neg => difference(Class::point(0), a),
+        NOp::Not => denial(a),
+        _ => Class::all(),
+    }
+}
+
+// What an operator of two operands makes of the numbers of two classes.
+pub(super) fn binary(op: NOp, a: Class, b: Class) -> Class
+    ensures { (x y n : ℤ) → InResidue (residue_of a) x → InResidue (residue_of b) y → binary_value op x y ≡ Some n → InResidue (residue_of result) n }
+{
+    match op {
+        NOp::Add => sum(a, b),
+        NOp::Sub => difference(a, b),
+        NOp::Mul => product(a, b),
+        NOp::Shl => product(a, powers(b)),
+        _ => other(op, a, b),
+    }
+}
+
+// What `Not` makes of a class.
+fn denial(a: Class) -> Class
+    ensures { (x n : ℤ) → InResidue (residue_of a) x → unary_value Not x ≡ Some n → InResidue (residue_of result) n }
+{
+    if !has(a, 0) {
+        return Class::point(0);
+    }
+    if a.residue.modulus == 0 {
+        return Class::point(1);
+    }
+    Class::all()
+}
+
+// A class that holds the power of two of each number of the class that is not negative.
+fn powers(a: Class) -> Class
+    ensures { (k : ℕ) → InResidue (residue_of a) (pos k) → InResidue (residue_of result) (pos (2 ^ k)) }
+{
+    if a.residue.modulus == 0 && a.residue.rem >= 0 && a.residue.rem < 127 {
+        return Class::point(1 << a.residue.rem as u32);
+    }
+    Class::all()
+}
+
+// An operator that keeps no class of sums or products: exact on two numbers, and else the class
+// of remainders or all numbers.
+fn other(op: NOp, a: Class, b: Class) -> Class
+    ensures { (x y n : ℤ) → InResidue (residue_of a) x → InResidue (residue_of b) y → binary_value op x y ≡ Some n → InResidue (residue_of result) n }
+{
+    match (of_points(op, a, b), op) {
+        (Some(n), _) => Class::point(n),
+        (None, NOp::Rem) => rest(a, b),
+        (None, _) => Class::all(),
+    }
+}
+
+// The one value of the operator, where each class is one number.
+fn of_points(op: NOp, a: Class, b: Class) -> Option<i128>
+    ensures { IfSome result (λ m. (x y n : ℤ) → InResidue (residue_of a) x → InResidue (residue_of b) y → binary_value op x y ≡ Some n → n ≡ m) }
+{
+    if a.residue.modulus != 0 || b.residue.modulus != 0 {
+        return None;
+    }
+    value(op, a.residue.rem, b.residue.rem)
+}
+
+// The value of an operator that divides or compares, where it is an `i128`; the others have rules
+// of their own.
+fn value(op: NOp, x: i128, y: i128) -> Option<i128>
+    ensures { IfSome result (λ n. binary_value op x y ≡ Some n) }
+{
+    match op {
+        NOp::Quot => x.checked_div(y),
+        NOp::Rem => x.checked_rem(y),
+        NOp::Eq => Some(i128::from(x == y)),
+        NOp::Ne => Some(i128::from(x != y)),
+        NOp::Lt => Some(i128::from(x < y)),
+        NOp::Le => Some(i128::from(x <= y)),
+        _ => None,
+    }
+}
