@@ -6,3 +6,5 @@ pub mod Members
 pub mod Steps
 pub mod Products
 pub mod Lattice
+pub mod Operators
+pub mod Crt

@@ -11,7 +11,8 @@ use crate::numbers::{GREATEST_MODULUS, greatest_divisor, remainder};
 
 // The numbers that are in both; `None` exactly where there is none. Where their modulus would pass
 // the greatest one, it is the first class.
-pub(super) fn met(a: Class, b: Class) -> Option<Class> {
+pub(super) fn met(a: Class, b: Class) -> Option<Class>
+{
     if a.residue.modulus == 0 {
         return if has(b, a.residue.rem) { Some(a) } else { None };
     }

@@ -1,9 +1,10 @@
 // What the operators make of classes.
 
 ghost use Rattle.std.specs.Prelude.{◌≡◌, ℕ, ℤ, pos, ◌^◌, Some, IfSome};
-ghost use Rattle.num_api.specs.Residues.{InResidue};
+ghost use Rattle.num_api.specs.Fold.{IsAlignment};
+ghost use Rattle.num_api.specs.Residues.{InResidue, IsFoldResidue};
 ghost use Rattle.num_api.specs.Value.{unary_value, binary_value};
-ghost use Rattle.num_api.specs.declared.expr.NOp.TheVariants.{Not, Shl};
+ghost use Rattle.num_api.specs.declared.expr.NOp.TheVariants.{Not, Add, Mul};
 ghost use Rattle.residues.specs.Class.{residue_of};
 
 use super::Class;
@@ -25,7 +26,10 @@ pub(super) fn unary(op: NOp, a: Class) -> Class
 
 // What an operator of two operands makes of the numbers of two classes.
 pub(super) fn binary(op: NOp, a: Class, b: Class) -> Class
-    ensures { (x y n : ℤ) → InResidue (residue_of a) x → InResidue (residue_of b) y → binary_value op x y ≡ Some n → InResidue (residue_of result) n }
+    ensures fold_sum { (c : ℤ) → IsAlignment c → op ≡ Add → IsFoldResidue c (residue_of a) → IsFoldResidue c (residue_of b) → IsFoldResidue c (residue_of result) }
+    ensures fold_left { (c : ℤ) → IsAlignment c → op ≡ Mul → IsFoldResidue c (residue_of a) → IsFoldResidue c (residue_of result) }
+    ensures fold_right { (c : ℤ) → IsAlignment c → op ≡ Mul → IsFoldResidue c (residue_of b) → IsFoldResidue c (residue_of result) }
+    ensures holds { (x y n : ℤ) → InResidue (residue_of a) x → InResidue (residue_of b) y → binary_value op x y ≡ Some n → InResidue (residue_of result) n }
 {
     match op {
         NOp::Add => sum(a, b),

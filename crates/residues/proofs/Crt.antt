@@ -1,0 +1,131 @@
+-- The Chinese remainder theorem: the numbers that are in two classes.
+use Rattle.std.proofs.Common.{◌≡◌, ℕ, zero, suc, ◌^◌, ◌<◌, ◌≤◌, ℤ, pos, negsuc, ◌+ℤ◌, ◌-ℤ◌, ◌*ℤ◌, neg_ℤ, ◌≤ℤ◌, ◌<ℤ◌, arith, ap, sym, refl, ◌∙◌, subst}
+use Rattle.std.proofs.lemmas.Int.{ints, by_lt_z, quot-rem, rem_below}
+use Rattle.std.specs.Int.RustNames.{int_div, int_rem, unsigned_abs}
+use Rattle.std.proofs.Math.IntN.{*ℤ_comm, zero-*ℤ, *ℤ-zero}
+use Rattle.num_api.specs.declared.message.Residue.{Residue}
+use Rattle.num_api.specs.Residues.{InResidue, IsMultiple}
+use Rattle.residues.specs.Classes.{class_of, IsClassOf, IsGreatestDivisor, LiesIn}
+use Rattle.residues.proofs.Rings.{add_mul, mul_add, neg_mul, mul_neg, mul_assoc}
+use Rattle.residues.proofs.Multiples.{multiple_along, multiple_add, multiple_sub, multiple_neg, multiple_times, times_multiple, zero_multiple, self_multiple, multiple_trans, multiple_mul, off_from_in, in_from_off, in_itself, in_shifted, in_wider}
+use Rattle.residues.proofs.Remainders.{times_above, small_multiple, divisor_positive, divisor_bound}
+
+-- ---- division without a remainder
+
+pub mul_cancel : (g a b : ℤ) → pos 1 ≤ℤ g → a *ℤ g ≡ b *ℤ g → a ≡ b
+mul_cancel g a b h e =
+    let split = add_mul a (neg_ℤ b) g in
+    let turned = neg_mul b g in
+    by_lt_z a b
+    (λ p.
+      let d = times_above (b -ℤ a) g (omega (arith, ints)) (omega (arith, ints)) in
+      let f = add_mul b (neg_ℤ a) g in
+      let k = neg_mul a g in
+      absurd (omega (arith, ints)))
+    (λ p. by_lt_z b a
+      (λ q. let d = times_above (a -ℤ b) g (omega (arith, ints)) (omega (arith, ints)) in absurd (omega (arith, ints)))
+      (λ q. omega (arith, ints)))
+
+pub exact_div : (a d : ℤ) → pos 1 ≤ℤ d → IsMultiple d a → int_div a d *ℤ d ≡ a
+exact_div a d h k =
+    let e = quot-rem a d in
+    let r = rem_below a d (omega (arith, ints)) in
+    let off : IsMultiple d (int_rem a d) = multiple_along d (a -ℤ (int_div a d *ℤ d)) _ (omega (arith, ints)) (multiple_sub d a (int_div a d *ℤ d) k (multiple_times d (int_div a d) d (self_multiple d))) in
+    let z : int_rem a d ≡ pos 0 = small_multiple d (int_rem a d) off (omega (arith, ints)) (omega (arith, ints)) in
+    omega (arith, ints)
+
+-- a quotient of a number from 0 to below a product with the divisor
+pub quotient_bounds : (t d a m : ℤ) → pos 1 ≤ℤ d → t *ℤ d ≡ a → pos 0 ≤ℤ a → a <ℤ (m *ℤ d) → (pos 0 ≤ℤ t) × (t <ℤ m)
+quotient_bounds t d a m h e low high = (at_least, below)
+  where
+    at_least : pos 0 ≤ℤ t
+    at_least = by_lt_z t (pos 0)
+        (λ p.
+        let u = times_above (neg_ℤ t) d (omega (arith, ints)) (omega (arith, ints)) in
+        let v = neg_mul t d in
+        absurd (omega (arith, ints)))
+        (λ p. p)
+
+    below : t <ℤ m
+    below = by_lt_z t m
+        (λ p. p)
+        (λ p.
+        let u = non_negative (t -ℤ m) d (omega (arith, ints)) (omega (arith, ints)) in
+        let v = add_mul t (neg_ℤ m) d in
+        let w = neg_mul m d in
+        absurd (omega (arith, ints)))
+      where
+        non_negative : (x y : ℤ) → pos 0 ≤ℤ x → pos 0 ≤ℤ y → pos 0 ≤ℤ (x *ℤ y)
+        non_negative (pos x) (pos y) i j = omega (arith, ints)
+        non_negative (pos x) (negsuc y) i j = absurd (omega (arith, ints))
+        non_negative (negsuc x) y i j = absurd (omega (arith, ints))
+
+-- ---- numbers without a common divisor
+
+-- 1 is a multiple of the one and one of the other, added
+pub record IsCoprime (a b : ℤ) : Type 0 where
+  pub combined : (x : ℤ) × (y : ℤ) × (pos 1 ≡ (x *ℤ a) +ℤ (y *ℤ b))
+
+pub coprime_step : (a b r : ℤ) → InResidue (class_of r a) b → IsCoprime a b → IsCoprime r a
+coprime_step a b r (k, p) c = record { combined = from c.combined }
+  where
+    from : (x : ℤ) × (y : ℤ) × (pos 1 ≡ (x *ℤ a) +ℤ (y *ℤ b)) → (x : ℤ) × (y : ℤ) × (pos 1 ≡ (x *ℤ r) +ℤ (y *ℤ a))
+    from (x, y, q) =
+        let e : y *ℤ b ≡ (y *ℤ r) +ℤ (y *ℤ (k *ℤ a)) = ap (λ (t : ℤ). y *ℤ t) p ∙ mul_add y r (k *ℤ a) in
+        let f = mul_assoc y k a in
+        let g = add_mul x (y *ℤ k) a in
+        (y, x +ℤ (y *ℤ k), omega (arith, ints))
+
+pub coprime_swap : (a b : ℤ) → IsCoprime a b → IsCoprime b a
+coprime_swap a b c = record { combined = from c.combined }
+  where
+    from : (x : ℤ) × (y : ℤ) × (pos 1 ≡ (x *ℤ a) +ℤ (y *ℤ b)) → (x : ℤ) × (y : ℤ) × (pos 1 ≡ (x *ℤ b) +ℤ (y *ℤ a))
+    from (x, y, q) = (y, x, omega (arith, ints))
+
+-- only 1 is without a common divisor with 0
+pub coprime_zero : (a b : ℤ) → IsCoprime a b → a ≡ pos 0 → pos 1 ≤ℤ b → b ≡ pos 1
+coprime_zero a b c e h = from c.combined
+  where
+    from : (x : ℤ) × (y : ℤ) × (pos 1 ≡ (x *ℤ a) +ℤ (y *ℤ b)) → b ≡ pos 1
+    from (x, y, q) =
+        let z : x *ℤ a ≡ pos 0 = ap (λ (t : ℤ). x *ℤ t) e ∙ *ℤ-zero x in
+        let one : IsMultiple b (pos 1) = (y, omega (arith, ints)) in
+        let u = divisor_bound b (pos 1) one (omega (arith, ints)) (omega (arith, ints)) in
+        omega (arith, ints)
+
+-- the quotients by the greatest common divisor have no common divisor
+pub coprime_quotients : (m n g p q : ℤ) → IsGreatestDivisor m n g → pos 1 ≤ℤ g → p *ℤ g ≡ m → q *ℤ g ≡ n → IsCoprime p q
+coprime_quotients m n g p q d h e f = record { combined = from d.combined }
+  where
+    from : (x : ℤ) × (y : ℤ) × (g ≡ (x *ℤ m) +ℤ (y *ℤ n)) → (x : ℤ) × (y : ℤ) × (pos 1 ≡ (x *ℤ p) +ℤ (y *ℤ q))
+    from (x, y, c) =
+        let u : x *ℤ m ≡ (x *ℤ p) *ℤ g = ap (λ (t : ℤ). x *ℤ t) (sym e) ∙ sym (mul_assoc x p g) in
+        let v : y *ℤ n ≡ (y *ℤ q) *ℤ g = ap (λ (t : ℤ). y *ℤ t) (sym f) ∙ sym (mul_assoc y q g) in
+        let w = add_mul (x *ℤ p) (y *ℤ q) g in
+        (x, y, mul_cancel g (pos 1) ((x *ℤ p) +ℤ (y *ℤ q)) h (omega (arith, ints)))
+
+-- ---- common multiples
+
+-- what both divide, the product of one of them with the other's quotient divides
+pub common_multiple : (m n g q z : ℤ) → IsGreatestDivisor m n g → pos 1 ≤ℤ g → q *ℤ g ≡ m → IsMultiple m z → IsMultiple n z → IsMultiple (q *ℤ n) z
+common_multiple m n g q z d h e i j =
+    let big = q *ℤ n in
+    let by_m : IsMultiple (big *ℤ g) (z *ℤ m) =
+      multiple_along (big *ℤ g) (q *ℤ (z *ℤ g)) (z *ℤ m) (sym (mul_assoc q z g) ∙ ap (λ (t : ℤ). t *ℤ g) (*ℤ_comm q z) ∙ mul_assoc z q g ∙ ap (λ (t : ℤ). z *ℤ t) e)
+      (multiple_along (big *ℤ g) ((q *ℤ z) *ℤ g) (q *ℤ (z *ℤ g)) (mul_assoc q z g) (multiple_mul big g (q *ℤ z) g (multiple_mul q n q z (self_multiple q) j) (self_multiple g))) in
+    let by_n : IsMultiple (big *ℤ g) (z *ℤ n) =
+      multiple_along (big *ℤ g) _ _ (*ℤ_comm n z)
+      (subst (λ (t : ℤ). IsMultiple t (n *ℤ z)) (*ℤ_comm n m ∙ ap (λ (t : ℤ). t *ℤ n) (sym e) ∙ mul_assoc q g n ∙ ap (λ (t : ℤ). q *ℤ t) (*ℤ_comm g n) ∙ sym (mul_assoc q n g)) (multiple_mul n m n z (self_multiple n) i)) in
+    from d.combined by_m by_n
+  where
+    from : (x : ℤ) × (y : ℤ) × (g ≡ (x *ℤ m) +ℤ (y *ℤ n)) → IsMultiple ((q *ℤ n) *ℤ g) (z *ℤ m) → IsMultiple ((q *ℤ n) *ℤ g) (z *ℤ n) → IsMultiple (q *ℤ n) z
+    from (x, y, c) u v =
+        let big = q *ℤ n in
+        let sum : IsMultiple (big *ℤ g) ((x *ℤ (z *ℤ m)) +ℤ (y *ℤ (z *ℤ n))) = multiple_add (big *ℤ g) _ _ (multiple_times (big *ℤ g) x (z *ℤ m) u) (multiple_times (big *ℤ g) y (z *ℤ n) v) in
+        let e1 : z *ℤ g ≡ (z *ℤ (x *ℤ m)) +ℤ (z *ℤ (y *ℤ n)) = ap (λ (t : ℤ). z *ℤ t) c ∙ mul_add z (x *ℤ m) (y *ℤ n) in
+        let e2 : z *ℤ (x *ℤ m) ≡ x *ℤ (z *ℤ m) = sym (mul_assoc z x m) ∙ ap (λ (t : ℤ). t *ℤ m) (*ℤ_comm z x) ∙ mul_assoc x z m in
+        let e3 : z *ℤ (y *ℤ n) ≡ y *ℤ (z *ℤ n) = sym (mul_assoc z y n) ∙ ap (λ (t : ℤ). t *ℤ n) (*ℤ_comm z y) ∙ mul_assoc y z n in
+        divide (multiple_along (big *ℤ g) _ (z *ℤ g) (omega (arith, ints)) sum)
+      where
+        divide : IsMultiple ((q *ℤ n) *ℤ g) (z *ℤ g) → IsMultiple (q *ℤ n) z
+        divide (w, r) = (w, mul_cancel g z (w *ℤ (q *ℤ n)) h (r ∙ sym (mul_assoc w (q *ℤ n) g)))
