@@ -1,11 +1,12 @@
 -- The Chinese remainder theorem: the numbers that are in two classes.
-use Rattle.std.proofs.Common.{◌≡◌, ℕ, zero, suc, ◌^◌, ◌<◌, ◌≤◌, ℤ, pos, negsuc, ◌+ℤ◌, ◌-ℤ◌, ◌*ℤ◌, neg_ℤ, ◌≤ℤ◌, ◌<ℤ◌, arith, ap, sym, refl, ◌∙◌, subst}
+use Rattle.std.proofs.Common.{◌≡◌, ℕ, zero, suc, ◌^◌, ◌<◌, ◌≤◌, ◌+◌, ℤ, pos, negsuc, ◌+ℤ◌, ◌-ℤ◌, ◌*ℤ◌, neg_ℤ, ◌≤ℤ◌, ◌<ℤ◌, arith, ap, sym, refl, ◌∙◌, subst}
 use Rattle.std.proofs.lemmas.Int.{ints, by_lt_z, quot-rem, rem_below}
 use Rattle.std.specs.Int.RustNames.{int_div, int_rem, unsigned_abs}
+use Rattle.std.proofs.Math.Nat.{mul-le-mul_left}
 use Rattle.std.proofs.Math.IntN.{*ℤ_comm, zero-*ℤ, *ℤ-zero}
 use Rattle.num_api.specs.declared.message.Residue.{Residue}
 use Rattle.num_api.specs.Residues.{InResidue, IsMultiple}
-use Rattle.residues.specs.Classes.{class_of, IsClassOf, IsGreatestDivisor, LiesIn}
+use Rattle.residues.specs.Classes.{class_of, IsClassOf, IsGreatestDivisor, IsCoprime, IsTurn, LiesIn}
 use Rattle.residues.proofs.Rings.{add_mul, mul_add, neg_mul, mul_neg, mul_assoc}
 use Rattle.residues.proofs.Multiples.{multiple_along, multiple_add, multiple_sub, multiple_neg, multiple_times, times_multiple, zero_multiple, self_multiple, multiple_trans, multiple_mul, off_from_in, in_from_off, in_itself, in_shifted, in_wider}
 use Rattle.residues.proofs.Remainders.{times_above, small_multiple, divisor_positive, divisor_bound}
@@ -61,10 +62,6 @@ quotient_bounds t d a m h e low high = (at_least, below)
         non_negative (negsuc x) y i j = absurd (omega (arith, ints))
 
 -- ---- numbers without a common divisor
-
--- 1 is a multiple of the one and one of the other, added
-pub record IsCoprime (a b : ℤ) : Type 0 where
-  pub combined : (x : ℤ) × (y : ℤ) × (pos 1 ≡ (x *ℤ a) +ℤ (y *ℤ b))
 
 pub coprime_step : (a b r : ℤ) → InResidue (class_of r a) b → IsCoprime a b → IsCoprime r a
 coprime_step a b r (k, p) c = record { combined = from c.combined }
@@ -129,3 +126,57 @@ common_multiple m n g q z d h e i j =
       where
         divide : IsMultiple ((q *ℤ n) *ℤ g) (z *ℤ g) → IsMultiple (q *ℤ n) z
         divide (w, r) = (w, mul_cancel g z (w *ℤ (q *ℤ n)) h (r ∙ sym (mul_assoc w (q *ℤ n) g)))
+
+-- ---- turns
+
+pub turn_of_zero : (step gap modulus : ℤ) → IsCoprime step modulus → step ≡ pos 0 → pos 0 ≤ℤ gap → gap <ℤ modulus → IsTurn step gap modulus (pos 0)
+turn_of_zero step gap modulus c e low high =
+    let u : modulus ≡ pos 1 = coprime_zero step modulus c e (omega (arith, ints)) in
+    let z : step *ℤ pos 0 ≡ pos 0 = *ℤ-zero step in
+    record {
+      low = omega (arith, ints);
+      high = omega (arith, ints);
+      solves = multiple_along modulus (pos 0) ((step *ℤ pos 0) -ℤ gap) (omega (arith, ints)) (zero_multiple modulus);
+    }
+
+-- the sum that the step divides
+pub turn_sum : (step gap modulus rest turned s : ℤ) → InResidue (class_of rest step) modulus → InResidue (class_of turned step) (neg_ℤ gap) → IsMultiple step ((rest *ℤ s) -ℤ turned) → IsMultiple step ((modulus *ℤ s) +ℤ gap)
+turn_sum step gap modulus rest turned s h k d =
+    let u : IsMultiple step ((modulus -ℤ rest) *ℤ s) = times_multiple step (modulus -ℤ rest) s (off_from_in rest step modulus h) in
+    let v : IsMultiple step (neg_ℤ gap -ℤ turned) = off_from_in turned step (neg_ℤ gap) k in
+    let w = multiple_sub step _ _ (multiple_add step ((modulus -ℤ rest) *ℤ s) ((rest *ℤ s) -ℤ turned) u d) v in
+    let e = add_mul modulus (neg_ℤ rest) s in
+    let f = neg_mul rest s in
+    multiple_along step _ ((modulus *ℤ s) +ℤ gap) (omega (arith, ints)) w
+
+-- its size
+pub turn_size : (step gap modulus s : ℤ) → pos 0 ≤ℤ gap → gap <ℤ modulus → pos 0 ≤ℤ s → s <ℤ step → (pos 0 ≤ℤ ((modulus *ℤ s) +ℤ gap)) × (((modulus *ℤ s) +ℤ gap) <ℤ (modulus *ℤ step))
+turn_size step gap (pos m) (pos s) low high h k =
+    let e = mul_add (pos m) (pos s) (pos 1) in
+    let f : (pos m *ℤ pos (s + 1)) ≤ℤ (pos m *ℤ step) = larger step k in
+    (omega (arith, ints), omega (arith, ints))
+  where
+    larger : (t : ℤ) → pos s <ℤ t → (pos m *ℤ pos (s + 1)) ≤ℤ (pos m *ℤ t)
+    larger (pos t) i = let g : s + 1 ≤ t = omega (arith, ints) in omega (arith, ints, mul-le-mul_left m g)
+    larger (negsuc t) i = absurd (omega (arith, ints))
+turn_size step gap (pos m) (negsuc s) low high h k = absurd (omega (arith, ints))
+turn_size step gap (negsuc m) s low high h k = absurd (omega (arith, ints))
+
+pub turn_step : (step gap modulus s : ℤ) → pos 1 ≤ℤ step → pos 0 ≤ℤ gap → gap <ℤ modulus → pos 0 ≤ℤ s → s <ℤ step → IsMultiple step ((modulus *ℤ s) +ℤ gap) → IsTurn step gap modulus (int_div ((modulus *ℤ s) +ℤ gap) step)
+turn_step step gap modulus s one low high h k d =
+    let t = int_div ((modulus *ℤ s) +ℤ gap) step in
+    let e : t *ℤ step ≡ (modulus *ℤ s) +ℤ gap = exact_div ((modulus *ℤ s) +ℤ gap) step one d in
+    let b = turn_size step gap modulus s low high h k in
+    let r = quotient_bounds t step ((modulus *ℤ s) +ℤ gap) modulus one e b.0 b.1 in
+    let c = *ℤ_comm step t in
+    record {
+      low = r.0;
+      high = r.1;
+      solves = multiple_along modulus (modulus *ℤ s) ((step *ℤ t) -ℤ gap) (omega (arith, ints)) (times_multiple modulus modulus s (self_multiple modulus));
+    }
+
+-- products of numbers from 0 to 2^50
+pub small_product : (a b : ℤ) → pos 0 ≤ℤ a → a ≤ℤ pos (2 ^ 50) → pos 0 ≤ℤ b → b ≤ℤ pos (2 ^ 50) → (pos 0 ≤ℤ (a *ℤ b)) × ((a *ℤ b) ≤ℤ pos (2 ^ 100))
+small_product (pos a) (pos b) h i j k = let e : b ≤ 2 ^ 50 = omega (arith, ints) in let f = mul-le-mul_left a e in (omega (arith, ints), omega (arith, ints))
+small_product (pos a) (negsuc b) h i j k = absurd (omega (arith, ints))
+small_product (negsuc a) b h i j k = absurd (omega (arith, ints))

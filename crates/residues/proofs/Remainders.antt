@@ -33,7 +33,7 @@ rem_high (negsuc a) (negsuc k) h = absurd (omega (arith, ints))
 -- ---- multiples that are small
 
 -- a product with a factor of 1 or more is at least the other factor, and with one of -1 or less at most its negation
-times_above : (k m : ℤ) → pos 1 ≤ℤ k → pos 0 ≤ℤ m → m ≤ℤ (k *ℤ m)
+pub times_above : (k m : ℤ) → pos 1 ≤ℤ k → pos 0 ≤ℤ m → m ≤ℤ (k *ℤ m)
 times_above (pos zero) m h i = absurd (omega (arith, ints))
 times_above (pos (suc j)) (pos n) h i = omega (arith, ints)
 times_above (pos (suc j)) (negsuc n) h i = absurd (omega (arith, ints))

@@ -1,5 +1,5 @@
 -- Classes of numbers that are the same up to a multiple of a modulus, and common divisors.
-use Rattle.std.specs.Prelude.{ℤ, pos, ◌≡◌, ◌+ℤ◌, ◌-ℤ◌, ◌*ℤ◌, ◌≤ℤ◌, ◌^◌}
+use Rattle.std.specs.Prelude.{ℤ, pos, ◌≡◌, ◌+ℤ◌, ◌-ℤ◌, ◌*ℤ◌, ◌≤ℤ◌, ◌<ℤ◌, ◌^◌}
 use Rattle.num_api.specs.Residues.{InResidue, IsMultiple, IsFoldResidue}
 use Rattle.num_api.specs.Fold.{IsAlignment}
 use Rattle.num_api.specs.declared.message.Residue.{Residue}
@@ -50,3 +50,13 @@ pub record IsGap (x y step g : ℤ) : Type 0 where
   pub not_negative : pos 0 ≤ℤ g
   pub forth : (d : ℤ) → IsMultiple d step → IsMultiple d (x -ℤ y) → IsMultiple d g
   pub back : (d : ℤ) → IsMultiple d step → IsMultiple d g → IsMultiple d (x -ℤ y)
+
+-- 1 is a multiple of the one and one of the other, added: no other number divides both
+pub record IsCoprime (a b : ℤ) : Type 0 where
+  pub combined : (x : ℤ) × (y : ℤ) × (pos 1 ≡ (x *ℤ a) +ℤ (y *ℤ b))
+
+-- so many steps make the gap, up to a multiple of the modulus
+pub record IsTurn (step gap modulus t : ℤ) : Type 0 where
+  pub low : pos 0 ≤ℤ t
+  pub high : t <ℤ modulus
+  pub solves : IsMultiple modulus ((step *ℤ t) -ℤ gap)

@@ -3,7 +3,7 @@
 ghost use Rattle.std.specs.Prelude.{◌≡◌, ℤ, pos, ◌^◌, ◌+ℤ◌, ◌-ℤ◌, ◌*ℤ◌, ◌≤ℤ◌, ◌<ℤ◌, IfSome, IfNone, int_div};
 ghost use Rattle.num_api.specs.Residues.{InResidue, IsMultiple};
 ghost use Rattle.residues.specs.Class.{residue_of};
-ghost use Rattle.residues.specs.Classes.{class_of, IsClassOf, IsGreatestDivisor};
+ghost use Rattle.residues.specs.Classes.{class_of, IsClassOf, IsGreatestDivisor, IsCoprime, IsTurn};
 
 use super::Class;
 use super::lattice::has;
@@ -49,9 +49,18 @@ fn number_in(a: Class, b: Class, common: i128) -> i128 {
 
 // How often `step` is to be added to 0 for a number that is `gap` up to a multiple of the modulus,
 // with which the step has no divisor in common.
-fn turns(step: i128, gap: i128, modulus: i128) -> i128 {
+fn turns(step: i128, gap: i128, modulus: i128) -> i128
+    requires step_low { pos 0 ≤ℤ step }
+    requires step_high { step <ℤ modulus }
+    requires gap_low { pos 0 ≤ℤ gap }
+    requires gap_high { gap <ℤ modulus }
+    requires small { modulus ≤ℤ pos (2 ^ 50) }
+    requires coprime { IsCoprime step modulus }
+    ensures { IsTurn step gap modulus result }
+{
     if step == 0 {
         return 0;
     }
-    (modulus * turns(remainder(modulus, step), remainder(-gap, step), step) + gap) / step
+    let inner = turns(remainder(modulus, step), remainder(-gap, step), step);
+    (modulus * inner + gap) / step
 }
