@@ -4,11 +4,14 @@ use Rattle.std.proofs.lemmas.Int.{ints, by_lt_z, quot-rem, rem_below}
 use Rattle.std.specs.Int.RustNames.{int_div, int_rem, unsigned_abs}
 use Rattle.std.proofs.Math.Nat.{mul-le-mul_left}
 use Rattle.std.proofs.Math.IntN.{*ℤ_comm, zero-*ℤ, *ℤ-zero}
+use Rattle.std.proofs.Common.{FitsSigned}
+use mir.Syntax.{w128}
 use Rattle.num_api.specs.declared.message.Residue.{Residue}
 use Rattle.num_api.specs.Residues.{InResidue, IsMultiple}
-use Rattle.residues.specs.Classes.{class_of, IsClassOf, IsGreatestDivisor, IsCoprime, IsTurn, LiesIn}
+use Rattle.residues.specs.Classes.{class_of, IsClassOf, IsGreatestDivisor, IsCoprime, IsTurn, SharesBy, LiesIn}
 use Rattle.residues.proofs.Rings.{add_mul, mul_add, neg_mul, mul_neg, mul_assoc}
 use Rattle.residues.proofs.Multiples.{multiple_along, multiple_add, multiple_sub, multiple_neg, multiple_times, times_multiple, zero_multiple, self_multiple, multiple_trans, multiple_mul, off_from_in, in_from_off, in_itself, in_shifted, in_wider}
+use Rattle.residues.proofs.Products.{not_negative_product}
 use Rattle.residues.proofs.Remainders.{times_above, small_multiple, divisor_positive, divisor_bound}
 
 -- ---- division without a remainder
@@ -180,3 +183,104 @@ pub small_product : (a b : ℤ) → pos 0 ≤ℤ a → a ≤ℤ pos (2 ^ 50) →
 small_product (pos a) (pos b) h i j k = let e : b ≤ 2 ^ 50 = omega (arith, ints) in let f = mul-le-mul_left a e in (omega (arith, ints), omega (arith, ints))
 small_product (pos a) (negsuc b) h i j k = absurd (omega (arith, ints))
 small_product (negsuc a) b h i j k = absurd (omega (arith, ints))
+
+-- ---- a number in both classes
+
+pub shares_swap : (a b : Residue) (g : ℤ) → SharesBy a b g → SharesBy b a g
+shares_swap a b g d = record {
+  first = d.second;
+  second = d.first;
+  divisor = record { not_negative = d.divisor.not_negative; first = d.divisor.second; second = d.divisor.first; combined = from d.divisor.combined };
+  shares = multiple_along g (neg_ℤ (b.rem -ℤ a.rem)) (a.rem -ℤ b.rem) (omega (arith, ints)) (multiple_neg g (b.rem -ℤ a.rem) d.shares);
+}
+  where
+    from : (x : ℤ) × (y : ℤ) × (g ≡ (x *ℤ a.modulus) +ℤ (y *ℤ b.modulus)) → (x : ℤ) × (y : ℤ) × (g ≡ (x *ℤ b.modulus) +ℤ (y *ℤ a.modulus))
+    from (x, y, p) = (y, x, omega (arith, ints))
+
+pub common_positive : (a b : Residue) (g : ℤ) → SharesBy a b g → pos 1 ≤ℤ g
+common_positive a b g d = divisor_positive g a.modulus d.divisor.first d.first d.divisor.not_negative
+
+-- the least common multiple is the same from either side
+pub least_multiple_swap : (m n g p q : ℤ) → q *ℤ g ≡ m → p *ℤ g ≡ n → q *ℤ n ≡ p *ℤ m
+least_multiple_swap m n g p q e f =
+    ap (λ (t : ℤ). q *ℤ t) (sym f) ∙ sym (mul_assoc q p g) ∙ ap (λ (t : ℤ). t *ℤ g) (*ℤ_comm q p) ∙ mul_assoc p q g ∙ ap (λ (t : ℤ). p *ℤ t) e
+
+-- a quotient of a number above 0 lies above 0
+pub quotient_positive : (p g n : ℤ) → p *ℤ g ≡ n → pos 1 ≤ℤ n → pos 1 ≤ℤ g → pos 1 ≤ℤ p
+quotient_positive p g n e h k = by_lt_z (pos 0) p
+    (λ u. omega (arith, ints))
+    (λ u.
+      let v = not_negative_product (neg_ℤ p) g (omega (arith, ints)) (omega (arith, ints)) in
+      let w = neg_mul p g in
+      absurd (omega (arith, ints)))
+
+-- the period is small where the least common multiple is a modulus, and the second modulus the smaller one
+pub small_period : (m n g p q : ℤ) → pos 1 ≤ℤ g → pos 1 ≤ℤ n → q *ℤ g ≡ m → p *ℤ g ≡ n → n ≤ℤ m → (q *ℤ n) ≤ℤ pos (2 ^ 100) → p ≤ℤ pos (2 ^ 50)
+small_period m n g p q one pn e f less small = by_lt_z (pos (2 ^ 50)) p
+    (λ u.
+      let p1 : pos 1 ≤ℤ p = omega (arith, ints) in
+      let up_to = in_order (p -ℤ q) g one (omega (arith, ints, add_mul p (neg_ℤ q) g, neg_mul q g)) in
+      let ge : pos (2 ^ 50 + 1) ≤ℤ q = omega (arith, ints) in
+      let n_big = times_above g p one (omega (arith, ints)) in
+      let n_is : (g *ℤ p) ≡ n = *ℤ_comm g p ∙ f in
+      let nb : pos (2 ^ 50 + 1) ≤ℤ n = omega (arith, ints) in
+      let wide = wide_product q n ge nb in
+      absurd (omega (arith, ints)))
+    (λ u. u)
+  where
+    in_order : (x y : ℤ) → pos 1 ≤ℤ y → (x *ℤ y) ≤ℤ pos 0 → x ≤ℤ pos 0
+    in_order x y h k = by_lt_z (pos 0) x (λ u. let v = times_above x y (omega (arith, ints)) (omega (arith, ints)) in absurd (omega (arith, ints))) (λ u. u)
+
+    wide_product : (x y : ℤ) → pos (2 ^ 50 + 1) ≤ℤ x → pos (2 ^ 50 + 1) ≤ℤ y → pos (2 ^ 100) <ℤ (x *ℤ y)
+    wide_product (pos x) (pos y) h k =
+        let i : 2 ^ 50 + 1 ≤ x = omega (arith, ints) in
+        let j : 2 ^ 50 + 1 ≤ y = omega (arith, ints) in
+        let l = mul-le-mul_left x j in
+        omega (arith, ints)
+    wide_product (pos x) (negsuc y) h k = absurd (omega (arith, ints))
+    wide_product (negsuc x) y h k = absurd (omega (arith, ints))
+
+-- the remainder of the difference is a multiple of the common divisor too
+pub common_in_rest : (a b : Residue) (g r : ℤ) → SharesBy a b g → InResidue (class_of r b.modulus) (b.rem -ℤ a.rem) → IsMultiple g r
+common_in_rest a b g r d h =
+    multiple_along g ((b.rem -ℤ a.rem) -ℤ ((b.rem -ℤ a.rem) -ℤ r)) r (omega (arith, ints))
+    (multiple_sub g (b.rem -ℤ a.rem) ((b.rem -ℤ a.rem) -ℤ r) d.shares (multiple_trans g b.modulus _ d.divisor.second (off_from_in r b.modulus (b.rem -ℤ a.rem) h)))
+
+-- so many times the first modulus, added to the first remainder, is in the second class
+pub in_second : (a b : Residue) (g p q rest r gap t : ℤ) → q *ℤ g ≡ a.modulus → p *ℤ g ≡ b.modulus → gap *ℤ g ≡ r → InResidue (class_of rest p) q → InResidue (class_of r b.modulus) (b.rem -ℤ a.rem) → IsTurn rest gap p t → InResidue b (a.rem +ℤ (a.modulus *ℤ t))
+in_second a b g p q rest r gap t e f k h i turn =
+    let u : IsMultiple p ((q -ℤ rest) *ℤ t) = times_multiple p (q -ℤ rest) t (off_from_in rest p q h) in
+    let v = add_mul q (neg_ℤ rest) t in
+    let w = neg_mul rest t in
+    let x : IsMultiple p ((q *ℤ t) -ℤ gap) = multiple_along p (((q -ℤ rest) *ℤ t) +ℤ ((rest *ℤ t) -ℤ gap)) _ (omega (arith, ints)) (multiple_add p ((q -ℤ rest) *ℤ t) ((rest *ℤ t) -ℤ gap) u turn.solves) in
+    let y : IsMultiple b.modulus (((q *ℤ t) -ℤ gap) *ℤ g) = subst (λ (z : ℤ). IsMultiple z (((q *ℤ t) -ℤ gap) *ℤ g)) f (multiple_mul p g ((q *ℤ t) -ℤ gap) g x (self_multiple g)) in
+    let e1 = add_mul (q *ℤ t) (neg_ℤ gap) g in
+    let e2 = neg_mul gap g in
+    let e3 : (q *ℤ t) *ℤ g ≡ a.modulus *ℤ t = ap (λ (z : ℤ). z *ℤ g) (*ℤ_comm q t) ∙ mul_assoc t q g ∙ ap (λ (z : ℤ). t *ℤ z) e ∙ *ℤ_comm t a.modulus in
+    in_from_off b.rem b.modulus (a.rem +ℤ (a.modulus *ℤ t))
+    (multiple_along b.modulus ((((q *ℤ t) -ℤ gap) *ℤ g) -ℤ ((b.rem -ℤ a.rem) -ℤ r)) _ (omega (arith, ints)) (multiple_sub b.modulus _ _ y (off_from_in r b.modulus (b.rem -ℤ a.rem) i)))
+
+pub in_first : (a : Residue) (t : ℤ) → InResidue a (a.rem +ℤ (a.modulus *ℤ t))
+in_first a t = in_from_off a.rem a.modulus (a.rem +ℤ (a.modulus *ℤ t)) (multiple_along a.modulus (a.modulus *ℤ t) _ (omega (arith, ints)) (times_multiple a.modulus a.modulus t (self_multiple a.modulus)))
+
+-- the size of such a number
+pub turn_reach : (m n g p q t : ℤ) → pos 1 ≤ℤ m → q *ℤ g ≡ m → p *ℤ g ≡ n → pos 0 ≤ℤ t → t <ℤ p → (pos 0 ≤ℤ (m *ℤ t)) × ((m *ℤ t) ≤ℤ (q *ℤ n))
+turn_reach m n g p q t one e f low high =
+    let a = not_negative_product m t (omega (arith, ints)) low in
+    let b = not_negative_product m (p -ℤ t) (omega (arith, ints)) (omega (arith, ints)) in
+    let c = mul_add m p (neg_ℤ t) in
+    let d = mul_neg m t in
+    let i = least_multiple_swap m n g p q e f in
+    let j = *ℤ_comm m p in
+    (a, omega (arith, ints))
+
+-- ---- what fits 128 bits
+
+pub difference_fits : (x y m n : ℤ) → pos 0 ≤ℤ x → x <ℤ m → m ≤ℤ pos (2 ^ 100) → pos 0 ≤ℤ y → y <ℤ n → n ≤ℤ pos (2 ^ 100) → FitsSigned w128 (x -ℤ y)
+difference_fits x y m n a b c d e f = omega (arith, ints)
+
+pub reach_fits : (z u : ℤ) → pos 0 ≤ℤ z → z ≤ℤ u → u ≤ℤ pos (2 ^ 100) → FitsSigned w128 z
+reach_fits z u a b c = omega (arith, ints)
+
+pub offset_fits : (x m z u : ℤ) → pos 0 ≤ℤ x → x <ℤ m → m ≤ℤ pos (2 ^ 100) → pos 0 ≤ℤ z → z ≤ℤ u → u ≤ℤ pos (2 ^ 100) → FitsSigned w128 (x +ℤ z)
+offset_fits x m z u a b c d e f = omega (arith, ints)

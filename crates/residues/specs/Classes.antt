@@ -60,3 +60,10 @@ pub record IsTurn (step gap modulus t : ℤ) : Type 0 where
   pub low : pos 0 ≤ℤ t
   pub high : t <ℤ modulus
   pub solves : IsMultiple modulus ((step *ℤ t) -ℤ gap)
+
+-- neither class is one number, and the greatest common divisor of the moduli divides the difference of the remainders
+pub record SharesBy (a b : Residue) (common : ℤ) : Type 0 where
+  pub first : pos 1 ≤ℤ a.modulus
+  pub second : pos 1 ≤ℤ b.modulus
+  pub divisor : IsGreatestDivisor a.modulus b.modulus common
+  pub shares : IsMultiple common (b.rem -ℤ a.rem)

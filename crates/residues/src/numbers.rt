@@ -1,6 +1,6 @@
 // Whole numbers up to multiples of a modulus.
 
-ghost use Rattle.std.specs.Prelude.{◌≡◌, ℤ, pos, ◌^◌, ◌≤ℤ◌, ◌<ℤ◌};
+ghost use Rattle.std.specs.Prelude.{◌≡◌, ℤ, pos, ◌*ℤ◌, ◌≤ℤ◌, ◌<ℤ◌};
 ghost use Rattle.num_api.specs.Residues.{InResidue, IsMultiple};
 ghost use Rattle.residues.specs.Classes.{class_of, IsGreatestDivisor};
 ghost use Rattle.std.specs.Int.{int_rem_euclid};
@@ -17,6 +17,15 @@ pub fn remainder(n: i128, modulus: i128) -> i128
     ensures high { result <ℤ modulus }
 {
     n.rem_euclid(modulus)
+}
+
+// How often the divisor goes into a multiple of it.
+pub fn quotient(n: i128, divisor: i128) -> i128
+    requires positive { pos 1 ≤ℤ divisor }
+    requires multiple { IsMultiple divisor n }
+    ensures { (result *ℤ divisor) ≡ n }
+{
+    n / divisor
 }
 
 // The greatest common divisor; 0 of two zeros.

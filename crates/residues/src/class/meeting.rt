@@ -3,11 +3,11 @@
 ghost use Rattle.std.specs.Prelude.{◌≡◌, ℤ, pos, ◌^◌, ◌+ℤ◌, ◌-ℤ◌, ◌*ℤ◌, ◌≤ℤ◌, ◌<ℤ◌, IfSome, IfNone, int_div};
 ghost use Rattle.num_api.specs.Residues.{InResidue, IsMultiple};
 ghost use Rattle.residues.specs.Class.{residue_of};
-ghost use Rattle.residues.specs.Classes.{class_of, IsClassOf, IsGreatestDivisor, IsCoprime, IsTurn};
+ghost use Rattle.residues.specs.Classes.{class_of, IsClassOf, IsGreatestDivisor, IsCoprime, IsTurn, SharesBy};
 
 use super::Class;
 use super::lattice::has;
-use crate::numbers::{GREATEST_MODULUS, greatest_divisor, remainder};
+use crate::numbers::{GREATEST_MODULUS, greatest_divisor, quotient, remainder};
 
 // The numbers that are in both; `None` exactly where there is none. Where their modulus would pass
 // the greatest one, it is the first class.
@@ -28,7 +28,7 @@ pub(super) fn met(a: Class, b: Class) -> Option<Class>
 
 // The numbers that are in both of two classes which share some.
 fn shared(a: Class, b: Class, common: i128) -> Class {
-    match (a.residue.modulus / common).checked_mul(b.residue.modulus) {
+    match quotient(a.residue.modulus, common).checked_mul(b.residue.modulus) {
         Some(modulus) if modulus <= GREATEST_MODULUS => {
             if b.residue.modulus <= a.residue.modulus {
                 Class::of(number_in(a, b, common), modulus)
@@ -40,11 +40,19 @@ fn shared(a: Class, b: Class, common: i128) -> Class {
     }
 }
 
-// A number that is in both.
-fn number_in(a: Class, b: Class, common: i128) -> i128 {
-    let period = b.residue.modulus / common;
-    let gap = remainder(b.residue.rem - a.residue.rem, b.residue.modulus) / common;
-    a.residue.rem + a.residue.modulus * turns(remainder(a.residue.modulus / common, period), gap, period)
+// A number that is in both, of which the second has the smaller modulus.
+fn number_in(a: Class, b: Class, common: i128) -> i128
+    requires shares { SharesBy (residue_of a) (residue_of b) common }
+    requires less { (residue_of b).modulus ≤ℤ (residue_of a).modulus }
+    requires small { (q : ℤ) → (q *ℤ common) ≡ (residue_of a).modulus → (q *ℤ (residue_of b).modulus) ≤ℤ pos (2 ^ 100) }
+    ensures first { InResidue (residue_of a) result }
+    ensures second { InResidue (residue_of b) result }
+{
+    let step = quotient(a.residue.modulus, common);
+    let period = quotient(b.residue.modulus, common);
+    let rest = remainder(b.residue.rem - a.residue.rem, b.residue.modulus);
+    let gap = quotient(rest, common);
+    a.residue.rem + a.residue.modulus * turns(remainder(step, period), gap, period)
 }
 
 // How often `step` is to be added to 0 for a number that is `gap` up to a multiple of the modulus,
