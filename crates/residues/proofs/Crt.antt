@@ -7,11 +7,13 @@ use Rattle.std.proofs.Math.IntN.{*ℤ_comm, zero-*ℤ, *ℤ-zero}
 use Rattle.std.proofs.Common.{FitsSigned}
 use mir.Syntax.{w128}
 use Rattle.num_api.specs.declared.message.Residue.{Residue}
-use Rattle.num_api.specs.Residues.{InResidue, IsMultiple}
-use Rattle.residues.specs.Classes.{class_of, IsClassOf, IsGreatestDivisor, IsCoprime, IsTurn, SharesBy, LiesIn}
+use Rattle.num_api.specs.Residues.{InResidue, IsMultiple, IsResidue}
+use Rattle.residues.specs.Classes.{class_of, IsClassOf, IsGreatestDivisor, IsCoprime, IsTurn, SharesBy, IsMeet, Meets, LiesIn}
 use Rattle.residues.proofs.Rings.{add_mul, mul_add, neg_mul, mul_neg, mul_assoc}
 use Rattle.residues.proofs.Multiples.{multiple_along, multiple_add, multiple_sub, multiple_neg, multiple_times, times_multiple, zero_multiple, self_multiple, multiple_trans, multiple_mul, off_from_in, in_from_off, in_itself, in_shifted, in_wider}
+use Rattle.residues.proofs.Members.{in_class_of}
 use Rattle.residues.proofs.Products.{not_negative_product}
+use Rattle.residues.proofs.Lattice.{multiple_of_zero}
 use Rattle.residues.proofs.Remainders.{times_above, small_multiple, divisor_positive, divisor_bound}
 
 -- ---- division without a remainder
@@ -284,3 +286,132 @@ reach_fits z u a b c = omega (arith, ints)
 
 pub offset_fits : (x m z u : ℤ) → pos 0 ≤ℤ x → x <ℤ m → m ≤ℤ pos (2 ^ 100) → pos 0 ≤ℤ z → z ≤ℤ u → u ≤ℤ pos (2 ^ 100) → FitsSigned w128 (x +ℤ z)
 offset_fits x m z u a b c d e f = omega (arith, ints)
+
+-- ---- the class of the numbers in both
+
+-- the condition on the least common multiple, from the other side
+pub small_swap : (a b : Residue) (g : ℤ) → SharesBy a b g → ((q : ℤ) → q *ℤ g ≡ a.modulus → (q *ℤ b.modulus) ≤ℤ pos (2 ^ 100)) → (p : ℤ) → p *ℤ g ≡ b.modulus → (p *ℤ a.modulus) ≤ℤ pos (2 ^ 100)
+small_swap a b g d small p e = from d.divisor.first
+  where
+    from : IsMultiple g a.modulus → (p *ℤ a.modulus) ≤ℤ pos (2 ^ 100)
+    from (k, q) = subst (λ (t : ℤ). t ≤ℤ pos (2 ^ 100)) (least_multiple_swap a.modulus b.modulus g p k (sym q) e) (small k (sym q))
+
+-- the class of a number in both, by the least common multiple
+pub meets_by : (a b r : Residue) (g q x m : ℤ) → SharesBy a b g → q *ℤ g ≡ a.modulus → m ≡ q *ℤ b.modulus → InResidue a x → InResidue b x → IsClassOf x m r → Meets a b r
+meets_by a b r g q x m d e f h k i = record {
+  holds = λ n u v. in_class_of x m n r i (in_from_off x m n (subst (λ (t : ℤ). IsMultiple t (n -ℤ x)) (sym f) (common_multiple a.modulus b.modulus g q (n -ℤ x) d.divisor (common_positive a b g d) e (apart a n x u h) (apart b n x v k))));
+  first = lies a (divides_first d.divisor.second) h;
+  second = λ s meet. lies b (subst (λ (t : ℤ). IsMultiple b.modulus t) (sym f) (multiple_times b.modulus q b.modulus (self_multiple b.modulus))) k;
+}
+  where
+    apart : (c : Residue) (n y : ℤ) → InResidue c n → InResidue c y → IsMultiple c.modulus (n -ℤ y)
+    apart c n y u v = multiple_along c.modulus ((n -ℤ c.rem) -ℤ (y -ℤ c.rem)) (n -ℤ y) (omega (arith, ints)) (multiple_sub c.modulus (n -ℤ c.rem) (y -ℤ c.rem) (off_from_in c.rem c.modulus n u) (off_from_in c.rem c.modulus y v))
+
+    lies : (c : Residue) → IsMultiple c.modulus m → InResidue c x → LiesIn r c
+    lies c u v =
+        let w : IsMultiple c.modulus r.modulus = subst (λ (t : ℤ). IsMultiple c.modulus t) (sym i.modulus_is) u in
+        let z = multiple_trans c.modulus r.modulus (x -ℤ r.rem) w (off_from_in r.rem r.modulus x i.contains) in
+        record {
+          divides = w;
+          contains = in_from_off c.rem c.modulus r.rem (multiple_along c.modulus ((x -ℤ c.rem) -ℤ (x -ℤ r.rem)) _ (omega (arith, ints)) (multiple_sub c.modulus (x -ℤ c.rem) (x -ℤ r.rem) (off_from_in c.rem c.modulus x v) z));
+        }
+
+    divides_first : IsMultiple g b.modulus → IsMultiple a.modulus m
+    divides_first (p, u) = subst (λ (t : ℤ). IsMultiple a.modulus t) (sym (least_multiple_swap a.modulus b.modulus g p q e (sym u)) ∙ sym f) (multiple_times a.modulus p a.modulus (self_multiple a.modulus))
+
+pub lies_in_itself : (r : Residue) → LiesIn r r
+lies_in_itself r = record { divides = self_multiple r.modulus; contains = in_itself r.rem r.modulus }
+
+-- a number in both, whatever its size
+some_number : (a b : Residue) (g : ℤ) → SharesBy a b g → (x : ℤ) × InResidue a x × InResidue b x
+some_number a b g d = from d.shares d.divisor.combined
+  where
+    from : IsMultiple g (b.rem -ℤ a.rem) → (x : ℤ) × (y : ℤ) × (g ≡ (x *ℤ a.modulus) +ℤ (y *ℤ b.modulus)) → (x : ℤ) × InResidue a x × InResidue b x
+    from (j, e) (x, y, f) =
+        let left = j *ℤ (x *ℤ a.modulus) in
+        let right = j *ℤ (y *ℤ b.modulus) in
+        let h : j *ℤ g ≡ left +ℤ right = ap (λ (t : ℤ). j *ℤ t) f ∙ mul_add j (x *ℤ a.modulus) (y *ℤ b.modulus) in
+        let k = multiple_times a.modulus j (x *ℤ a.modulus) (multiple_times a.modulus x a.modulus (self_multiple a.modulus)) in
+        let l = multiple_neg b.modulus right (multiple_times b.modulus j (y *ℤ b.modulus) (multiple_times b.modulus y b.modulus (self_multiple b.modulus))) in
+        (
+          a.rem +ℤ left,
+          in_from_off a.rem a.modulus (a.rem +ℤ left) (multiple_along a.modulus left _ (omega (arith, ints)) k),
+          in_from_off b.rem b.modulus (a.rem +ℤ left) (multiple_along b.modulus (neg_ℤ right) _ (omega (arith, ints)) l),
+        )
+
+onward : (c : Residue) (y z : ℤ) → InResidue c y → IsMultiple c.modulus z → InResidue c (y +ℤ z)
+onward c y z i j = in_from_off c.rem c.modulus (y +ℤ z) (multiple_along c.modulus ((y -ℤ c.rem) +ℤ z) _ (omega (arith, ints)) (multiple_add c.modulus (y -ℤ c.rem) z (off_from_in c.rem c.modulus y i) j))
+
+-- the least common multiple is a multiple of the first modulus too
+multiple_of_first : (a b : Residue) (g q : ℤ) → q *ℤ g ≡ a.modulus → IsMultiple g b.modulus → IsMultiple a.modulus (q *ℤ b.modulus)
+multiple_of_first a b g q e (p, f) = subst (λ (t : ℤ). IsMultiple a.modulus t) (sym (least_multiple_swap a.modulus b.modulus g p q e (sym f))) (multiple_times a.modulus p a.modulus (self_multiple a.modulus))
+
+-- a class of exactly the numbers in both has at least the least common multiple as its modulus
+pub meet_modulus : (a b s : Residue) (g q : ℤ) → SharesBy a b g → q *ℤ g ≡ a.modulus → IsMeet a b s → (q *ℤ b.modulus) ≤ℤ pos (2 ^ 100)
+meet_modulus a b s g q d e meet = from (some_number a b g d)
+  where
+    from : (x : ℤ) × InResidue a x × InResidue b x → (q *ℤ b.modulus) ≤ℤ pos (2 ^ 100)
+    from (x, h, k) =
+        let in_s = meet.holds x h k in
+        let next : InResidue s (x +ℤ s.modulus) = in_from_off s.rem s.modulus (x +ℤ s.modulus) (multiple_along s.modulus ((x -ℤ s.rem) +ℤ s.modulus) _ (omega (arith, ints)) (multiple_add s.modulus (x -ℤ s.rem) s.modulus (off_from_in s.rem s.modulus x in_s) (self_multiple s.modulus))) in
+        let u = step a (meet.first (x +ℤ s.modulus) next) h in
+        let v = step b (meet.second (x +ℤ s.modulus) next) k in
+        let w : IsMultiple (q *ℤ b.modulus) s.modulus = common_multiple a.modulus b.modulus g q s.modulus d.divisor (common_positive a b g d) e u v in
+        let q1 = quotient_positive q g a.modulus e d.first (common_positive a b g d) in
+        let low = not_negative_product q b.modulus (omega (arith, ints)) (omega (arith, ints, d.second)) in
+        by_lt_z (pos 0) s.modulus
+        (λ i. let z = divisor_bound (q *ℤ b.modulus) s.modulus w (omega (arith, ints)) low in omega (arith, ints, meet.proper.bounded))
+        (λ i. below_itself x h k in_s (omega (arith, ints, meet.proper.not_negative)))
+      where
+        step : (c : Residue) → InResidue c (x +ℤ s.modulus) → InResidue c x → IsMultiple c.modulus s.modulus
+        step c i j = multiple_along c.modulus (((x +ℤ s.modulus) -ℤ c.rem) -ℤ (x -ℤ c.rem)) s.modulus (omega (arith, ints)) (multiple_sub c.modulus ((x +ℤ s.modulus) -ℤ c.rem) (x -ℤ c.rem) (off_from_in c.rem c.modulus (x +ℤ s.modulus) i) (off_from_in c.rem c.modulus x j))
+
+        below_itself : (y : ℤ) → InResidue a y → InResidue b y → InResidue s y → s.modulus ≡ pos 0 → (q *ℤ b.modulus) ≤ℤ pos (2 ^ 100)
+        below_itself y i j l z =
+            let big = q *ℤ b.modulus in
+            let by_b = multiple_times b.modulus q b.modulus (self_multiple b.modulus) in
+            let far : InResidue s (y +ℤ big) = meet.holds (y +ℤ big) (onward a y big i (multiple_of_first a b g q e d.divisor.second)) (onward b y big j by_b) in
+            let off : IsMultiple s.modulus big = multiple_along s.modulus (((y +ℤ big) -ℤ s.rem) -ℤ (y -ℤ s.rem)) big (omega (arith, ints)) (multiple_sub s.modulus ((y +ℤ big) -ℤ s.rem) (y -ℤ s.rem) (off_from_in s.rem s.modulus (y +ℤ big) far) (off_from_in s.rem s.modulus y l)) in
+            let none : big ≡ pos 0 = multiple_of_zero big (subst (λ (t : ℤ). IsMultiple t big) z off) in
+            omega (arith, ints)
+
+-- where the least common multiple is no modulus, the first class serves
+pub meets_itself : (a b : Residue) (g : ℤ) → SharesBy a b g → ((q : ℤ) → q *ℤ g ≡ a.modulus → pos (2 ^ 100) <ℤ (q *ℤ b.modulus)) → Meets a b a
+meets_itself a b g d large = record {
+  holds = λ n h k. h;
+  first = lies_in_itself a;
+  second = λ s meet. absurd (from s meet d.divisor.first);
+}
+  where
+    from : (s : Residue) → IsMeet a b s → IsMultiple g a.modulus → ⊥
+    from s meet (q, e) = let u = meet_modulus a b s g q d (sym e) meet in let v = large q (sym e) in omega (arith, ints)
+
+-- two classes with a number in both
+pub shares_from : (a b : Residue) (g n : ℤ) → IsGreatestDivisor a.modulus b.modulus g → InResidue a n → InResidue b n → IsMultiple g (b.rem -ℤ a.rem)
+shares_from a b g n d h k =
+    multiple_along g ((n -ℤ a.rem) -ℤ (n -ℤ b.rem)) _ (omega (arith, ints))
+    (multiple_sub g (n -ℤ a.rem) (n -ℤ b.rem) (multiple_trans g a.modulus _ d.first (off_from_in a.rem a.modulus n h)) (multiple_trans g b.modulus _ d.second (off_from_in b.rem b.modulus n k)))
+
+-- ---- classes of one number
+
+pub meets_point : (a b : Residue) → a.modulus ≡ pos 0 → InResidue b a.rem → Meets a b a
+meets_point a b e h = record {
+  holds = λ n i j. i;
+  first = lies_in_itself a;
+  second = λ s meet. record { divides = multiple_along b.modulus (pos 0) a.modulus (sym e) (zero_multiple b.modulus); contains = h };
+}
+
+pub meets_other_point : (a b : Residue) → b.modulus ≡ pos 0 → InResidue a b.rem → Meets a b b
+meets_other_point a b e h = record {
+  holds = λ n i j. j;
+  first = record { divides = multiple_along a.modulus (pos 0) b.modulus (sym e) (zero_multiple a.modulus); contains = h };
+  second = λ s meet. lies_in_itself b;
+}
+
+-- ---- the least common multiple
+
+pub same_quotient : (p q g m : ℤ) → pos 1 ≤ℤ g → p *ℤ g ≡ m → q *ℤ g ≡ m → p ≡ q
+same_quotient p q g m h e f = mul_cancel g p q h (e ∙ sym f)
+
+pub large_from_unfit : (z : ℤ) → pos 0 ≤ℤ z → (FitsSigned w128 z → ⊥) → pos (2 ^ 100) <ℤ z
+large_from_unfit z h k = by_lt_z z (pos (2 ^ 127)) (λ i. absurd (k (omega (arith, ints)))) (λ i. omega (arith, ints))

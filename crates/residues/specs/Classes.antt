@@ -1,6 +1,6 @@
 -- Classes of numbers that are the same up to a multiple of a modulus, and common divisors.
 use Rattle.std.specs.Prelude.{ℤ, pos, ◌≡◌, ◌+ℤ◌, ◌-ℤ◌, ◌*ℤ◌, ◌≤ℤ◌, ◌<ℤ◌, ◌^◌}
-use Rattle.num_api.specs.Residues.{InResidue, IsMultiple, IsFoldResidue}
+use Rattle.num_api.specs.Residues.{InResidue, IsResidue, IsMultiple, IsFoldResidue}
 use Rattle.num_api.specs.Fold.{IsAlignment}
 use Rattle.num_api.specs.declared.message.Residue.{Residue}
 
@@ -67,3 +67,17 @@ pub record SharesBy (a b : Residue) (common : ℤ) : Type 0 where
   pub second : pos 1 ≤ℤ b.modulus
   pub divisor : IsGreatestDivisor a.modulus b.modulus common
   pub shares : IsMultiple common (b.rem -ℤ a.rem)
+
+-- the class holds exactly the numbers that are in both, and its modulus is at most 2^100
+pub record IsMeet (a b s : Residue) : Type 0 where
+  pub proper : IsResidue s
+  pub first : (n : ℤ) → InResidue s n → InResidue a n
+  pub second : (n : ℤ) → InResidue s n → InResidue b n
+  pub holds : (n : ℤ) → InResidue a n → InResidue b n → InResidue s n
+
+-- the class holds the numbers that are in both and lies in the first; where one that holds no others has a modulus of at most 2^100,
+-- it lies in the second too
+pub record Meets (a b r : Residue) : Type 0 where
+  pub holds : (n : ℤ) → InResidue a n → InResidue b n → InResidue r n
+  pub first : LiesIn r a
+  pub second : (s : Residue) → IsMeet a b s → LiesIn r b

@@ -1,0 +1,75 @@
+use Rattle.std.proofs.Common.{◌≡◌, ℕ, ◌^◌, ℤ, pos, ◌+ℤ◌, ◌-ℤ◌, ◌*ℤ◌, neg_ℤ, ◌≤ℤ◌, ◌<ℤ◌, ◌<◌, arith, sym, ◌∙◌, ap, refl, subst, FitsSigned, to_z, of_z, rules}
+use Rattle.std.specs.Prelude.{Bool, true, false}
+use Rattle.std.proofs.lemmas.Int.{ints, to_z-of_z}
+use mir.Syntax.{w128}
+use Rattle.num_api.specs.Residues.{InResidue, IsMultiple}
+use Rattle.residues.specs.Class.{residue_of, is_member}
+use Rattle.residues.specs.Classes.{class_of, IsClassOf, IsGreatestDivisor, SharesBy, Meets}
+use Rattle.residues.proofs.Moves.{moved, unmoved}
+use Rattle.residues.proofs.Multiples.{multiple_along, off_from_in, in_from_off}
+use Rattle.residues.proofs.Remainders.{divisor_positive, rem_unique}
+use Rattle.residues.proofs.Lattice.{member_true, member_from}
+use Rattle.residues.proofs.Operators.{one_number}
+use Rattle.residues.proofs.Products.{not_negative_product}
+use Rattle.residues.proofs.Crt.{common_positive, quotient_positive, shares_swap, small_swap, meets_by, meets_itself, meets_point, meets_other_point, shares_from, same_quotient, large_from_unfit, difference_fits}
+use Rattle.residues.proofs.class.meeting.met.Goals as goal
+
+pub returns-then-has-clause-some : goal.returns-then-has-clause-some
+returns-then-has-clause-some c =
+    let a = residue_of c.args.a in
+    let b = residue_of c.args.b in
+    let fa : FitsSigned w128 a.rem = search rules in
+    let fb : FitsSigned w128 b.rem = search rules in
+    let fam : FitsSigned w128 a.modulus = search rules in
+    let fbm : FitsSigned w128 b.modulus = search rules in
+    let e : a.modulus ≡ pos 0 = omega (arith, ints) in
+    let f : c.has.result ≡ is_member b a.rem = simp to_z-of_z at c.has.ensures in
+    meets_point a b e (member_from b a.rem c.args.b.proper (sym f ∙ c.if-has.true))
+
+pub returns-else-has-clause-none : goal.returns-else-has-clause-none
+returns-else-has-clause-none c =
+    let a = residue_of c.args.a in
+    let b = residue_of c.args.b in
+    let fa : FitsSigned w128 a.rem = search rules in
+    let fb : FitsSigned w128 b.rem = search rules in
+    let fam : FitsSigned w128 a.modulus = search rules in
+    let fbm : FitsSigned w128 b.modulus = search rules in
+    let e : a.modulus ≡ pos 0 = omega (arith, ints) in
+    let f : c.has.result ≡ is_member b a.rem = simp to_z-of_z at c.has.ensures in
+    λ n h k.
+    let g : n ≡ a.rem = one_number a n e h in
+    let i = member_true b a.rem c.args.b.proper (subst (λ (t : ℤ). InResidue b t) g k) in
+    clash (sym i ∙ sym f ∙ c.if-has.false)
+  where
+    clash : true ≡ false → ⊥
+    clash q = cc
+
+pub returns-then-has-2-clause-some : goal.returns-then-has-2-clause-some
+returns-then-has-2-clause-some c =
+    let a = residue_of c.args.a in
+    let b = residue_of c.args.b in
+    let fa : FitsSigned w128 a.rem = search rules in
+    let fb : FitsSigned w128 b.rem = search rules in
+    let fam : FitsSigned w128 a.modulus = search rules in
+    let fbm : FitsSigned w128 b.modulus = search rules in
+    let e : b.modulus ≡ pos 0 = omega (arith, ints) in
+    let f : c.has-then-b-eq0.result ≡ is_member a b.rem = simp to_z-of_z at c.has-then-b-eq0.ensures in
+    meets_other_point a b e (member_from a b.rem c.args.a.proper (sym f ∙ c.if-has-2.true))
+
+pub returns-else-has-2-clause-none : goal.returns-else-has-2-clause-none
+returns-else-has-2-clause-none c =
+    let a = residue_of c.args.a in
+    let b = residue_of c.args.b in
+    let fa : FitsSigned w128 a.rem = search rules in
+    let fb : FitsSigned w128 b.rem = search rules in
+    let fam : FitsSigned w128 a.modulus = search rules in
+    let fbm : FitsSigned w128 b.modulus = search rules in
+    let e : b.modulus ≡ pos 0 = omega (arith, ints) in
+    let f : c.has-then-b-eq0.result ≡ is_member a b.rem = simp to_z-of_z at c.has-then-b-eq0.ensures in
+    λ n h k.
+    let g : n ≡ b.rem = one_number b n e k in
+    let i = member_true a b.rem c.args.a.proper (subst (λ (t : ℤ). InResidue a t) g h) in
+    clash (sym i ∙ sym f ∙ c.if-has-2.false)
+  where
+    clash : true ≡ false → ⊥
+    clash q = cc
