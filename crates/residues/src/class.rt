@@ -1,6 +1,6 @@
 // Congruence classes.
 
-ghost use Rattle.std.specs.Prelude.{◌≡◌, ℤ, pos, ◌^◌, ◌≤ℤ◌, ◌<ℤ◌};
+ghost use Rattle.std.specs.Prelude.{◌≡◌, ℤ, pos, ◌^◌, ◌≤ℤ◌, true, false};
 ghost use Rattle.num_api.specs.Residues.{IsResidue};
 
 mod arithmetic;
