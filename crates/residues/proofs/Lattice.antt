@@ -32,16 +32,16 @@ positive_is_not_zero m h = grind (arith, ints)
 pub multiple_of_zero : (a : ℤ) → IsMultiple (pos 0) a → a ≡ pos 0
 multiple_of_zero a (k, p) = p ∙ *ℤ-zero k
 
-by_zero : {P : Type 0} (m : ℤ) → pos 0 ≤ℤ m → (pos 1 ≤ℤ m → P) → (m ≡ pos 0 → P) → P
+pub by_zero : {P : Type 0} (m : ℤ) → pos 0 ≤ℤ m → (pos 1 ≤ℤ m → P) → (m ≡ pos 0 → P) → P
 by_zero (pos zero) h f g = g refl
 by_zero (pos (suc n)) h f g = f (omega (arith, ints))
 by_zero (negsuc n) h f g = absurd (omega (arith, ints))
 
 -- a test of a modulus, by whether it is 0
-test_zero : {A : Type 0} (m : ℤ) (u v : A) → m ≡ pos 0 → (if int_eq m (pos 0) then u else v) ≡ u
+pub test_zero : {A : Type 0} (m : ℤ) (u v : A) → m ≡ pos 0 → (if int_eq m (pos 0) then u else v) ≡ u
 test_zero m u v e = rw (int_eq-true m (pos 0) e) refl
 
-test_positive : {A : Type 0} (m : ℤ) (u v : A) → pos 1 ≤ℤ m → (if int_eq m (pos 0) then u else v) ≡ v
+pub test_positive : {A : Type 0} (m : ℤ) (u v : A) → pos 1 ≤ℤ m → (if int_eq m (pos 0) then u else v) ≡ v
 test_positive m u v h = rw (positive_is_not_zero m h) refl
 
 -- ---- members

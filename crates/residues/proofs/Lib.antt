@@ -8,3 +8,4 @@ pub mod Products
 pub mod Lattice
 pub mod Operators
 pub mod Crt
+pub mod Inward

@@ -2,9 +2,12 @@
 #![tactic(auto)]
 
 mod class;
+mod ends;
 mod numbers;
+mod pair;
 
 pub use class::Class;
+pub use pair::Pair;
 
 #[cfg(test)]
 mod tests;
