@@ -467,3 +467,20 @@ high_stays c n one f h = high_by (λ t. Fin n ≡ t) c n (from_one c.modulus one
 
 pub rest_fits : (x y m : ℤ) → pos 0 ≤ℤ x → x <ℤ m → pos 0 ≤ℤ y → y <ℤ m → m ≤ℤ pos (2 ^ 100) → FitsSigned w128 (x -ℤ y)
 rest_fits x y m a b c d e = omega (arith, ints)
+
+-- ---- ranges inside ranges
+
+pub no_wider_trans : (r s t : Range) → NoWider r s → NoWider s t → NoWider r t
+no_wider_trans r s t h k = record { low = AtMost_trans t.lo s.lo r.lo k.low h.low; high = AtMost_trans r.hi s.hi t.hi h.high k.high }
+
+-- a range that moved holds a number, so it can't hold none
+pub moved_not_empty : (c : Residue) (r : Range) → (inward_range c r ≡ r → ⊥) → ((n : ℤ) → InRange (inward_range c r) n → ⊥) → ⊥
+moved_not_empty c r h none = let between = number_between (inward_range c r).lo (inward_range c r).hi (inward_holds c r h) in none between.0 (record { low = between.1; high = between.2 })
+
+-- a range of one number that is no wider than another one with that number
+pub point_of : (r s : Range) (x : ℤ) → IsPoint r x → NoWider s r → InRange s x → IsPoint s x
+point_of r s x p w h = point_inside r s x p w (holds_number_from s.lo s.hi x h.low h.high)
+
+-- a value whose range moved, and none of whose numbers is in the range it moved to
+pub holds_of : (r : Range) (n : ℤ) → InRange r n → IsTrue (holds_some r)
+holds_of r n h = holds_number_from r.lo r.hi n h.low h.high

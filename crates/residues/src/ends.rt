@@ -1,6 +1,6 @@
 // Ranges whose ends are moved inward to numbers of a class.
 
-ghost use Rattle.std.specs.Prelude.{◌≡◌, pos, ◌≤ℤ◌};
+ghost use Rattle.std.specs.Prelude.{◌≡◌, pos, ◌≤ℤ◌, IsTrue, false};
 ghost use Rattle.num_api.specs.Ranges.{holds_some};
 ghost use Rattle.num_api.specs.Residues.{IsResidue};
 ghost use Rattle.residues.specs.Inward.{inward_low, inward_high, moved_range, inward_range};
@@ -26,6 +26,14 @@ pub fn meets(c: Residue, r: Range) -> bool
     holds_number(moved(c, r))
 }
 
+// Whether two ranges have the same ends.
+pub fn is_same(a: Range, b: Range) -> bool
+    ensures same { IsTrue result → a ≡ b }
+    ensures other { result ≡ false → a ≡ b → ⊥ }
+{
+    a == b
+}
+
 // The range with both ends moved.
 fn moved(c: Residue, r: Range) -> Range
     requires { IsResidue c }
@@ -38,7 +46,7 @@ fn moved(c: Residue, r: Range) -> Range
 }
 
 // Whether the range holds a number.
-fn holds_number(r: Range) -> bool
+pub fn holds_number(r: Range) -> bool
     ensures { result ≡ holds_some r }
 {
     match (r.lo, r.hi) {
