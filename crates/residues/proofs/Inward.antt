@@ -1,6 +1,6 @@
 -- Ends that are moved inward.
 use Rattle.std.proofs.Common.{◌≡◌, ℕ, zero, suc, ◌^◌, ◌%◌, ◌<◌, ◌≤◌, ◌-◌, ℤ, pos, negsuc, ◌+ℤ◌, ◌-ℤ◌, ◌*ℤ◌, neg_ℤ, ◌≤ℤ◌, ◌<ℤ◌, arith, ap, sym, refl, ◌∙◌, subst, ◌⊎◌, ⊎_elim, inl, inr, FitsSigned}
-use Rattle.std.specs.Prelude.{Bool, true, false, IsTrue, if◌then◌else◌}
+use Rattle.std.specs.Prelude.{Bool, true, false, IsTrue, if◌then◌else◌, Option, Some, None, IfSome}
 use Rattle.std.specs.Int.{int_min, int_max, int_rem_euclid}
 use Rattle.std.specs.Int.RustNames.{int_le}
 use Rattle.std.specs.Ordering.{int_eq}
@@ -9,10 +9,10 @@ use mir.Syntax.{w128}
 use Rattle.ext_int.specs.declared.Ext.{Ext}
 use Rattle.ext_int.specs.declared.Ext.TheVariants.{Low, Fin, High}
 use Rattle.ext_int.specs.Ext.{Below, Above, AtMost, holds_number}
-use Rattle.ext_int.proofs.Ends.{AtMost_refl, AtMost_trans, AtMost_antisymm, AtMost-from_below, AtMost-from_above, Below-from_at_most, Above-from_at_most, holds_number_from, number_between}
+use Rattle.ext_int.proofs.Ends.{AtMost_refl, AtMost_trans, AtMost_antisymm, AtMost-from_below, AtMost-from_above, Below-from_at_most, Above-from_at_most, holds_number_from, number_between, lesser_mono, greater_mono}
 use Rattle.num_api.specs.declared.message.Range.{Range}
 use Rattle.num_api.specs.declared.message.Residue.{Residue}
-use Rattle.num_api.specs.Ranges.{InRange, IsPoint, NoWider, holds_some}
+use Rattle.num_api.specs.Ranges.{InRange, IsPoint, NoWider, holds_some, hull}
 use Rattle.num_api.specs.Residues.{InResidue, IsResidue, IsMultiple}
 use Rattle.residues.specs.Classes.{class_of}
 use Rattle.residues.specs.Inward.{next_member, last_member, inward_low, inward_high, moved_range, inward_range, HasNone, IsReduced, HasSome}
@@ -484,3 +484,12 @@ point_of r s x p w h = point_inside r s x p w (holds_number_from s.lo s.hi x h.l
 -- a value whose range moved, and none of whose numbers is in the range it moved to
 pub holds_of : (r : Range) (n : ℤ) → InRange r n → IsTrue (holds_some r)
 holds_of r n h = holds_number_from r.lo r.hi n h.low h.high
+
+-- the hull of narrower ranges is no wider
+pub hull_no_wider : (a b r s : Range) → NoWider a r → NoWider b s → NoWider (hull a b) (hull r s)
+hull_no_wider a b r s h k = record { low = lesser_mono r.lo s.lo a.lo b.lo h.low k.low; high = greater_mono a.hi b.hi r.hi s.hi h.high k.high }
+
+-- what holds where a value is there
+pub if_some_map : {A : Type 0} (P Q : A → Type 0) (o : Option A) → ((a : A) → P a → Q a) → IfSome o P → IfSome o Q
+if_some_map P Q None f h = tt
+if_some_map P Q (Some a) f h = f a h

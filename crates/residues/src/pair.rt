@@ -109,6 +109,88 @@ impl<V: ValueDomain, W: ValueDomain> Pair<V, W> {
     }
 }
 
+impl<V: ValueDomain, W: ValueDomain> ValueDomain for Pair<V, W> {
+    ghost use Rattle.residues.specs.Pair.{bounds_part, class_part, IsInBoth, range_of_pair};
+
+    ghost admits = { IsInBoth V.admits W.admits };
+
+    ghost known = { range_of_pair V.known W.class };
+
+    ghost class = { λ p. W.class (class_part p) };
+
+    ghost holds = { λ p q. V.holds (bounds_part p) (bounds_part q) && W.holds (class_part p) (class_part q) };
+
+    ghost weight = { λ steps p. V.weight steps (bounds_part p) + W.weight steps (class_part p) };
+
+    ghost exact = { V.exact };
+
+    ghost folds = { W.folds };
+
+    fn top() -> Self {
+        Pair {
+            bounds: V::top(),
+            class: W::top(),
+        }
+    }
+
+    fn within(r: Range) -> Option<Self> {
+        match (V::within(r), W::within(r)) {
+            (Some(bounds), Some(class)) => Pair::new(bounds, class),
+            _ => None,
+        }
+    }
+
+    fn range(&self) -> Range {
+        self.ends()
+    }
+
+    fn residue(&self) -> Residue {
+        self.class.residue()
+    }
+
+    fn unary(op: NOp, a: &Self) -> Self {
+        let loose = Pair {
+            bounds: V::unary(op, &a.tight()),
+            class: W::unary(op, &a.class),
+        };
+        loose.kept()
+    }
+
+    fn binary(op: NOp, a: &Self, b: &Self) -> Self {
+        let loose = Pair {
+            bounds: V::binary(op, &a.tight(), &b.tight()),
+            class: W::binary(op, &a.class, &b.class),
+        };
+        loose.kept()
+    }
+
+    fn meet(&self, other: &Self) -> Option<Self> {
+        match (self.tight().meet(&other.tight()), self.class.meet(&other.class)) {
+            (Some(bounds), Some(class)) => Pair::new(bounds, class),
+            _ => None,
+        }
+    }
+
+    fn join(&self, other: &Self) -> Self {
+        let loose = Pair {
+            bounds: self.tight().join(&other.tight()),
+            class: self.class.join(&other.class),
+        };
+        loose.kept()
+    }
+
+    fn widen<U: Fn(i128) -> Option<i128>, S: Steps>(&self, next: &Self, ramp: &Ramp<U>) -> Self {
+        Pair {
+            bounds: self.bounds.widen::<U, S>(&next.bounds, ramp),
+            class: self.class.widen::<U, S>(&next.class, ramp),
+        }
+    }
+
+    fn covers(&self, other: &Self) -> bool {
+        self.bounds.covers(&other.bounds) && self.class.covers(&other.class)
+    }
+}
+
 // Whether the value answers a range with a number.
 fn answers_some<V: ValueDomain>(v: V) -> bool
     ensures value { result ≡ holds_some (V.known v) }

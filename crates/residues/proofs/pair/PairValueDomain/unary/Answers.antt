@@ -1,0 +1,19 @@
+use Rattle.std.proofs.Common.{◌≡◌, ℤ, pos, ap, sym, ◌∙◌, subst}
+use Rattle.std.specs.Prelude.{IsTrue}
+use Rattle.num_api.specs.declared.message.Range.{Range}
+use Rattle.num_api.specs.declared.message.Residue.{Residue}
+use Rattle.num_api.specs.Ranges.{InRange, IsPoint, NoWider, hull}
+use Rattle.num_api.specs.Residues.{IsFoldResidue}
+use Rattle.residues.specs.Pair.{class_part, range_of_pair}
+use Rattle.residues.proofs.Inward.{no_wider_trans, hull_no_wider, if_some_map}
+use Rattle.residues.proofs.pair.PairValueDomain.unary.Goals as goal
+
+pub returns-clause-holds : goal.returns-clause-holds
+returns-clause-holds g c = λ x n h e. c.kept.ensures.holds n (c.unary.ensures.holds x n (c.tight.ensures.holds x h) e, c.unary-2.ensures.holds x n h.1 e)
+
+pub returns-clause-point : goal.returns-clause-point
+returns-clause-point g c = λ x n t p e f. c.kept.ensures.point n t (c.unary.ensures.point x n t (c.tight.ensures.point x t p) e f)
+
+pub returns-clause-plain : goal.returns-clause-plain
+returns-clause-plain g c = λ s r t w fs e fr.
+    no_wider_trans _ _ _ (c.kept.ensures.plain t) (c.unary.ensures.plain s r t (no_wider_trans _ _ _ (c.tight.ensures.plain t) w) fs e fr)
