@@ -73,6 +73,7 @@ impl<V: ValueDomain, W: ValueDomain> Pair<V, W> {
         ensures value { result ≡ range_of_pair V.known W.class self.now }
         ensures proper { IsResidue (W.class (class_part self.now)) }
         ensures holds { (n : ℤ) → IsInBoth V.admits W.admits self.now n → InRange result n }
+        ensures reduced { IsReduced result (W.class (class_part self.now)) }
     {
         inward(self.class.residue(), self.bounds.range())
     }
@@ -140,7 +141,12 @@ impl<V: ValueDomain, W: ValueDomain> ValueDomain for Pair<V, W> {
         }
     }
 
-    fn range(&self) -> Range {
+    /// Each end that is a number is in the class, unless no `i128` of the range is.
+    fn range(&self) -> Range
+        ensures value { result ≡ range_of_pair V.known W.class self.now }
+        ensures holds { (n : ℤ) → IsInBoth V.admits W.admits self.now n → InRange result n }
+        ensures reduced { IsReduced result (W.class (class_part self.now)) }
+    {
         self.ends()
     }
 
