@@ -77,6 +77,8 @@ impl Class {
 impl ValueDomain for Class {
     ghost use Rattle.residues.specs.Class.{residue_of, range_of_class, holds_class, class_weight};
     ghost use Rattle.num_api.specs.Residues.{InResidue};
+    ghost use Rattle.residues.specs.Classes.{Meets};
+    ghost use Rattle.std.specs.Prelude.{IfSome, IfNone};
 
     ghost admits = { λ c n. InResidue (residue_of c) n };
 
@@ -116,7 +118,13 @@ impl ValueDomain for Class {
         binary(op, *a, *b)
     }
 
-    fn meet(&self, other: &Self) -> Option<Self> {
+    /// Exactly the numbers that are in both, where a class of them has a modulus of at most 2^100,
+    /// and else those of the first.
+    fn meet(&self, other: &Self) -> Option<Self>
+        ensures some { IfSome result (λ c. (n : ℤ) → InResidue (residue_of self.now) n → InResidue (residue_of other.now) n → InResidue (residue_of c) n) }
+        ensures none { IfNone result ((n : ℤ) → InResidue (residue_of self.now) n → InResidue (residue_of other.now) n → ⊥) }
+        ensures meets { IfSome result (λ c. Meets (residue_of self.now) (residue_of other.now) (residue_of c)) }
+    {
         met(*self, *other)
     }
 

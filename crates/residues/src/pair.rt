@@ -1,6 +1,6 @@
 // Pairs of a range domain and a class domain.
 
-ghost use Rattle.std.specs.Prelude.{◌≡◌, ℤ, ◌+◌, ◌&&◌, IsTrue, IfSome, IfNone};
+ghost use Rattle.std.specs.Prelude.{◌≡◌, ℤ, pos, ◌+◌, ◌&&◌, IsTrue, IfSome, IfNone};
 ghost use Rattle.num_api.specs.Ranges.{InRange, IsPoint, NoWider, holds_some};
 ghost use Rattle.num_api.specs.Residues.{IsResidue};
 ghost use Rattle.residues.specs.Inward.{moved_range, HasSome, IsReduced};
@@ -134,7 +134,14 @@ impl<V: ValueDomain, W: ValueDomain> ValueDomain for Pair<V, W> {
         }
     }
 
-    fn within(r: Range) -> Option<Self> {
+    /// Of a value that is there, some number of the range is in the class.
+    fn within(r: Range) -> Option<Self>
+        ensures some { IfSome result (λ p. (n : ℤ) → InRange r n → IsInBoth V.admits W.admits p n) }
+        ensures none { IfNone result ((n : ℤ) → InRange r n → ⊥) }
+        ensures plain { IfSome result (λ p. IsTrue V.exact → NoWider (range_of_pair V.known W.class p) r) }
+        ensures fold { IfSome result (λ p. (n : ℤ) → IsTrue W.folds → IsPoint r n → W.class (class_part p) ≡ record { rem = n; modulus = pos 0 }) }
+        ensures shares { IfSome result (λ p. HasSome (range_of_pair V.known W.class p) (W.class (class_part p))) }
+    {
         match (V::within(r), W::within(r)) {
             (Some(bounds), Some(class)) => Pair::new(bounds, class),
             _ => None,
@@ -170,7 +177,13 @@ impl<V: ValueDomain, W: ValueDomain> ValueDomain for Pair<V, W> {
         loose.kept()
     }
 
-    fn meet(&self, other: &Self) -> Option<Self> {
+    /// Of a value that is there, some number of the range is in the class.
+    fn meet(&self, other: &Self) -> Option<Self>
+        ensures some { IfSome result (λ p. (n : ℤ) → IsInBoth V.admits W.admits self.now n → IsInBoth V.admits W.admits other.now n → IsInBoth V.admits W.admits p n) }
+        ensures none { IfNone result ((n : ℤ) → IsInBoth V.admits W.admits self.now n → IsInBoth V.admits W.admits other.now n → ⊥) }
+        ensures plain { IfSome result (λ p. IsTrue V.exact → NoWider (range_of_pair V.known W.class p) (range_of_pair V.known W.class self.now) × NoWider (range_of_pair V.known W.class p) (range_of_pair V.known W.class other.now)) }
+        ensures shares { IfSome result (λ p. HasSome (range_of_pair V.known W.class p) (W.class (class_part p))) }
+    {
         match (self.tight().meet(&other.tight()), self.class.meet(&other.class)) {
             (Some(bounds), Some(class)) => Pair::new(bounds, class),
             _ => None,
