@@ -1,16 +1,16 @@
 -- The Chinese remainder theorem: the numbers that are in two classes.
-use Rattle.std.proofs.Common.{◌≡◌, ℕ, zero, suc, ◌^◌, ◌<◌, ◌≤◌, ◌+◌, ℤ, pos, negsuc, ◌+ℤ◌, ◌-ℤ◌, ◌*ℤ◌, neg_ℤ, ◌≤ℤ◌, ◌<ℤ◌, arith, ap, sym, refl, ◌∙◌, subst}
+use Rattle.std.proofs.Common.{◌≡◌, ◌^◌, ◌≤◌, ◌+◌, ℤ, pos, negsuc, ◌+ℤ◌, ◌-ℤ◌, ◌*ℤ◌, neg_ℤ, ◌≤ℤ◌, ◌<ℤ◌, arith, ap, sym, ◌∙◌, subst}
 use Rattle.std.proofs.lemmas.Int.{ints, by_lt_z, quot-rem, rem_below}
-use Rattle.std.specs.Int.RustNames.{int_div, int_rem, unsigned_abs}
+use Rattle.std.specs.Int.RustNames.{int_div, int_rem}
 use Rattle.std.proofs.Math.Nat.{mul-le-mul_left}
-use Rattle.std.proofs.Math.IntN.{*ℤ_comm, zero-*ℤ, *ℤ-zero}
+use Rattle.std.proofs.Math.IntN.{*ℤ_comm, *ℤ-zero}
 use Rattle.std.proofs.Common.{FitsSigned}
 use mir.Syntax.{w128}
 use Rattle.num_api.specs.declared.message.Residue.{Residue}
-use Rattle.num_api.specs.Residues.{InResidue, IsMultiple, IsResidue}
+use Rattle.num_api.specs.Residues.{InResidue, IsMultiple}
 use Rattle.residues.specs.Classes.{class_of, IsClassOf, IsGreatestDivisor, IsCoprime, IsTurn, SharesBy, IsMeet, Meets, LiesIn}
 use Rattle.residues.proofs.Rings.{add_mul, mul_add, neg_mul, mul_neg, mul_assoc}
-use Rattle.residues.proofs.Multiples.{multiple_along, multiple_add, multiple_sub, multiple_neg, multiple_times, times_multiple, zero_multiple, self_multiple, multiple_trans, multiple_mul, off_from_in, in_from_off, in_itself, in_shifted, in_wider}
+use Rattle.residues.proofs.Multiples.{multiple_along, multiple_add, multiple_sub, multiple_neg, multiple_times, times_multiple, zero_multiple, self_multiple, multiple_trans, multiple_mul, off_from_in, in_from_off, in_itself}
 use Rattle.residues.proofs.Members.{in_class_of}
 use Rattle.residues.proofs.Products.{not_negative_product}
 use Rattle.residues.proofs.Lattice.{multiple_of_zero}
@@ -24,13 +24,13 @@ mul_cancel g a b h e =
     let turned = neg_mul b g in
     by_lt_z a b
     (λ p.
-      let d = times_above (b -ℤ a) g (omega (arith, ints)) (omega (arith, ints)) in
-      let f = add_mul b (neg_ℤ a) g in
-      let k = neg_mul a g in
-      absurd (omega (arith, ints)))
+    let d = times_above (b -ℤ a) g (omega (arith, ints)) (omega (arith, ints)) in
+    let f = add_mul b (neg_ℤ a) g in
+    let k = neg_mul a g in
+    absurd (omega (arith, ints)))
     (λ p. by_lt_z b a
-      (λ q. let d = times_above (a -ℤ b) g (omega (arith, ints)) (omega (arith, ints)) in absurd (omega (arith, ints)))
-      (λ q. omega (arith, ints)))
+    (λ q. let d = times_above (a -ℤ b) g (omega (arith, ints)) (omega (arith, ints)) in absurd (omega (arith, ints)))
+    (λ q. omega (arith, ints)))
 
 pub exact_div : (a d : ℤ) → pos 1 ≤ℤ d → IsMultiple d a → int_div a d *ℤ d ≡ a
 exact_div a d h k =
@@ -113,11 +113,11 @@ pub common_multiple : (m n g q z : ℤ) → IsGreatestDivisor m n g → pos 1 �
 common_multiple m n g q z d h e i j =
     let big = q *ℤ n in
     let by_m : IsMultiple (big *ℤ g) (z *ℤ m) =
-      multiple_along (big *ℤ g) (q *ℤ (z *ℤ g)) (z *ℤ m) (sym (mul_assoc q z g) ∙ ap (λ (t : ℤ). t *ℤ g) (*ℤ_comm q z) ∙ mul_assoc z q g ∙ ap (λ (t : ℤ). z *ℤ t) e)
-      (multiple_along (big *ℤ g) ((q *ℤ z) *ℤ g) (q *ℤ (z *ℤ g)) (mul_assoc q z g) (multiple_mul big g (q *ℤ z) g (multiple_mul q n q z (self_multiple q) j) (self_multiple g))) in
+    multiple_along (big *ℤ g) (q *ℤ (z *ℤ g)) (z *ℤ m) (sym (mul_assoc q z g) ∙ ap (λ (t : ℤ). t *ℤ g) (*ℤ_comm q z) ∙ mul_assoc z q g ∙ ap (λ (t : ℤ). z *ℤ t) e)
+    (multiple_along (big *ℤ g) ((q *ℤ z) *ℤ g) (q *ℤ (z *ℤ g)) (mul_assoc q z g) (multiple_mul big g (q *ℤ z) g (multiple_mul q n q z (self_multiple q) j) (self_multiple g))) in
     let by_n : IsMultiple (big *ℤ g) (z *ℤ n) =
-      multiple_along (big *ℤ g) _ _ (*ℤ_comm n z)
-      (subst (λ (t : ℤ). IsMultiple t (n *ℤ z)) (*ℤ_comm n m ∙ ap (λ (t : ℤ). t *ℤ n) (sym e) ∙ mul_assoc q g n ∙ ap (λ (t : ℤ). q *ℤ t) (*ℤ_comm g n) ∙ sym (mul_assoc q n g)) (multiple_mul n m n z (self_multiple n) i)) in
+    multiple_along (big *ℤ g) _ _ (*ℤ_comm n z)
+    (subst (λ (t : ℤ). IsMultiple t (n *ℤ z)) (*ℤ_comm n m ∙ ap (λ (t : ℤ). t *ℤ n) (sym e) ∙ mul_assoc q g n ∙ ap (λ (t : ℤ). q *ℤ t) (*ℤ_comm g n) ∙ sym (mul_assoc q n g)) (multiple_mul n m n z (self_multiple n) i)) in
     from d.combined by_m by_n
   where
     from : (x : ℤ) × (y : ℤ) × (g ≡ (x *ℤ m) +ℤ (y *ℤ n)) → IsMultiple ((q *ℤ n) *ℤ g) (z *ℤ m) → IsMultiple ((q *ℤ n) *ℤ g) (z *ℤ n) → IsMultiple (q *ℤ n) z
@@ -212,22 +212,22 @@ pub quotient_positive : (p g n : ℤ) → p *ℤ g ≡ n → pos 1 ≤ℤ n → 
 quotient_positive p g n e h k = by_lt_z (pos 0) p
     (λ u. omega (arith, ints))
     (λ u.
-      let v = not_negative_product (neg_ℤ p) g (omega (arith, ints)) (omega (arith, ints)) in
-      let w = neg_mul p g in
-      absurd (omega (arith, ints)))
+    let v = not_negative_product (neg_ℤ p) g (omega (arith, ints)) (omega (arith, ints)) in
+    let w = neg_mul p g in
+    absurd (omega (arith, ints)))
 
 -- the period is small where the least common multiple is a modulus, and the second modulus the smaller one
 pub small_period : (m n g p q : ℤ) → pos 1 ≤ℤ g → pos 1 ≤ℤ n → q *ℤ g ≡ m → p *ℤ g ≡ n → n ≤ℤ m → (q *ℤ n) ≤ℤ pos (2 ^ 100) → p ≤ℤ pos (2 ^ 50)
 small_period m n g p q one pn e f less small = by_lt_z (pos (2 ^ 50)) p
     (λ u.
-      let p1 : pos 1 ≤ℤ p = omega (arith, ints) in
-      let up_to = in_order (p -ℤ q) g one (omega (arith, ints, add_mul p (neg_ℤ q) g, neg_mul q g)) in
-      let ge : pos (2 ^ 50 + 1) ≤ℤ q = omega (arith, ints) in
-      let n_big = times_above g p one (omega (arith, ints)) in
-      let n_is : (g *ℤ p) ≡ n = *ℤ_comm g p ∙ f in
-      let nb : pos (2 ^ 50 + 1) ≤ℤ n = omega (arith, ints) in
-      let wide = wide_product q n ge nb in
-      absurd (omega (arith, ints)))
+    let p1 : pos 1 ≤ℤ p = omega (arith, ints) in
+    let up_to = in_order (p -ℤ q) g one (omega (arith, ints, add_mul p (neg_ℤ q) g, neg_mul q g)) in
+    let ge : pos (2 ^ 50 + 1) ≤ℤ q = omega (arith, ints) in
+    let n_big = times_above g p one (omega (arith, ints)) in
+    let n_is : (g *ℤ p) ≡ n = *ℤ_comm g p ∙ f in
+    let nb : pos (2 ^ 50 + 1) ≤ℤ n = omega (arith, ints) in
+    let wide = wide_product q n ge nb in
+    absurd (omega (arith, ints)))
     (λ u. u)
   where
     in_order : (x y : ℤ) → pos 1 ≤ℤ y → (x *ℤ y) ≤ℤ pos 0 → x ≤ℤ pos 0
@@ -332,8 +332,7 @@ some_number a b g d = from d.shares d.divisor.combined
         let right = j *ℤ (y *ℤ b.modulus) in
         let h : j *ℤ g ≡ left +ℤ right = ap (λ (t : ℤ). j *ℤ t) f ∙ mul_add j (x *ℤ a.modulus) (y *ℤ b.modulus) in
         let k = multiple_times a.modulus j (x *ℤ a.modulus) (multiple_times a.modulus x a.modulus (self_multiple a.modulus)) in
-        let l = multiple_neg b.modulus right (multiple_times b.modulus j (y *ℤ b.modulus) (multiple_times b.modulus y b.modulus (self_multiple b.modulus))) in
-        (
+        let l = multiple_neg b.modulus right (multiple_times b.modulus j (y *ℤ b.modulus) (multiple_times b.modulus y b.modulus (self_multiple b.modulus))) in (
           a.rem +ℤ left,
           in_from_off a.rem a.modulus (a.rem +ℤ left) (multiple_along a.modulus left _ (omega (arith, ints)) k),
           in_from_off b.rem b.modulus (a.rem +ℤ left) (multiple_along b.modulus (neg_ℤ right) _ (omega (arith, ints)) l),

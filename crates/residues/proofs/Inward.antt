@@ -1,14 +1,13 @@
 -- Ends that are moved inward.
-use Rattle.std.proofs.Common.{◌≡◌, ℕ, zero, suc, ◌^◌, ◌%◌, ◌<◌, ◌≤◌, ◌-◌, ℤ, pos, negsuc, ◌+ℤ◌, ◌-ℤ◌, ◌*ℤ◌, neg_ℤ, ◌≤ℤ◌, ◌<ℤ◌, arith, ap, sym, refl, ◌∙◌, subst, ◌⊎◌, ⊎_elim, inl, inr, FitsSigned}
+use Rattle.std.proofs.Common.{◌≡◌, zero, suc, ◌^◌, ◌-◌, ℤ, pos, negsuc, ◌+ℤ◌, ◌-ℤ◌, ◌≤ℤ◌, ◌<ℤ◌, arith, ap, sym, refl, ◌∙◌, subst, ◌⊎◌, inl, inr, FitsSigned}
 use Rattle.std.specs.Prelude.{Bool, true, false, IsTrue, if◌then◌else◌, Option, Some, None, IfSome}
 use Rattle.std.specs.Int.{int_min, int_max, int_rem_euclid}
 use Rattle.std.specs.Int.RustNames.{int_le}
-use Rattle.std.specs.Ordering.{int_eq}
 use Rattle.std.proofs.lemmas.Int.{ints, by_lt_z}
 use mir.Syntax.{w128}
 use Rattle.ext_int.specs.declared.Ext.{Ext}
 use Rattle.ext_int.specs.declared.Ext.TheVariants.{Low, Fin, High}
-use Rattle.ext_int.specs.Ext.{Below, Above, AtMost, holds_number}
+use Rattle.ext_int.specs.Ext.{Below, Above, AtMost}
 use Rattle.ext_int.proofs.Ends.{AtMost_refl, AtMost_trans, AtMost_antisymm, AtMost-from_below, AtMost-from_above, Below-from_at_most, Above-from_at_most, holds_number_from, number_between, lesser_mono, greater_mono}
 use Rattle.num_api.specs.declared.message.Range.{Range}
 use Rattle.num_api.specs.declared.message.Residue.{Residue}
@@ -66,7 +65,7 @@ module _ (c : Residue) (one : pos 1 ≤ℤ c.modulus) where
   next_least n m h k =
       let r = int_rem_euclid (m -ℤ n) c.modulus in
       let same : InResidue (class_of r c.modulus) (c.rem -ℤ n) =
-        in_from_off r c.modulus (c.rem -ℤ n) (multiple_along c.modulus (((m -ℤ n) -ℤ r) -ℤ (m -ℤ c.rem)) _ (turned m n r c.rem) (multiple_sub c.modulus ((m -ℤ n) -ℤ r) (m -ℤ c.rem) (off_from_in r c.modulus (m -ℤ n) (rem_same (m -ℤ n) c.modulus one)) (off_from_in c.rem c.modulus m k))) in
+      in_from_off r c.modulus (c.rem -ℤ n) (multiple_along c.modulus (((m -ℤ n) -ℤ r) -ℤ (m -ℤ c.rem)) _ (turned m n r c.rem) (multiple_sub c.modulus ((m -ℤ n) -ℤ r) (m -ℤ c.rem) (off_from_in r c.modulus (m -ℤ n) (rem_same (m -ℤ n) c.modulus one)) (off_from_in c.rem c.modulus m k))) in
       let e : int_rem_euclid (c.rem -ℤ n) c.modulus ≡ r = rem_unique (c.rem -ℤ n) c.modulus r one same (rem_low (m -ℤ n) c.modulus one) (rem_high (m -ℤ n) c.modulus one) in
       let f = rem_at_most (m -ℤ n) c.modulus (omega (arith, ints)) one in
       subst (λ (t : ℤ). (n +ℤ t) ≤ℤ m) (sym e) (within n m r f)
@@ -81,7 +80,7 @@ module _ (c : Residue) (one : pos 1 ≤ℤ c.modulus) where
   last_greatest n m h k =
       let r = int_rem_euclid (n -ℤ m) c.modulus in
       let same : InResidue (class_of r c.modulus) (n -ℤ c.rem) =
-        in_from_off r c.modulus (n -ℤ c.rem) (multiple_along c.modulus (((n -ℤ m) -ℤ r) +ℤ (m -ℤ c.rem)) _ (turned n m r c.rem) (multiple_add c.modulus ((n -ℤ m) -ℤ r) (m -ℤ c.rem) (off_from_in r c.modulus (n -ℤ m) (rem_same (n -ℤ m) c.modulus one)) (off_from_in c.rem c.modulus m k))) in
+      in_from_off r c.modulus (n -ℤ c.rem) (multiple_along c.modulus (((n -ℤ m) -ℤ r) +ℤ (m -ℤ c.rem)) _ (turned n m r c.rem) (multiple_add c.modulus ((n -ℤ m) -ℤ r) (m -ℤ c.rem) (off_from_in r c.modulus (n -ℤ m) (rem_same (n -ℤ m) c.modulus one)) (off_from_in c.rem c.modulus m k))) in
       let e : int_rem_euclid (n -ℤ c.rem) c.modulus ≡ r = rem_unique (n -ℤ c.rem) c.modulus r one same (rem_low (n -ℤ m) c.modulus one) (rem_high (n -ℤ m) c.modulus one) in
       let f = rem_at_most (n -ℤ m) c.modulus (omega (arith, ints)) one in
       subst (λ (t : ℤ). m ≤ℤ (n -ℤ t)) (sym e) (within n m r f)
@@ -266,14 +265,14 @@ reduced_low c r n h Low q floor =
 reduced_low c r n h (Fin a) q floor =
     low_by (λ e. e ≡ Fin n → InResidue c n ⊎ HasNone r c) c a h
     (λ i e. by_lt_z c.rem a
-      (λ u. inr (λ m inside fits member.
-        let rest : m ≡ c.rem = one_number c m i member in
-        let least : int_max a c.rem ≤ℤ m = subst (λ (t : ℤ). t ≤ℤ m) (sym (fin_same (int_max a c.rem) n e)) (floor m inside) in
-        never c.rem a u (le_trans a (int_max a c.rem) c.rem (max_first a c.rem) (subst (λ (t : ℤ). int_max a c.rem ≤ℤ t) rest least))))
-      (λ u. inl (subst (λ (t : ℤ). InResidue c t) (sym (max_is_second a c.rem u) ∙ fin_same (int_max a c.rem) n e) (in_itself c.rem c.modulus))))
+    (λ u. inr (λ m inside fits member.
+    let rest : m ≡ c.rem = one_number c m i member in
+    let least : int_max a c.rem ≤ℤ m = subst (λ (t : ℤ). t ≤ℤ m) (sym (fin_same (int_max a c.rem) n e)) (floor m inside) in
+    never c.rem a u (le_trans a (int_max a c.rem) c.rem (max_first a c.rem) (subst (λ (t : ℤ). int_max a c.rem ≤ℤ t) rest least))))
+    (λ u. inl (subst (λ (t : ℤ). InResidue c t) (sym (max_is_second a c.rem u) ∙ fin_same (int_max a c.rem) n e) (in_itself c.rem c.modulus))))
     (λ i j e. inl (subst (λ (t : ℤ). InResidue c t) (fin_same (next_member c a) n e) (next_is_member c i a)))
     (λ i j e. inr (λ m inside fits member.
-      too_high m fits (lt_le _ (next_member c a) m j (next_least c i a m (subst (λ (t : ℤ). t ≤ℤ m) (sym (fin_same a n e)) (floor m inside)) member))))
+    too_high m fits (lt_le _ (next_member c a) m j (next_least c i a m (subst (λ (t : ℤ). t ≤ℤ m) (sym (fin_same a n e)) (floor m inside)) member))))
     q
 reduced_low c r n h High q floor = absurd (high_is_none n q)
 
@@ -282,14 +281,14 @@ reduced_high c r n h Low q ceiling = absurd (low_is_none n q)
 reduced_high c r n h (Fin a) q ceiling =
     high_by (λ e. e ≡ Fin n → InResidue c n ⊎ HasNone r c) c a h
     (λ i e. by_lt_z a c.rem
-      (λ u. inr (λ m inside fits member.
-        let rest : m ≡ c.rem = one_number c m i member in
-        let most : m ≤ℤ int_min a c.rem = subst (λ (t : ℤ). m ≤ℤ t) (sym (fin_same (int_min a c.rem) n e)) (ceiling m inside) in
-        never a c.rem u (le_trans c.rem (int_min a c.rem) a (subst (λ (t : ℤ). t ≤ℤ int_min a c.rem) rest most) (min_first a c.rem))))
-      (λ u. inl (subst (λ (t : ℤ). InResidue c t) (sym (min_is_second a c.rem u) ∙ fin_same (int_min a c.rem) n e) (in_itself c.rem c.modulus))))
+    (λ u. inr (λ m inside fits member.
+    let rest : m ≡ c.rem = one_number c m i member in
+    let most : m ≤ℤ int_min a c.rem = subst (λ (t : ℤ). m ≤ℤ t) (sym (fin_same (int_min a c.rem) n e)) (ceiling m inside) in
+    never a c.rem u (le_trans c.rem (int_min a c.rem) a (subst (λ (t : ℤ). t ≤ℤ int_min a c.rem) rest most) (min_first a c.rem))))
+    (λ u. inl (subst (λ (t : ℤ). InResidue c t) (sym (min_is_second a c.rem u) ∙ fin_same (int_min a c.rem) n e) (in_itself c.rem c.modulus))))
     (λ i j e. inl (subst (λ (t : ℤ). InResidue c t) (fin_same (last_member c a) n e) (last_is_member c i a)))
     (λ i j e. inr (λ m inside fits member.
-      too_low m fits (le_lt m (last_member c a) _ (last_greatest c i a m (subst (λ (t : ℤ). m ≤ℤ t) (sym (fin_same a n e)) (ceiling m inside)) member) j)))
+    too_low m fits (le_lt m (last_member c a) _ (last_greatest c i a m (subst (λ (t : ℤ). m ≤ℤ t) (sym (fin_same a n e)) (ceiling m inside)) member) j)))
     q
 reduced_high c r n h High q ceiling =
     no_high_by (λ e. e ≡ Fin n → InResidue c n ⊎ HasNone r c) c h
@@ -371,10 +370,10 @@ some_between c (Fin k) (Fin h) n p one low high =
     (λ i b. absurd (never_zero c.modulus one i))
     (λ i j b. has_by c (record { lo = Fin k; hi = Fin h }) (next_member c k) p.not_negative (record { low = next_above c one k; high = le_trans (next_member c k) n h b to_h }) (next_is_member c one k))
     (λ i j b. high_by (λ e. Above e n → S) c h p.not_negative
-      (λ u a. absurd (never_zero c.modulus one u))
-      (λ u v a. has_by c (record { lo = Fin k; hi = Fin h }) (last_member c h) p.not_negative (record { low = le_trans k n (last_member c h) from_k a; high = last_below c one h }) (last_is_member c one h))
-      (λ u v a. absurd (too_wide (next_member c k) (last_member c h) c.modulus (neighbours c k h one (le_trans k n h from_k to_h)) j v p.bounded))
-      high)
+    (λ u a. absurd (never_zero c.modulus one u))
+    (λ u v a. has_by c (record { lo = Fin k; hi = Fin h }) (last_member c h) p.not_negative (record { low = le_trans k n (last_member c h) from_k a; high = last_below c one h }) (last_is_member c one h))
+    (λ u v a. absurd (too_wide (next_member c k) (last_member c h) c.modulus (neighbours c k h one (le_trans k n h from_k to_h)) j v p.bounded))
+    high)
     low
   where
     never_zero : (m : ℤ) → pos 1 ≤ℤ m → m ≡ pos 0 → ⊥
@@ -389,9 +388,9 @@ moved_has_some c r p h =
     by_zero c.modulus p.not_negative
     (λ one. some_between c r.lo r.hi between.0 p one between.1 between.2)
     (λ z.
-      let low = zero_low c r.lo between.0 p.not_negative z between.1 in
-      let high = zero_high c r.hi between.0 p.not_negative z between.2 in
-      (between.0, record { low = between.1; high = between.2 }, subst (λ (t : ℤ). InResidue c t) (le_both c.rem between.0 low high) (in_itself c.rem c.modulus)))
+    let low = zero_low c r.lo between.0 p.not_negative z between.1 in
+    let high = zero_high c r.hi between.0 p.not_negative z between.2 in
+    (between.0, record { low = between.1; high = between.2 }, subst (λ (t : ℤ). InResidue c t) (le_both c.rem between.0 low high) (in_itself c.rem c.modulus)))
   where
     le_both : (n x : ℤ) → n ≤ℤ x → x ≤ℤ n → n ≡ x
     le_both n x h k = omega (arith, ints)

@@ -1,6 +1,6 @@
 -- Classes in classes, and their weight.
-use Rattle.std.proofs.Common.{◌≡◌, ℕ, zero, suc, ◌+◌, ◌<◌, ◌≤◌, ℤ, pos, negsuc, ◌+ℤ◌, ◌-ℤ◌, ◌*ℤ◌, neg_ℤ, ◌≤ℤ◌, ◌<ℤ◌, ◌^◌, arith, ap, sym, refl, ◌∙◌, subst, ◌⊎◌, ⊎_elim, inl, inr}
-use Rattle.std.specs.Prelude.{Bool, true, false, IsTrue, if◌then◌else◌, ◌&&◌, Option, Some, None, IfSome}
+use Rattle.std.proofs.Common.{◌≡◌, ℕ, zero, suc, ◌+◌, ◌<◌, ◌≤◌, ℤ, pos, negsuc, ◌+ℤ◌, ◌-ℤ◌, neg_ℤ, ◌≤ℤ◌, ◌^◌, arith, ap, sym, refl, ◌∙◌, subst, ◌⊎◌, ⊎_elim, inl, inr}
+use Rattle.std.specs.Prelude.{Bool, true, false, if◌then◌else◌, ◌&&◌, Option, Some, None, IfSome}
 use Rattle.std.specs.Option.{SomeIff}
 use Rattle.std.specs.Ordering.{int_eq}
 use Rattle.std.specs.Int.{int_rem_euclid}
@@ -13,8 +13,8 @@ use Rattle.num_api.specs.Residues.{InResidue, IsMultiple, IsResidue}
 use Rattle.residues.specs.declared.class.Class.{Class}
 use Rattle.residues.specs.Class.{residue_of, is_member, divides, holds_class, class_weight}
 use Rattle.residues.specs.Classes.{class_of, IsClassOf, LiesIn, IsGreatestDivisor, IsCommonStep, IsGap}
-use Rattle.residues.proofs.Multiples.{multiple_along, multiple_add, multiple_sub, multiple_neg, multiple_times, zero_multiple, self_multiple, multiple_trans, off_from_in, in_from_off, in_itself, in_shifted, in_wider, in_difference}
-use Rattle.residues.proofs.Remainders.{rem_same, rem_unique, divisor_positive, divisor_bound}
+use Rattle.residues.proofs.Multiples.{multiple_along, multiple_add, multiple_sub, multiple_neg, zero_multiple, self_multiple, multiple_trans, off_from_in, in_from_off, in_itself, in_shifted, in_difference}
+use Rattle.residues.proofs.Remainders.{rem_same, rem_unique, divisor_bound}
 use Rattle.residues.proofs.Members.{in_class_of, in_from_lies}
 
 -- ---- tests
@@ -51,19 +51,19 @@ member_true r n p h =
     by_zero r.modulus p.not_negative
     (λ i. test_positive r.modulus _ _ i ∙ int_eq-true _ _ (rem_unique n r.modulus r.rem i h (p.rem_low i) (p.rem_high i)))
     (λ i.
-      let off : IsMultiple (pos 0) (n -ℤ r.rem) = subst (λ (t : ℤ). IsMultiple t (n -ℤ r.rem)) i (off_from_in r.rem r.modulus n h) in
-      let e = multiple_of_zero (n -ℤ r.rem) off in
-      test_zero r.modulus _ _ i ∙ int_eq-true n r.rem (omega (arith, ints)))
+    let off : IsMultiple (pos 0) (n -ℤ r.rem) = subst (λ (t : ℤ). IsMultiple t (n -ℤ r.rem)) i (off_from_in r.rem r.modulus n h) in
+    let e = multiple_of_zero (n -ℤ r.rem) off in
+    test_zero r.modulus _ _ i ∙ int_eq-true n r.rem (omega (arith, ints)))
 
 pub member_from : (r : Residue) (n : ℤ) → IsResidue r → is_member r n ≡ true → InResidue r n
 member_from r n p e =
     by_zero r.modulus p.not_negative
     (λ i.
-      let d : int_rem_euclid n r.modulus ≡ r.rem = int_eq-from _ _ (sym (test_positive r.modulus _ _ i) ∙ e) in
-      subst (λ (t : ℤ). InResidue (class_of t r.modulus) n) d (rem_same n r.modulus i))
+    let d : int_rem_euclid n r.modulus ≡ r.rem = int_eq-from _ _ (sym (test_positive r.modulus _ _ i) ∙ e) in
+    subst (λ (t : ℤ). InResidue (class_of t r.modulus) n) d (rem_same n r.modulus i))
     (λ i.
-      let d : n ≡ r.rem = int_eq-from _ _ (sym (test_zero r.modulus _ _ i) ∙ e) in
-      subst (λ (t : ℤ). InResidue r t) (sym d) (in_itself r.rem r.modulus))
+    let d : n ≡ r.rem = int_eq-from _ _ (sym (test_zero r.modulus _ _ i) ∙ e) in
+    subst (λ (t : ℤ). InResidue r t) (sym d) (in_itself r.rem r.modulus))
 
 pub divides_true : (m n : ℤ) → pos 0 ≤ℤ m → IsMultiple m n → divides m n ≡ true
 divides_true m n p h =
@@ -75,12 +75,12 @@ pub divides_from : (m n : ℤ) → pos 0 ≤ℤ m → divides m n ≡ true → I
 divides_from m n p e =
     by_zero m p
     (λ i.
-      let d : int_rem_euclid n m ≡ pos 0 = int_eq-from _ _ (sym (test_positive m _ _ i) ∙ e) in
-      let same : InResidue (class_of (pos 0) m) n = subst (λ (t : ℤ). InResidue (class_of t m) n) d (rem_same n m i) in
-      multiple_along m (n -ℤ pos 0) n (omega (arith, ints)) (off_from_in (pos 0) m n same))
+    let d : int_rem_euclid n m ≡ pos 0 = int_eq-from _ _ (sym (test_positive m _ _ i) ∙ e) in
+    let same : InResidue (class_of (pos 0) m) n = subst (λ (t : ℤ). InResidue (class_of t m) n) d (rem_same n m i) in
+    multiple_along m (n -ℤ pos 0) n (omega (arith, ints)) (off_from_in (pos 0) m n same))
     (λ i.
-      let d : n ≡ pos 0 = int_eq-from _ _ (sym (test_zero m _ _ i) ∙ e) in
-      multiple_along m (pos 0) n (sym d) (zero_multiple m))
+    let d : n ≡ pos 0 = int_eq-from _ _ (sym (test_zero m _ _ i) ∙ e) in
+    multiple_along m (pos 0) n (sym d) (zero_multiple m))
 
 both_true : (a b : Bool) → a ≡ true → b ≡ true → (a && b) ≡ true
 both_true a b e f = grind arith
@@ -109,16 +109,16 @@ pub weight_bound : (r s : Residue) → IsResidue r → IsResidue s → LiesIn r 
 weight_bound r s p q d =
     by_zero s.modulus q.not_negative
     (λ j. by_zero r.modulus p.not_negative
-      (λ i.
-        let e : class_weight s ≡ unsigned_abs s.modulus = test_positive s.modulus _ _ j in
-        let f : class_weight r ≡ unsigned_abs r.modulus = test_positive r.modulus _ _ i in
-        let g = divisor_bound s.modulus r.modulus d.divides i q.not_negative in
-        compared s.modulus r.modulus (class_weight s) (class_weight r) q.not_negative g e f)
-      (λ i.
-        let e : class_weight s ≡ unsigned_abs s.modulus = test_positive s.modulus _ _ j in
-        let f : class_weight r ≡ 2 ^ 100 + 1 = test_zero r.modulus _ _ i in
-        let g = q.bounded in
-        inl (omega (arith, ints))))
+    (λ i.
+    let e : class_weight s ≡ unsigned_abs s.modulus = test_positive s.modulus _ _ j in
+    let f : class_weight r ≡ unsigned_abs r.modulus = test_positive r.modulus _ _ i in
+    let g = divisor_bound s.modulus r.modulus d.divides i q.not_negative in
+    compared s.modulus r.modulus (class_weight s) (class_weight r) q.not_negative g e f)
+    (λ i.
+    let e : class_weight s ≡ unsigned_abs s.modulus = test_positive s.modulus _ _ j in
+    let f : class_weight r ≡ 2 ^ 100 + 1 = test_zero r.modulus _ _ i in
+    let g = q.bounded in
+    inl (omega (arith, ints))))
     (λ j. inr (multiple_of_zero r.modulus (subst (λ (t : ℤ). IsMultiple t r.modulus) j d.divides) ∙ sym j))
   where
     compared : (m n : ℤ) (u v : ℕ) → pos 0 ≤ℤ m → m ≤ℤ n → u ≡ unsigned_abs m → v ≡ unsigned_abs n → (u < v) ⊎ (n ≡ m)
@@ -136,10 +136,10 @@ pub weight_falls : (r s t : Residue) → IsResidue r → IsResidue t → LiesIn 
 weight_falls r s t p q d e f = ⊎_elim
     (λ (h : class_weight t < class_weight r). h)
     (λ (h : r.modulus ≡ t.modulus).
-      let back : InResidue r t.rem = in_from_off r.rem r.modulus t.rem (multiple_along r.modulus (neg_ℤ (r.rem -ℤ t.rem)) _ (omega (arith, ints)) (multiple_neg r.modulus (r.rem -ℤ t.rem) (subst (λ (u : ℤ). IsMultiple u (r.rem -ℤ t.rem)) (sym h) (off_from_in t.rem t.modulus r.rem d.contains)))) in
-      let lies : LiesIn t r = record { divides = subst (λ (u : ℤ). IsMultiple r.modulus u) h (self_multiple r.modulus); contains = back } in
-      let inside : LiesIn s r = record { divides = subst (λ (u : ℤ). IsMultiple u s.modulus) (sym h) e.divides; contains = in_from_lies t r s.rem lies e.contains } in
-      absurd (clash (holds_class r s) (holds_from_lies r s p inside) f))
+    let back : InResidue r t.rem = in_from_off r.rem r.modulus t.rem (multiple_along r.modulus (neg_ℤ (r.rem -ℤ t.rem)) _ (omega (arith, ints)) (multiple_neg r.modulus (r.rem -ℤ t.rem) (subst (λ (u : ℤ). IsMultiple u (r.rem -ℤ t.rem)) (sym h) (off_from_in t.rem t.modulus r.rem d.contains)))) in
+    let lies : LiesIn t r = record { divides = subst (λ (u : ℤ). IsMultiple r.modulus u) h (self_multiple r.modulus); contains = back } in
+    let inside : LiesIn s r = record { divides = subst (λ (u : ℤ). IsMultiple u s.modulus) (sym h) e.divides; contains = in_from_lies t r s.rem lies e.contains } in
+    absurd (clash (holds_class r s) (holds_from_lies r s p inside) f))
     (weight_bound r t p q d)
   where
     clash : (b : Bool) → b ≡ true → b ≡ false → ⊥

@@ -1,10 +1,10 @@
 -- What a class holds.
-use Rattle.std.proofs.Common.{◌≡◌, ℤ, pos, ◌+ℤ◌, ◌-ℤ◌, ◌*ℤ◌, ◌≤ℤ◌, ◌<ℤ◌, ◌^◌, arith, ap, sym, refl, ◌∙◌, subst}
+use Rattle.std.proofs.Common.{ℤ, ◌-ℤ◌, arith, sym, refl, subst}
 use Rattle.std.proofs.lemmas.Int.{ints}
 use Rattle.num_api.specs.declared.message.Residue.{Residue}
 use Rattle.num_api.specs.Residues.{InResidue, IsMultiple, IsFoldResidue}
 use Rattle.residues.specs.Classes.{class_of, IsClassOf, LiesIn}
-use Rattle.residues.proofs.Multiples.{multiple_along, multiple_add, multiple_sub, multiple_times, zero_multiple, multiple_trans, off_from_in, in_from_off, in_itself, in_shifted, in_wider}
+use Rattle.residues.proofs.Multiples.{multiple_along, multiple_sub, multiple_trans, off_from_in, in_itself, in_shifted, in_wider}
 
 pub is_class_of : (rem m s : ℤ) → InResidue (class_of s m) rem → IsClassOf rem m (class_of s m)
 is_class_of rem m s h = record { modulus_is = refl; contains = h }
@@ -23,8 +23,8 @@ fold_class_of c rem m r d h k =
     let modulus : IsMultiple c r.modulus = multiple_along c m r.modulus (sym d.modulus_is) k in
     record {
       rem =
-        multiple_along c (rem -ℤ (rem -ℤ r.rem)) r.rem (omega (arith, ints))
-        (multiple_sub c rem (rem -ℤ r.rem) h (multiple_trans c r.modulus (rem -ℤ r.rem) modulus (off_from_in r.rem r.modulus rem d.contains)));
+          multiple_along c (rem -ℤ (rem -ℤ r.rem)) r.rem (omega (arith, ints))
+          (multiple_sub c rem (rem -ℤ r.rem) h (multiple_trans c r.modulus (rem -ℤ r.rem) modulus (off_from_in r.rem r.modulus rem d.contains)));
       modulus = modulus;
     }
 

@@ -1,5 +1,5 @@
 -- A number that went through the code as 128 bits is the same number.
-use Rattle.std.proofs.Common.{◌≡◌, ℤ, sym, subst, FitsSigned, to_z, of_z}
+use Rattle.std.proofs.Common.{ℤ, sym, subst, FitsSigned, to_z, of_z}
 use Rattle.std.proofs.lemmas.Int.{to_z-of_z}
 use mir.Syntax.{w128}
 

@@ -1,5 +1,5 @@
 -- What operators make of the numbers of classes.
-use Rattle.std.proofs.Common.{◌≡◌, ℕ, zero, suc, ◌^◌, ℤ, pos, negsuc, ◌+ℤ◌, ◌-ℤ◌, ◌*ℤ◌, neg_ℤ, ◌≤ℤ◌, ◌<ℤ◌, arith, ap, sym, refl, ◌∙◌, subst}
+use Rattle.std.proofs.Common.{◌≡◌, ℕ, ◌^◌, ℤ, pos, negsuc, ◌+ℤ◌, ◌-ℤ◌, ◌*ℤ◌, neg_ℤ, arith, ap, sym, ◌∙◌, subst}
 use Rattle.std.specs.Prelude.{Option, Some, None, IfSome}
 use Rattle.std.proofs.Common.{◌<◌, ◌*◌, ◌%◌, to_z}
 use Rattle.std.proofs.lemmas.Int.{ints, to_z_pos}
@@ -7,9 +7,9 @@ use Rattle.std.proofs.lemmas.Nat.{pow_below}
 use mir.Syntax.{w128}
 use Rattle.num_api.specs.declared.message.Residue.{Residue}
 use Rattle.num_api.specs.declared.expr.NOp.{NOp}
-use Rattle.num_api.specs.declared.expr.NOp.TheVariants.{Neg, Add, Sub, Mul, Shl, Rem}
+use Rattle.num_api.specs.declared.expr.NOp.TheVariants.{Neg, Add, Sub, Mul, Shl}
 use Rattle.num_api.specs.Residues.{InResidue, IsMultiple, IsFoldResidue}
-use Rattle.num_api.specs.Value.{unary_value, binary_value, shifted_left}
+use Rattle.num_api.specs.Value.{unary_value, binary_value}
 use Rattle.residues.specs.Classes.{class_of, IsByCommonStep}
 use Rattle.residues.proofs.Multiples.{zero_multiple, off_from_in, in_from_off, in_itself}
 use Rattle.residues.proofs.Steps.{sum_holds, difference_holds}

@@ -1,13 +1,12 @@
 -- Products of classes.
-use Rattle.std.proofs.Common.{◌≡◌, ℕ, zero, suc, ℤ, pos, negsuc, ◌+ℤ◌, ◌-ℤ◌, ◌*ℤ◌, neg_ℤ, ◌≤ℤ◌, ◌<ℤ◌, ◌^◌, arith, ap, sym, refl, ◌∙◌, subst, ◌⊎◌, ⊎_elim, inl, inr, FitsSigned}
+use Rattle.std.proofs.Common.{◌≡◌, ℤ, pos, negsuc, ◌+ℤ◌, ◌-ℤ◌, ◌*ℤ◌, neg_ℤ, ◌≤ℤ◌, ◌^◌, arith, sym, refl, subst, ◌⊎◌, ⊎_elim, inl, inr, FitsSigned}
 use Rattle.std.proofs.lemmas.Int.{ints, quot-rem, by_lt_z, fits_signed_mul}
-use Rattle.std.specs.Int.RustNames.{int_div, int_rem, unsigned_abs}
+use Rattle.std.specs.Int.RustNames.{int_div, int_rem}
 use Rattle.std.specs.Ordering.{int_eq}
 use Rattle.std.specs.Prelude.{Bool, true, false, if◌then◌else◌}
-use Rattle.std.proofs.Common.{◌<◌, ◌≤◌, ◌*◌, lit<}
+use Rattle.std.proofs.Common.{lit<}
 use Rattle.num_api.specs.Value.{binary_value}
 use Rattle.num_api.specs.declared.expr.NOp.TheVariants.{Rem}
-use Rattle.std.proofs.Math.IntN.{*ℤ-zero}
 use mir.Syntax.{w128}
 use Rattle.num_api.specs.declared.message.Residue.{Residue}
 use Rattle.num_api.specs.Residues.{InResidue, IsMultiple, IsFoldResidue}
@@ -15,9 +14,8 @@ use Rattle.num_api.specs.Fold.{IsAlignment}
 use Rattle.std.specs.Prelude.{Option, Some, None, IfSome}
 use Rattle.residues.specs.Class.{residue_of}
 use Rattle.residues.specs.declared.class.Class.{Class}
-use Rattle.residues.specs.Classes.{class_of, IsClassOf, IsGreatestDivisor, IsProductBy}
-use Rattle.residues.proofs.Multiples.{multiple_along, multiple_add, multiple_sub, multiple_neg, multiple_times, times_multiple, zero_multiple, self_multiple, multiple_trans, multiple_mul, in_product, in_wider, in_shifted, off_from_in, in_from_off, in_itself}
-use Rattle.residues.proofs.Remainders.{divisor_bound, divisor_positive}
+use Rattle.residues.specs.Classes.{IsClassOf, IsGreatestDivisor, IsProductBy}
+use Rattle.residues.proofs.Multiples.{multiple_along, multiple_add, multiple_neg, multiple_times, times_multiple, zero_multiple, multiple_trans, multiple_mul, in_product, in_wider, in_shifted, off_from_in, in_from_off, in_itself}
 use Rattle.residues.proofs.Members.{in_class_of, fold_class_of}
 use Rattle.residues.proofs.Steps.{divides_greatest}
 

@@ -1,12 +1,12 @@
 -- Remainders from 0 to the modulus less one, and the greatest common divisor.
-use Rattle.std.proofs.Common.{◌≡◌, ℕ, zero, suc, ◌+◌, ◌-◌, ◌*◌, ◌/◌, ◌%◌, ◌<◌, ◌≤◌, ℤ, pos, negsuc, ◌+ℤ◌, ◌-ℤ◌, ◌*ℤ◌, neg_ℤ, ◌≤ℤ◌, ◌<ℤ◌, arith, ap, sym, ◌∙◌, refl, subst}
+use Rattle.std.proofs.Common.{◌≡◌, zero, suc, ◌/◌, ℤ, pos, negsuc, ◌+ℤ◌, ◌-ℤ◌, ◌*ℤ◌, neg_ℤ, ◌≤ℤ◌, ◌<ℤ◌, arith, ap, sym, ◌∙◌}
 use Rattle.std.proofs.lemmas.Int.{ints}
 use Rattle.std.specs.Int.{int_rem_euclid}
 use Rattle.std.proofs.Math.IntN.{*ℤ_comm, zero-*ℤ}
 use Rattle.num_api.specs.Residues.{InResidue, IsMultiple}
 use Rattle.residues.specs.Classes.{class_of, IsGreatestDivisor}
-use Rattle.residues.proofs.Rings.{add_mul, mul_add, neg_mul, mul_neg, mul_assoc}
-use Rattle.residues.proofs.Multiples.{multiple_along, multiple_add, multiple_sub, multiple_times, zero_multiple, self_multiple, multiple_trans, off_from_in, in_from_off}
+use Rattle.residues.proofs.Rings.{add_mul, mul_add, neg_mul, mul_assoc}
+use Rattle.residues.proofs.Multiples.{multiple_along, multiple_add, multiple_sub, multiple_times, zero_multiple, self_multiple, off_from_in}
 
 -- ---- remainders
 

@@ -1,12 +1,12 @@
 -- Steps that divide two moduli.
-use Rattle.std.proofs.Common.{◌≡◌, ℕ, zero, suc, ℤ, pos, negsuc, ◌+ℤ◌, ◌-ℤ◌, ◌*ℤ◌, neg_ℤ, ◌≤ℤ◌, ◌<ℤ◌, ◌^◌, arith, ap, sym, refl, ◌∙◌, subst, ◌⊎◌, ⊎_elim, inl, inr}
+use Rattle.std.proofs.Common.{◌≡◌, zero, suc, ℤ, pos, negsuc, ◌+ℤ◌, ◌-ℤ◌, ◌*ℤ◌, ◌≤ℤ◌, ◌^◌, arith, ap, sym, refl, ◌∙◌, subst, inl, inr}
 use Rattle.std.proofs.lemmas.Int.{ints}
 use Rattle.std.proofs.Math.IntN.{*ℤ-zero}
 use Rattle.num_api.specs.declared.message.Residue.{Residue}
 use Rattle.num_api.specs.Residues.{InResidue, IsMultiple, IsFoldResidue}
 use Rattle.num_api.specs.Fold.{IsAlignment}
 use Rattle.residues.specs.Classes.{class_of, IsClassOf, IsGreatestDivisor, IsCommonStep, IsByCommonStep}
-use Rattle.residues.proofs.Multiples.{multiple_along, multiple_add, multiple_sub, multiple_times, zero_multiple, self_multiple, multiple_trans, in_sum, in_difference, in_wider, in_shifted}
+use Rattle.residues.proofs.Multiples.{multiple_along, multiple_add, multiple_times, multiple_trans, in_sum, in_difference, in_wider}
 use Rattle.residues.proofs.Remainders.{divisor_bound}
 use Rattle.residues.proofs.Members.{in_class_of, fold_class_of}
 
@@ -37,8 +37,8 @@ greatest_bound m n g d h i j k =
     by_zero m h
     (λ p. let e = divisor_bound g m d.first p d.not_negative in omega (arith, ints))
     (λ p. by_zero n j
-      (λ q. let e = divisor_bound g n d.second q d.not_negative in omega (arith, ints))
-      (λ q. let e = greatest_of_zeros m n g d p q in omega (arith, ints)))
+    (λ q. let e = divisor_bound g n d.second q d.not_negative in omega (arith, ints))
+    (λ q. let e = greatest_of_zeros m n g d p q in omega (arith, ints)))
 
 pub common_from_greatest : (m n g : ℤ) → IsGreatestDivisor m n g → pos 0 ≤ℤ m → m ≤ℤ pos (2 ^ 100) → pos 0 ≤ℤ n → n ≤ℤ pos (2 ^ 100) → IsCommonStep m n g
 common_from_greatest m n g d h i j k = record {

@@ -1,6 +1,6 @@
 -- Classes of numbers that are the same up to a multiple of a modulus, and common divisors.
 use Rattle.std.specs.Prelude.{ℤ, pos, ◌≡◌, ◌+ℤ◌, ◌-ℤ◌, ◌*ℤ◌, ◌≤ℤ◌, ◌<ℤ◌, ◌^◌}
-use Rattle.num_api.specs.Residues.{InResidue, IsResidue, IsMultiple, IsFoldResidue}
+use Rattle.num_api.specs.Residues.{InResidue, IsResidue, IsMultiple}
 use Rattle.num_api.specs.Fold.{IsAlignment}
 use Rattle.num_api.specs.declared.message.Residue.{Residue}
 

@@ -184,7 +184,10 @@ impl<V: ValueDomain, W: ValueDomain> ValueDomain for Pair<V, W> {
         ensures plain { IfSome result (λ p. IsTrue V.exact → NoWider (range_of_pair V.known W.class p) (range_of_pair V.known W.class self.now) × NoWider (range_of_pair V.known W.class p) (range_of_pair V.known W.class other.now)) }
         ensures shares { IfSome result (λ p. HasSome (range_of_pair V.known W.class p) (W.class (class_part p))) }
     {
-        match (self.tight().meet(&other.tight()), self.class.meet(&other.class)) {
+        match (
+            self.tight().meet(&other.tight()),
+            self.class.meet(&other.class),
+        ) {
             (Some(bounds), Some(class)) => Pair::new(bounds, class),
             _ => None,
         }

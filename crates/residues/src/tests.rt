@@ -145,7 +145,11 @@ fn operators(rt: HostRuntime) {
     ];
     for (op, a, b, expected) in rows {
         let result = Class::binary(op, &class(a.0, a.1), &class(b.0, b.1));
-        assert_eq!(rt; result, class(expected.0, expected.1), "{op:?} of {a:?} and {b:?}");
+        assert_eq!(rt;
+            result,
+            class(expected.0, expected.1),
+            "{op:?} of {a:?} and {b:?}"
+        );
     }
     let rows = [
         (NOp::Neg, (1, 3), (2, 3)),
@@ -188,7 +192,11 @@ fn lattice(rt: HostRuntime) {
         let (left, right) = (class(a.0, a.1), class(b.0, b.1));
         let met = met.map(|m: (i128, i128)| class(m.0, m.1));
         assert_eq!(rt; left.meet(&right), met, "{a:?} met with {b:?}");
-        assert_eq!(rt; left.join(&right), class(joined.0, joined.1), "{a:?} joined with {b:?}");
+        assert_eq!(rt;
+            left.join(&right),
+            class(joined.0, joined.1),
+            "{a:?} joined with {b:?}"
+        );
         assert_eq!(rt; left.covers(&right), covers, "{a:?} covers {b:?}");
     }
 }
@@ -199,13 +207,43 @@ fn class_calls(rt: HostRuntime) {
         rem: 6,
         modulus: 15,
     });
-    assert_eq!(rt; given.residue(), Residue { rem: 6, modulus: 15 });
+    assert_eq!(rt;
+        given.residue(),
+        Residue {
+            rem: 6,
+            modulus: 15
+        }
+    );
     assert_eq!(rt; given.range(), ALL);
-    assert_eq!(rt; class(-3, 0).range(), Range { lo: Fin(-3), hi: Fin(-3) });
+    assert_eq!(rt;
+        class(-3, 0).range(),
+        Range {
+            lo: Fin(-3),
+            hi: Fin(-3)
+        }
+    );
     assert_eq!(rt; Class::top(), class(0, 1));
-    assert_eq!(rt; Class::within(Range { lo: Fin(7), hi: Fin(7) }), Some(class(7, 0)));
-    assert_eq!(rt; Class::within(Range { lo: Fin(7), hi: High }), Some(class(0, 1)));
-    assert_eq!(rt; Class::within(Range { lo: Fin(7), hi: Fin(6) }), None);
+    assert_eq!(rt;
+        Class::within(Range {
+            lo: Fin(7),
+            hi: Fin(7)
+        }),
+        Some(class(7, 0))
+    );
+    assert_eq!(rt;
+        Class::within(Range {
+            lo: Fin(7),
+            hi: High
+        }),
+        Some(class(0, 1))
+    );
+    assert_eq!(rt;
+        Class::within(Range {
+            lo: Fin(7),
+            hi: Fin(6)
+        }),
+        None
+    );
     let scaled = Class::binary(NOp::Mul, &class(4, 0), &Class::top());
     assert_eq!(rt; Class::binary(NOp::Add, &scaled, &class(8, 0)), class(0, 4));
 }
@@ -238,7 +276,12 @@ fn pairs(rt: HostRuntime) {
         (Low, Fin(10), (3, 4), Some((Low, Fin(7)))),
         (Low, High, (5, 0), Some((Fin(5), Fin(5)))),
         (Fin(6), High, (5, 0), None),
-        (Fin(max), High, (5, GREATEST_MODULUS), Some((Fin(max), High))),
+        (
+            Fin(max),
+            High,
+            (5, GREATEST_MODULUS),
+            Some((Fin(max), High)),
+        ),
         (Fin(3), Fin(3), (3, 5), Some((Fin(3), Fin(3)))),
     ];
     for (lo, hi, c, expected) in rows {
@@ -258,7 +301,10 @@ fn pair_calls(rt: HostRuntime) {
     assert_eq!(rt; all.residue(), ANY);
     assert!(rt; all.covers(&all));
     let fours = Pair::new(bounds(Low, High), class(0, 4));
-    let some = Pair::<Stretch, Class>::within(Range { lo: Fin(5), hi: Fin(7) });
+    let some = Pair::<Stretch, Class>::within(Range {
+        lo: Fin(5),
+        hi: Fin(7),
+    });
     if let (Some(fours), Some(some)) = (fours, some) {
         assert!(rt; some.meet(&fours).is_none());
         assert!(rt; fours.meet(&fours).is_some());
@@ -266,6 +312,9 @@ fn pair_calls(rt: HostRuntime) {
         assert_eq!(rt; some.join(&fours).range(), ALL);
         let sum = Pair::binary(NOp::Add, &fours, &fours);
         assert_eq!(rt; sum.residue(), Residue { rem: 0, modulus: 4 });
-        assert_eq!(rt; Pair::unary(NOp::Neg, &fours).residue(), Residue { rem: 0, modulus: 4 });
+        assert_eq!(rt;
+            Pair::unary(NOp::Neg, &fours).residue(),
+            Residue { rem: 0, modulus: 4 }
+        );
     }
 }

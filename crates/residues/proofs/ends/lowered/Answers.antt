@@ -1,14 +1,13 @@
-use Rattle.std.proofs.Common.{◌≡◌, ◌^◌, ℤ, pos, ◌+ℤ◌, ◌-ℤ◌, ◌≤ℤ◌, ◌<ℤ◌, arith, ap, sym, ◌∙◌, subst, FitsSigned, rules}
+use Rattle.std.proofs.Common.{◌≡◌, ℤ, pos, ◌-ℤ◌, ◌≤ℤ◌, ◌<ℤ◌, ap, ◌∙◌, subst, FitsSigned, rules}
 use Rattle.std.specs.Int.{int_rem_euclid}
-use Rattle.std.proofs.lemmas.Int.{ints, to_z-of_z}
+use Rattle.std.proofs.lemmas.Int.{to_z-of_z}
 use mir.Syntax.{w128}
-use Rattle.num_api.specs.declared.message.Residue.{Residue}
 use Rattle.num_api.specs.Residues.{InResidue}
 use Rattle.ext_int.specs.declared.Ext.TheVariants.{Fin}
 use Rattle.residues.specs.Classes.{class_of}
-use Rattle.residues.specs.Inward.{next_member, last_member, inward_low, inward_high}
+use Rattle.residues.specs.Inward.{inward_high}
 use Rattle.residues.proofs.Moves.{moved}
-use Rattle.residues.proofs.Inward.{gap_up, gap_down, low_is_next, low_stays, high_is_last, high_stays, rest_fits}
+use Rattle.residues.proofs.Inward.{gap_down, high_is_last, high_stays, rest_fits}
 use Rattle.residues.proofs.ends.lowered.Goals as goal
 
 pub returns-in-Some : goal.returns-in-Some

@@ -1,4 +1,4 @@
-use Rattle.std.proofs.Common.{ℤ, pos, ◌≡◌, sym, ◌∙◌, arith, FitsSigned, to_z, of_z, subst, rules}
+use Rattle.std.proofs.Common.{ℤ, pos, ◌≡◌, arith, FitsSigned, subst, rules}
 use Rattle.std.proofs.lemmas.Int.{ints, to_z-of_z}
 use mir.Syntax.{w128}
 use Rattle.residues.specs.Classes.{IsGreatestDivisor, class_of}

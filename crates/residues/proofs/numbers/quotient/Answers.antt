@@ -1,4 +1,4 @@
-use Rattle.std.proofs.Common.{◌≡◌, ℤ, pos, ◌*ℤ◌, ◌≤ℤ◌, arith, FitsSigned}
+use Rattle.std.proofs.Common.{arith, FitsSigned}
 use Rattle.std.proofs.lemmas.Int.{ints, to_z-of_z, quot_fits}
 use Rattle.std.specs.Int.RustNames.{int_div}
 use mir.Syntax.{w128}

@@ -1,13 +1,10 @@
-use Rattle.std.proofs.Common.{◌≡◌, ℤ, pos, ◌+ℤ◌, ◌-ℤ◌, ◌≤ℤ◌, ◌<ℤ◌, ◌^◌, arith, sym, subst, FitsSigned, to_z, of_z, rules}
-use Rattle.std.proofs.lemmas.Int.{ints, to_z-of_z}
+use Rattle.std.proofs.Common.{ℤ, FitsSigned, rules}
+use Rattle.std.proofs.lemmas.Int.{to_z-of_z}
 use mir.Syntax.{w128}
-use Rattle.num_api.specs.declared.message.Residue.{Residue}
-use Rattle.num_api.specs.Residues.{InResidue, IsMultiple, IsFoldResidue}
 use Rattle.residues.specs.Class.{residue_of}
-use Rattle.residues.specs.Classes.{class_of, IsClassOf, IsGreatestDivisor, IsCommonStep, IsByCommonStep}
-use Rattle.residues.proofs.Moves.{moved, unmoved}
-use Rattle.residues.proofs.Multiples.{multiple_along, zero_multiple, self_multiple}
-use Rattle.residues.proofs.Steps.{fold_greatest, class_of_sum, class_of_difference, common_from_greatest, common_wider}
+use Rattle.residues.specs.Classes.{IsGreatestDivisor, IsCommonStep}
+use Rattle.residues.proofs.Moves.{moved}
+use Rattle.residues.proofs.Steps.{common_from_greatest}
 use Rattle.residues.proofs.class.arithmetic.common_step.Goals as goal
 
 pub returns : goal.returns

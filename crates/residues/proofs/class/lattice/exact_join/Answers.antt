@@ -1,13 +1,10 @@
-use Rattle.std.proofs.Common.{◌≡◌, ℤ, pos, ◌+ℤ◌, ◌-ℤ◌, ◌*ℤ◌, neg_ℤ, ◌≤ℤ◌, ◌<ℤ◌, ◌^◌, arith, sym, ◌∙◌, subst, FitsSigned, to_z, of_z, rules}
-use Rattle.std.specs.Prelude.{Option, Some, None, IfSome}
-use Rattle.std.proofs.lemmas.Int.{ints, to_z-of_z}
+use Rattle.std.proofs.Common.{ℤ, FitsSigned, rules}
+use Rattle.std.specs.Prelude.{IfSome}
+use Rattle.std.proofs.lemmas.Int.{to_z-of_z}
 use mir.Syntax.{w128}
-use Rattle.num_api.specs.declared.message.Residue.{Residue}
-use Rattle.num_api.specs.Residues.{InResidue, IsMultiple}
 use Rattle.residues.specs.Class.{residue_of}
-use Rattle.residues.specs.Classes.{class_of, IsClassOf, IsGreatestDivisor, IsGap, LiesIn}
-use Rattle.residues.proofs.Moves.{moved, unmoved}
-use Rattle.residues.proofs.Lattice.{gap_some, gap_of_remainders, join_some, lies_in_all}
+use Rattle.residues.specs.Classes.{IsClassOf, IsGreatestDivisor, IsGap}
+use Rattle.residues.proofs.Lattice.{join_some}
 use Rattle.residues.proofs.class.lattice.exact_join.Goals as goal
 
 pub returns-clause-left : goal.returns-clause-left

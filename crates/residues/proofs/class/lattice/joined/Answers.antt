@@ -1,13 +1,8 @@
-use Rattle.std.proofs.Common.{◌≡◌, ℤ, pos, ◌+ℤ◌, ◌-ℤ◌, ◌*ℤ◌, neg_ℤ, ◌≤ℤ◌, ◌<ℤ◌, ◌^◌, arith, sym, ◌∙◌, subst, FitsSigned, to_z, of_z, rules}
-use Rattle.std.specs.Prelude.{Option, Some, None, IfSome}
-use Rattle.std.proofs.lemmas.Int.{ints, to_z-of_z}
-use mir.Syntax.{w128}
+use Rattle.std.proofs.Common.{sym, subst}
 use Rattle.num_api.specs.declared.message.Residue.{Residue}
-use Rattle.num_api.specs.Residues.{InResidue, IsMultiple}
 use Rattle.residues.specs.Class.{residue_of}
-use Rattle.residues.specs.Classes.{class_of, IsClassOf, IsGreatestDivisor, IsGap, LiesIn}
-use Rattle.residues.proofs.Moves.{moved, unmoved}
-use Rattle.residues.proofs.Lattice.{gap_some, gap_of_remainders, join_some, lies_in_all}
+use Rattle.residues.specs.Classes.{LiesIn}
+use Rattle.residues.proofs.Lattice.{lies_in_all}
 use Rattle.residues.proofs.class.lattice.joined.Goals as goal
 
 pub returns-in-None-clause-left : goal.returns-in-None-clause-left

@@ -1,12 +1,12 @@
-use Rattle.std.proofs.Common.{◌≡◌, ℕ, ◌^◌, ℤ, pos, ◌+ℤ◌, ◌-ℤ◌, ◌*ℤ◌, neg_ℤ, ◌≤ℤ◌, ◌<ℤ◌, ◌<◌, arith, sym, ◌∙◌, subst, FitsSigned, to_z, of_z, rules}
+use Rattle.std.proofs.Common.{◌≡◌, ℤ, pos, ◌+ℤ◌, ◌*ℤ◌, neg_ℤ, ◌≤ℤ◌, arith, subst, FitsSigned, to_z, of_z, rules}
 use Rattle.std.specs.Int.RustNames.{int_div}
 use Rattle.std.proofs.lemmas.Int.{ints, to_z-of_z}
 use Rattle.std.proofs.Math.IntN.{+ℤ_idl}
 use mir.Syntax.{w128}
-use Rattle.num_api.specs.Residues.{InResidue, IsMultiple}
+use Rattle.num_api.specs.Residues.{InResidue}
 use Rattle.residues.specs.Classes.{class_of, IsCoprime, IsTurn}
-use Rattle.residues.proofs.Moves.{moved, unmoved}
-use Rattle.residues.proofs.Crt.{coprime_step, coprime_swap, turn_of_zero, turn_sum, turn_step, small_product}
+use Rattle.residues.proofs.Moves.{moved}
+use Rattle.residues.proofs.Crt.{coprime_step, turn_of_zero, turn_sum, turn_step, small_product}
 use Rattle.residues.proofs.class.meeting.+turns.Goals as goal
 
 pub returns-then-step-eq0 : goal.returns-then-step-eq0

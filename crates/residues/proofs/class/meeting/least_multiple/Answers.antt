@@ -1,17 +1,10 @@
-use Rattle.std.proofs.Common.{◌≡◌, ℕ, ◌^◌, ℤ, pos, ◌+ℤ◌, ◌-ℤ◌, ◌*ℤ◌, neg_ℤ, ◌≤ℤ◌, ◌<ℤ◌, ◌<◌, arith, sym, ◌∙◌, ap, refl, subst, FitsSigned, to_z, of_z, rules}
-use Rattle.std.specs.Prelude.{Bool, true, false}
+use Rattle.std.proofs.Common.{◌≡◌, ◌^◌, ℤ, pos, ◌*ℤ◌, ◌≤ℤ◌, ◌<ℤ◌, arith, sym, ◌∙◌, ap, subst, FitsSigned, rules}
 use Rattle.std.proofs.lemmas.Int.{ints, to_z-of_z}
 use mir.Syntax.{w128}
-use Rattle.num_api.specs.Residues.{InResidue, IsMultiple}
-use Rattle.residues.specs.Class.{residue_of, is_member}
-use Rattle.residues.specs.Classes.{class_of, IsClassOf, IsGreatestDivisor, SharesBy, Meets}
-use Rattle.residues.proofs.Moves.{moved, unmoved}
-use Rattle.residues.proofs.Multiples.{multiple_along, off_from_in, in_from_off}
-use Rattle.residues.proofs.Remainders.{divisor_positive, rem_unique}
-use Rattle.residues.proofs.Lattice.{member_true, member_from}
-use Rattle.residues.proofs.Operators.{one_number}
+use Rattle.residues.specs.Class.{residue_of}
+use Rattle.residues.proofs.Moves.{moved}
 use Rattle.residues.proofs.Products.{not_negative_product}
-use Rattle.residues.proofs.Crt.{common_positive, quotient_positive, shares_swap, small_swap, meets_by, meets_itself, meets_point, meets_other_point, shares_from, same_quotient, large_from_unfit, difference_fits}
+use Rattle.residues.proofs.Crt.{common_positive, quotient_positive, same_quotient, large_from_unfit}
 use Rattle.residues.proofs.class.meeting.least_multiple.Goals as goal
 
 pub returns-in-Some-clause-some : goal.returns-in-Some-clause-some
@@ -32,8 +25,7 @@ returns-in-Some-clause-some c =
     let m = c.in-Some.modulus in
     let fm : FitsSigned w128 m = search rules in
     let em : m ≡ v *ℤ b.modulus = (simp to_z-of_z at c.in-Some.ensures).1 in
-    let high : m ≤ℤ pos (2 ^ 100) = omega (arith, ints) in
-    (
+    let high : m ≤ℤ pos (2 ^ 100) = omega (arith, ints) in (
       moved (λ (x : ℤ). pos 0 ≤ℤ x) m fm (subst (λ (x : ℤ). pos 0 ≤ℤ x) (sym em) low),
       moved (λ (x : ℤ). x ≤ℤ pos (2 ^ 100)) m fm high,
       λ q e. moved (λ (x : ℤ). x ≡ q *ℤ b.modulus) m fm (em ∙ ap (λ (x : ℤ). x *ℤ b.modulus) (same_quotient v q g a.modulus one ev e)),

@@ -1,18 +1,12 @@
-use Rattle.std.proofs.Common.{◌≡◌, ℕ, ◌^◌, ℤ, pos, ◌+ℤ◌, ◌-ℤ◌, ◌*ℤ◌, neg_ℤ, ◌≤ℤ◌, ◌<ℤ◌, ◌<◌, arith, sym, ◌∙◌, ap, refl, subst, FitsSigned, to_z, of_z, rules}
-use Rattle.std.specs.Prelude.{Bool, true, false}
-use Rattle.std.proofs.lemmas.Int.{ints, to_z-of_z}
+use Rattle.std.proofs.Common.{◌≡◌, ◌^◌, ℤ, pos, ◌*ℤ◌, ◌<ℤ◌, sym, FitsSigned, rules}
+use Rattle.std.proofs.lemmas.Int.{to_z-of_z}
 use mir.Syntax.{w128}
 use Rattle.num_api.specs.declared.message.Residue.{Residue}
 use Rattle.num_api.specs.Residues.{InResidue, IsMultiple}
-use Rattle.residues.specs.Class.{residue_of, is_member}
-use Rattle.residues.specs.Classes.{class_of, IsClassOf, IsGreatestDivisor, SharesBy, Meets}
-use Rattle.residues.proofs.Moves.{moved, unmoved}
-use Rattle.residues.proofs.Multiples.{multiple_along, off_from_in, in_from_off}
-use Rattle.residues.proofs.Remainders.{divisor_positive, rem_unique}
-use Rattle.residues.proofs.Lattice.{member_true, member_from}
-use Rattle.residues.proofs.Operators.{one_number}
-use Rattle.residues.proofs.Products.{not_negative_product}
-use Rattle.residues.proofs.Crt.{common_positive, quotient_positive, shares_swap, small_swap, meets_by, meets_itself, meets_point, meets_other_point, shares_from, same_quotient, large_from_unfit, difference_fits}
+use Rattle.residues.specs.Class.{residue_of}
+use Rattle.residues.specs.Classes.{IsClassOf, SharesBy, Meets}
+use Rattle.residues.proofs.Moves.{unmoved}
+use Rattle.residues.proofs.Crt.{meets_by, meets_itself}
 use Rattle.residues.proofs.class.meeting.shared.Goals as goal
 
 pub returns-in-Some : goal.returns-in-Some

@@ -1,19 +1,11 @@
-use Rattle.std.proofs.Common.{◌≡◌, ℤ, pos, ◌+ℤ◌, ◌-ℤ◌, ◌*ℤ◌, neg_ℤ, ◌≤ℤ◌, ◌<ℤ◌, ◌^◌, arith, sym, ◌∙◌, subst, FitsSigned, to_z, of_z, rules, ◌⊎◌, inl, inr}
-use Rattle.std.specs.Prelude.{Option, Some, None, IfSome}
-use Rattle.std.specs.Int.RustNames.{int_rem}
-use Rattle.std.proofs.lemmas.Int.{ints, to_z-of_z}
+use Rattle.std.proofs.Common.{ℤ, FitsSigned, rules, inl, inr}
+use Rattle.std.proofs.lemmas.Int.{to_z-of_z}
 use mir.Syntax.{w128}
-use Rattle.num_api.specs.declared.message.Residue.{Residue}
-use Rattle.num_api.specs.Residues.{InResidue, IsMultiple, IsFoldResidue}
-use Rattle.num_api.specs.Fold.{IsAlignment}
+use Rattle.num_api.specs.Residues.{IsMultiple}
 use Rattle.residues.specs.Class.{residue_of}
-use Rattle.residues.specs.Classes.{class_of, IsClassOf, IsGreatestDivisor, IsProductBy}
-use Rattle.residues.proofs.Moves.{moved, unmoved}
-use Rattle.residues.proofs.Multiples.{multiple_along, zero_multiple, self_multiple, multiple_neg, multiple_trans, in_along}
-use Rattle.residues.proofs.Remainders.{divisor_bound}
-use Rattle.residues.proofs.Members.{in_class_of}
-use Rattle.residues.proofs.Steps.{fold_greatest, divides_greatest}
-use Rattle.residues.proofs.Products.{class_multiple, fold_power, product_holds, product_fold_left, product_fold_right, multiples_hold, multiples_fold, rest_holds, least_number, least_multiple, not_negative_product, product_by}
+use Rattle.residues.specs.Classes.{IsProductBy}
+use Rattle.residues.proofs.Moves.{moved}
+use Rattle.residues.proofs.Products.{product_holds, product_fold_left, product_fold_right}
 use Rattle.residues.proofs.class.products.product.Goals as goal
 
 pub returns-in-Some-clause-holds : goal.returns-in-Some-clause-holds

@@ -1,10 +1,9 @@
-use Rattle.std.proofs.Common.{◌≡◌, ℤ, pos, sym, ◌∙◌, subst}
-use Rattle.std.specs.Prelude.{Bool, true, false, IsTrue}
+use Rattle.std.proofs.Common.{sym, subst}
 use Rattle.num_api.specs.declared.message.Range.{Range}
-use Rattle.num_api.specs.Ranges.{InRange, IsPoint, NoWider, holds_some}
+use Rattle.num_api.specs.Ranges.{InRange}
 use Rattle.num_api.specs.declared.message.Residue.{Residue}
 use Rattle.residues.specs.Inward.{inward_range, IsReduced}
-use Rattle.residues.proofs.Inward.{moved_holds, inward_sound, inward_no_wider, inward_point, inward_has_some, holds_from_some, point_inside, no_wider_trans, moved_not_empty, inward_reduced}
+use Rattle.residues.proofs.Inward.{inward_sound, inward_reduced}
 use Rattle.residues.proofs.pair.Pair.ends.Goals as goal
 
 pub returns-clause-holds : goal.returns-clause-holds

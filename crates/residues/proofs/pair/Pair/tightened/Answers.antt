@@ -1,9 +1,5 @@
-use Rattle.std.proofs.Common.{◌≡◌, ℤ, pos, sym, ◌∙◌, subst}
-use Rattle.std.specs.Prelude.{Bool, true, false, IsTrue}
-use Rattle.num_api.specs.declared.message.Range.{Range}
-use Rattle.num_api.specs.Ranges.{InRange, IsPoint, NoWider, holds_some}
-use Rattle.residues.specs.Inward.{moved_range, inward_range}
-use Rattle.residues.proofs.Inward.{moved_holds, inward_sound, inward_no_wider, inward_point, inward_has_some, holds_from_some, point_inside, no_wider_trans, moved_not_empty, holds_of}
+use Rattle.std.proofs.Common.{sym, ◌∙◌}
+use Rattle.residues.proofs.Inward.{inward_no_wider, inward_has_some, no_wider_trans}
 use Rattle.residues.proofs.pair.Pair.tightened.Goals as goal
 
 pub returns-then-shares-clause-shares : goal.returns-then-shares-clause-shares

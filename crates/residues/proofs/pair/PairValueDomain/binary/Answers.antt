@@ -1,11 +1,6 @@
-use Rattle.std.proofs.Common.{◌≡◌, ℤ, pos, ap, sym, ◌∙◌, subst}
-use Rattle.std.specs.Prelude.{IsTrue}
-use Rattle.num_api.specs.declared.message.Range.{Range}
-use Rattle.num_api.specs.declared.message.Residue.{Residue}
-use Rattle.num_api.specs.Ranges.{InRange, IsPoint, NoWider, hull}
+use Rattle.std.proofs.Common.{ap, sym, subst}
 use Rattle.num_api.specs.Residues.{IsFoldResidue}
-use Rattle.residues.specs.Pair.{class_part, range_of_pair}
-use Rattle.residues.proofs.Inward.{no_wider_trans, hull_no_wider, if_some_map}
+use Rattle.residues.proofs.Inward.{no_wider_trans}
 use Rattle.residues.proofs.pair.PairValueDomain.binary.Goals as goal
 
 pub returns-clause-holds : goal.returns-clause-holds

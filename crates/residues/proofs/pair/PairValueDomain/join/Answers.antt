@@ -1,15 +1,10 @@
-use Rattle.std.proofs.Common.{◌≡◌, ℤ, pos, ap, sym, ◌∙◌, subst}
-use Rattle.std.specs.Prelude.{IsTrue}
-use Rattle.num_api.specs.declared.message.Range.{Range}
-use Rattle.num_api.specs.declared.message.Residue.{Residue}
-use Rattle.num_api.specs.Ranges.{InRange, IsPoint, NoWider, hull}
-use Rattle.num_api.specs.Residues.{IsFoldResidue}
-use Rattle.residues.specs.Pair.{class_part, range_of_pair}
-use Rattle.residues.proofs.Inward.{no_wider_trans, hull_no_wider, if_some_map}
+use Rattle.num_api.specs.Ranges.{hull}
+use Rattle.residues.specs.Pair.{range_of_pair}
+use Rattle.residues.proofs.Inward.{no_wider_trans, hull_no_wider}
 use Rattle.residues.proofs.pair.PairValueDomain.join.Goals as goal
 
 pub returns-clause-plain : goal.returns-clause-plain
 returns-clause-plain g c = λ t.
     no_wider_trans _ _ _ (c.kept.ensures.plain t)
     (no_wider_trans _ (hull (g.V.ValueDomain.known c.tight.result) (g.V.ValueDomain.known c.tight-2.result)) _ (c.join.ensures.plain t)
-      (hull_no_wider (g.V.ValueDomain.known c.tight.result) (g.V.ValueDomain.known c.tight-2.result) (range_of_pair g.V.ValueDomain.known g.W.ValueDomain.class c.args.self.now) (range_of_pair g.V.ValueDomain.known g.W.ValueDomain.class c.args.other.now) (c.tight.ensures.plain t) (c.tight-2.ensures.plain t)))
+    (hull_no_wider (g.V.ValueDomain.known c.tight.result) (g.V.ValueDomain.known c.tight-2.result) (range_of_pair g.V.ValueDomain.known g.W.ValueDomain.class c.args.self.now) (range_of_pair g.V.ValueDomain.known g.W.ValueDomain.class c.args.other.now) (c.tight.ensures.plain t) (c.tight-2.ensures.plain t)))

@@ -1,11 +1,7 @@
-use Rattle.std.proofs.Common.{◌≡◌, ℤ, pos, ap, sym, ◌∙◌, subst}
 use Rattle.std.specs.Prelude.{IsTrue}
-use Rattle.num_api.specs.declared.message.Range.{Range}
-use Rattle.num_api.specs.declared.message.Residue.{Residue}
-use Rattle.num_api.specs.Ranges.{InRange, IsPoint, NoWider, hull}
-use Rattle.num_api.specs.Residues.{IsFoldResidue}
-use Rattle.residues.specs.Pair.{class_part, range_of_pair}
-use Rattle.residues.proofs.Inward.{no_wider_trans, hull_no_wider, if_some_map}
+use Rattle.num_api.specs.Ranges.{NoWider}
+use Rattle.residues.specs.Pair.{range_of_pair}
+use Rattle.residues.proofs.Inward.{no_wider_trans, if_some_map}
 use Rattle.residues.proofs.pair.PairValueDomain.meet.Goals as goal
 
 pub returns-in-Some-Some-clause-plain : goal.returns-in-Some-Some-clause-plain
@@ -15,8 +11,8 @@ returns-in-Some-Some-clause-plain g c =
     (λ p. IsTrue g.V.ValueDomain.exact → NoWider (range_of_pair g.V.ValueDomain.known g.W.ValueDomain.class p) (range_of_pair g.V.ValueDomain.known g.W.ValueDomain.class c.args.self.now) × NoWider (range_of_pair g.V.ValueDomain.known g.W.ValueDomain.class p) (range_of_pair g.V.ValueDomain.known g.W.ValueDomain.class c.args.other.now))
     c.new.result
     (λ p h t.
-      let both = c.in-Some-Some.ensures.plain t in (
-        no_wider_trans _ _ _ (h t) (no_wider_trans _ _ _ both.0 (c.tight.ensures.plain t)),
-        no_wider_trans _ _ _ (h t) (no_wider_trans _ _ _ both.1 (c.tight-2.ensures.plain t)),
-      ))
+    let both = c.in-Some-Some.ensures.plain t in (
+      no_wider_trans _ _ _ (h t) (no_wider_trans _ _ _ both.0 (c.tight.ensures.plain t)),
+      no_wider_trans _ _ _ (h t) (no_wider_trans _ _ _ both.1 (c.tight-2.ensures.plain t)),
+    ))
     c.new.ensures.plain

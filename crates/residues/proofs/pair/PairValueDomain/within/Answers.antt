@@ -1,11 +1,8 @@
-use Rattle.std.proofs.Common.{◌≡◌, ℤ, pos, ap, sym, ◌∙◌, subst}
+use Rattle.std.proofs.Common.{◌≡◌, ℤ, pos, ap, ◌∙◌}
 use Rattle.std.specs.Prelude.{IsTrue}
-use Rattle.num_api.specs.declared.message.Range.{Range}
-use Rattle.num_api.specs.declared.message.Residue.{Residue}
-use Rattle.num_api.specs.Ranges.{InRange, IsPoint, NoWider, hull}
-use Rattle.num_api.specs.Residues.{IsFoldResidue}
+use Rattle.num_api.specs.Ranges.{IsPoint, NoWider}
 use Rattle.residues.specs.Pair.{class_part, range_of_pair}
-use Rattle.residues.proofs.Inward.{no_wider_trans, hull_no_wider, if_some_map}
+use Rattle.residues.proofs.Inward.{no_wider_trans, if_some_map}
 use Rattle.residues.proofs.pair.PairValueDomain.within.Goals as goal
 
 pub returns-in-Some-Some-clause-plain : goal.returns-in-Some-Some-clause-plain
