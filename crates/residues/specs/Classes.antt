@@ -1,5 +1,5 @@
 -- Classes of numbers that are the same up to a multiple of a modulus, and common divisors.
-use Rattle.std.specs.Prelude.{ℤ, pos, ◌≡◌, ◌+ℤ◌, ◌-ℤ◌, ◌*ℤ◌, ◌≤ℤ◌, ◌<ℤ◌, ◌^◌}
+use Rattle.std.specs.Prelude.{ℤ, pos, ◌≡◌, ◌+ℤ◌, ◌-ℤ◌, ◌*ℤ◌, ◌≤ℤ◌, ◌<ℤ◌, ◌^◌, ◌⊎◌, neg_ℤ}
 use Rattle.num_api.specs.Residues.{InResidue, IsResidue, IsMultiple}
 use Rattle.num_api.specs.Fold.{IsAlignment}
 use Rattle.num_api.specs.declared.message.Residue.{Residue}
@@ -81,3 +81,14 @@ pub record Meets (a b r : Residue) : Type 0 where
   pub holds : (n : ℤ) → InResidue a n → InResidue b n → InResidue r n
   pub first : LiesIn r a
   pub second : (s : Residue) → IsMeet a b s → LiesIn r b
+
+-- the least class that holds both, with a modulus of at most 2^100
+pub record IsJoin (a b s : Residue) : Type 0 where
+  pub proper : IsResidue s
+  pub first : LiesIn a s
+  pub second : LiesIn b s
+  pub least : (t : Residue) → LiesIn a t → LiesIn b t → LiesIn s t
+
+-- the two numbers lie further apart than 2^100
+abbrev pub IsFarApart : ℤ → ℤ → Type 0
+IsFarApart x y = (pos (2 ^ 100) <ℤ (x -ℤ y)) ⊎ ((x -ℤ y) <ℤ neg_ℤ (pos (2 ^ 100)))

@@ -77,7 +77,8 @@ impl Class {
 impl ValueDomain for Class {
     ghost use Rattle.residues.specs.Class.{residue_of, range_of_class, holds_class, class_weight};
     ghost use Rattle.num_api.specs.Residues.{InResidue};
-    ghost use Rattle.residues.specs.Classes.{Meets};
+    ghost use Rattle.residues.specs.Classes.{IsJoin, LiesIn, Meets};
+    ghost use Rattle.num_api.specs.declared.message.Residue.{Residue};
     ghost use Rattle.std.specs.Prelude.{IfSome, IfNone};
 
     ghost admits = { λ c n. InResidue (residue_of c) n };
@@ -128,7 +129,12 @@ impl ValueDomain for Class {
         met(*self, *other)
     }
 
-    fn join(&self, other: &Self) -> Self {
+    /// The least class that holds both, where its modulus is at most 2^100, and else all numbers.
+    fn join(&self, other: &Self) -> Self
+        ensures left { (n : ℤ) → InResidue (residue_of self.now) n → InResidue (residue_of result) n }
+        ensures right { (n : ℤ) → InResidue (residue_of other.now) n → InResidue (residue_of result) n }
+        ensures least { (s : Residue) → IsJoin (residue_of self.now) (residue_of other.now) s → LiesIn (residue_of result) s }
+    {
         joined(*self, *other)
     }
 

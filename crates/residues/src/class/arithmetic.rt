@@ -33,7 +33,8 @@ pub(super) fn difference(a: Class, b: Class) -> Class
 
 // The greatest common divisor of the moduli.
 pub(super) fn common_step(a: Class, b: Class) -> i128
-    ensures { IsCommonStep (residue_of a).modulus (residue_of b).modulus result }
+    ensures step { IsCommonStep (residue_of a).modulus (residue_of b).modulus result }
+    ensures greatest { (d : ℤ) → IsMultiple d (residue_of a).modulus → IsMultiple d (residue_of b).modulus → IsMultiple d result }
 {
     greatest_divisor(a.residue.modulus, b.residue.modulus)
 }

@@ -1,8 +1,9 @@
 // How classes lie in each other, and the class that holds two.
 
-ghost use Rattle.std.specs.Prelude.{◌≡◌, ℤ, pos, ◌^◌, ◌+ℤ◌, ◌-ℤ◌, ◌*ℤ◌, ◌≤ℤ◌, ◌<ℤ◌, IfSome, Some};
+ghost use Rattle.std.specs.Prelude.{◌≡◌, ℤ, pos, ◌^◌, ◌+ℤ◌, ◌-ℤ◌, ◌*ℤ◌, ◌≤ℤ◌, ◌<ℤ◌, IfNone, IfSome, Some};
 ghost use Rattle.residues.specs.Class.{residue_of, is_member, divides, holds_class};
-ghost use Rattle.residues.specs.Classes.{LiesIn, IsGap};
+ghost use Rattle.residues.specs.Classes.{LiesIn, IsGap, IsJoin, IsFarApart};
+ghost use Rattle.num_api.specs.declared.message.Residue.{Residue};
 
 use super::Class;
 use super::arithmetic::common_step;
@@ -41,6 +42,7 @@ fn is_divisor(m: i128, n: i128) -> bool
 pub(super) fn joined(a: Class, b: Class) -> Class
     ensures left { LiesIn (residue_of a) (residue_of result) }
     ensures right { LiesIn (residue_of b) (residue_of result) }
+    ensures least { (s : Residue) → IsJoin (residue_of a) (residue_of b) s → LiesIn (residue_of result) s }
 {
     match exact_join(a, b) {
         Some(class) => class,
@@ -52,6 +54,8 @@ pub(super) fn joined(a: Class, b: Class) -> Class
 fn exact_join(a: Class, b: Class) -> Option<Class>
     ensures left { IfSome result (λ r. LiesIn (residue_of a) (residue_of r)) }
     ensures right { IfSome result (λ r. LiesIn (residue_of b) (residue_of r)) }
+    ensures least { IfSome result (λ r. (s : Residue) → IsJoin (residue_of a) (residue_of b) s → LiesIn (residue_of r) s) }
+    ensures none { IfNone result ((s : Residue) → IsJoin (residue_of a) (residue_of b) s → ⊥) }
 {
     let step = common_step(a, b);
     let gap = gap(a.residue.rem, b.residue.rem, step)?;
@@ -63,7 +67,8 @@ fn exact_join(a: Class, b: Class) -> Option<Class>
 fn gap(x: i128, y: i128, step: i128) -> Option<i128>
     requires low { pos 0 ≤ℤ step }
     requires high { step ≤ℤ pos (2 ^ 100) }
-    ensures { IfSome result (IsGap x y step) }
+    ensures some { IfSome result (IsGap x y step) }
+    ensures none { IfNone result ((step ≡ pos 0) × IsFarApart x y) }
 {
     if step == 0 {
         return x.checked_sub(y)?.checked_abs();

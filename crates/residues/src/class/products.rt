@@ -1,6 +1,6 @@
 // Products of classes, and remainders.
 
-ghost use Rattle.std.specs.Prelude.{◌≡◌, ℤ, pos, ◌^◌, ◌+ℤ◌, ◌-ℤ◌, ◌*ℤ◌, ◌≤ℤ◌, ◌<ℤ◌, ◌⊎◌, IfSome, Some};
+ghost use Rattle.std.specs.Prelude.{◌≡◌, ℤ, pos, ◌^◌, ◌+ℤ◌, ◌-ℤ◌, ◌*ℤ◌, ◌≤ℤ◌, ◌<ℤ◌, ◌⊎◌, IfNone, IfSome, Some};
 ghost use Rattle.num_api.specs.Residues.{InResidue, IsMultiple, IsFoldResidue};
 ghost use Rattle.num_api.specs.Fold.{IsAlignment};
 ghost use Rattle.num_api.specs.Value.{binary_value};
@@ -57,7 +57,8 @@ fn exact_product(a: Class, b: Class, f: i128, g: i128) -> Option<Class>
 pub(super) fn small_class(rem: i128, m: i128, n: i128) -> Option<Class>
     requires m_is_not_negative { pos 0 ≤ℤ m }
     requires n_is_not_negative { pos 0 ≤ℤ n }
-    ensures { IfSome result (λ r. (d : ℤ) × IsGreatestDivisor m n d × IsClassOf rem d (residue_of r)) }
+    ensures some { IfSome result (λ r. (d : ℤ) × IsGreatestDivisor m n d × IsClassOf rem d (residue_of r)) }
+    ensures none { IfNone result ((d : ℤ) × IsGreatestDivisor m n d × (pos (2 ^ 100) <ℤ d)) }
 {
     let step = greatest_divisor(m, n);
     if step > GREATEST_MODULUS {

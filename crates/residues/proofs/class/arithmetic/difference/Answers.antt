@@ -21,7 +21,7 @@ returns-in-Some c =
     let p : IsClassOf c.in-Some.rem c.common_step-step.result (residue_of c.of.result) = simp to_z-of_z at c.of.ensures in
     record {
       step = c.common_step-step.result;
-      common = c.common_step-step.ensures;
+      common = c.common_step-step.ensures.step;
       is = subst (λ (z : ℤ). IsClassOf z c.common_step-step.result (residue_of c.of.result)) e p;
     }
 
@@ -39,6 +39,6 @@ returns-in-None c =
     let r = unmoved (λ (t : ℤ). (d : ℤ) → IsAlignment d → IsMultiple d t → IsMultiple d c.positive_step.result) c.common_step-step.result i c.positive_step.ensures.folds in
     record {
       step = c.positive_step.result;
-      common = common_wider a.modulus b.modulus c.common_step-step.result c.positive_step.result c.common_step-step.ensures j c.positive_step.ensures.high q r;
+      common = common_wider a.modulus b.modulus c.common_step-step.result c.positive_step.result c.common_step-step.ensures.step j c.positive_step.ensures.high q r;
       is = p;
     }

@@ -40,4 +40,4 @@ returns c =
     let p : c.in_ok-rem.rem ≡ a.rem *ℤ b.rem = (simp to_z-of_z at c.in_ok-rem.ensures).1 in
     let q : c.in_ok-left.left ≡ a.modulus *ℤ c.args.g = (simp to_z-of_z at c.in_ok-left.ensures).1 in
     let s : c.in_ok-right.right ≡ c.args.f *ℤ b.modulus = (simp to_z-of_z at c.in_ok-right.ensures).1 in
-    product_by a b c.args.f c.args.g c.in_ok-rem.rem c.in_ok-left.left c.in_ok-right.right c.small_class.result p q s (simp to_z-of_z at c.small_class.ensures)
+    product_by a b c.args.f c.args.g c.in_ok-rem.rem c.in_ok-left.left c.in_ok-right.right c.small_class.result p q s (simp to_z-of_z at c.small_class.ensures.some)
