@@ -222,6 +222,34 @@ fn closes_after_one(rt: HostRuntime) {
     assert_eq!(rt; closed, Some(Fin(2)));
 }
 
+// The steps of one closing after one bound, with as many variables as there may be.
+fn steps_of_closing<L: Ledger>(alloc: Global, blank: Blank) -> Result<u64, AllocError>
+    requires name { blank.name ≡ L.name }
+    requires parts { blank.parts ≡ L.parts }
+    requires some_part { 0 < blank.parts }
+{
+    let mut steps = Steps::<L>::start(blank);
+    let mut m = Half::new(alloc, 24)?;
+    m.lower(46, 2, Fin(23), &mut steps);
+    match close_counted(&mut m, &mut steps) {
+        Dead => return Ok(0),
+        Alive => m.lower(2, 0, Fin(1), &mut steps),
+    }
+    let before = steps.taken();
+    match close_one_counted(&mut m, 2, 0, &mut steps) {
+        Dead => Ok(0),
+        Alive => Ok(steps.taken().saturating_sub(before)),
+    }
+}
+
+#[test]
+fn counts_steps(rt: HostRuntime) {
+    let steps = steps_of_closing::<Brand>(rt.alloc(), Blank::new(1)).expect(&rt, "memory");
+    println!(rt; "closing 24 variables after one bound: {steps} steps").expect(&rt, "output");
+    assert!(rt; steps > 0);
+    assert!(rt; steps <= 4436);
+}
+
 // Of so many variables: how far from 0 their numbers reach, and how many points that box has.
 const BOXES: [(i32, u32); 6] = [(13, 27), (6, 169), (3, 343), (2, 625), (1, 243), (1, 729)];
 

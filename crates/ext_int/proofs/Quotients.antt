@@ -159,13 +159,13 @@ negative_columns e p = ⊎_elim
 
 -- ---- the corners
 
-ends_low : (a b c d x y : Ext) → AtMost a x → AtMost x b → AtMost c y → AtMost y d → (IsPositive c ⊎ IsNegative d) → AtMost (least_of (quotient a c) (quotient a d) (quotient b c) (quotient b d)) (quotient x y)
+pub ends_low : (a b c d x y : Ext) → AtMost a x → AtMost x b → AtMost c y → AtMost y d → (IsPositive c ⊎ IsNegative d) → AtMost (least_of (quotient a c) (quotient a d) (quotient b c) (quotient b d)) (quotient x y)
 ends_low a b c d x y h k i j one_side = ⊎_elim
     (λ (p : IsPositive c). let q = IsPositive_up c y i p in corners_low quotient IsPositive positive_rows positive_columns a b c d x y h k i j p q (IsPositive_up y d j q))
     (λ (p : IsNegative d). let q = IsNegative_down y d j p in corners_low quotient IsNegative negative_rows negative_columns a b c d x y h k i j (IsNegative_down c y i q) q p)
     one_side
 
-ends_high : (a b c d x y : Ext) → AtMost a x → AtMost x b → AtMost c y → AtMost y d → (IsPositive c ⊎ IsNegative d) → AtMost (quotient x y) (greatest_of (quotient a c) (quotient a d) (quotient b c) (quotient b d))
+pub ends_high : (a b c d x y : Ext) → AtMost a x → AtMost x b → AtMost c y → AtMost y d → (IsPositive c ⊎ IsNegative d) → AtMost (quotient x y) (greatest_of (quotient a c) (quotient a d) (quotient b c) (quotient b d))
 ends_high a b c d x y h k i j one_side = ⊎_elim
     (λ (p : IsPositive c). let q = IsPositive_up c y i p in corners_high quotient IsPositive positive_rows positive_columns a b c d x y h k i j p q (IsPositive_up y d j q))
     (λ (p : IsNegative d). let q = IsNegative_down y d j p in corners_high quotient IsNegative negative_rows negative_columns a b c d x y h k i j (IsNegative_down c y i q) q p)

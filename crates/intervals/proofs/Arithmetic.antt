@@ -5,10 +5,11 @@ use Rattle.std.proofs.lemmas.Int.{ints}
 use mir.Syntax.{w128}
 use Rattle.ext_int.specs.declared.Ext.{Ext}
 use Rattle.ext_int.specs.declared.Ext.TheVariants.{Low, Fin, High}
-use Rattle.ext_int.specs.Ext.{Below, Above, holds_number, IsNumber, IsPositive, IsNegative, AtMost, low_end, high_end, rounded_low, rounded_high, sum_low, sum_high, product, quotient, negation, least_of, greatest_of, least_corner, greatest_corner}
+use Rattle.ext_int.specs.Ext.{Below, Above, holds_number, IsNumber, IsPositive, IsNegative, AtMost, low_end, high_end, rounded_low, rounded_high, sum_low, sum_high, product, quotient, negation, least_of, greatest_of}
 use Rattle.ext_int.proofs.Ends.{AtMost_refl, AtMost_trans, AtMost_antisymm, AtMost-from_below, AtMost-from_above, Below-from_at_most, Above-from_at_most, number_between, holds_number_from, rounded_low_below, rounded_high_above, le-from_int_le, low_end_within, high_end_within, lesser_greatest, greater_least}
-use Rattle.ext_int.proofs.Products.{product_corners_low, product_corners_high}
-use Rattle.ext_int.proofs.Quotients.{quotient_corners_low, quotient_corners_high, IsPositive_up, IsNegative_down}
+use Rattle.ext_int.proofs.Quotients.{IsPositive_up, IsNegative_down}
+use Rattle.intervals.specs.Corners.{floor_end, ceiling_end, least_corner, greatest_corner}
+use Rattle.intervals.proofs.Corners.{floor_end_within, ceiling_end_within, product_corners_low, product_corners_high, quotient_corners_low, quotient_corners_high}
 use Rattle.intervals.specs.Interval.{IsBetween}
 
 -- ---- one number
@@ -64,17 +65,20 @@ module _ (l h : ℤ) (f : FitsSigned w128 l) (g : FitsSigned w128 h) where
       let high = within b c (i, AtMost_refl (Fin b)) (AtMost_refl (Fin c), j) in
       ((rounded_between (a -ℤ d) low).0, (rounded_between (b -ℤ c) high).1))
 
-  corners_between : (p q r s : ℤ) → IsBetween l h p → IsBetween l h q → IsBetween l h r → IsBetween l h s → EndsBetween l h (least_of (low_end p) (low_end q) (low_end r) (low_end s)) (greatest_of (high_end p) (high_end q) (high_end r) (high_end s))
+  outward_between : (z : ℤ) → IsBetween l h z → EndsBetween l h (floor_end z) (ceiling_end z)
+  outward_between z within = (floor_end_within l h z f g within.0 within.1, ceiling_end_within l h z f g within.0 within.1)
+
+  corners_between : (p q r s : ℤ) → IsBetween l h p → IsBetween l h q → IsBetween l h r → IsBetween l h s → EndsBetween l h (least_of (floor_end p) (floor_end q) (floor_end r) (floor_end s)) (greatest_of (ceiling_end p) (ceiling_end q) (ceiling_end r) (ceiling_end s))
   corners_between p q r s i j k m =
-      let at_p = rounded_between p i in
-      let at_q = rounded_between q j in
-      let at_r = rounded_between r k in
-      let at_s = rounded_between s m in (
-        lesser_greatest (Fin l) _ _ (lesser_greatest (Fin l) (low_end p) (low_end q) at_p.0 at_q.0) (lesser_greatest (Fin l) (low_end r) (low_end s) at_r.0 at_s.0),
-        greater_least (Fin h) _ _ (greater_least (Fin h) (high_end p) (high_end q) at_p.1 at_q.1) (greater_least (Fin h) (high_end r) (high_end s) at_r.1 at_s.1),
+      let at_p = outward_between p i in
+      let at_q = outward_between q j in
+      let at_r = outward_between r k in
+      let at_s = outward_between s m in (
+        lesser_greatest (Fin l) _ _ (lesser_greatest (Fin l) (floor_end p) (floor_end q) at_p.0 at_q.0) (lesser_greatest (Fin l) (floor_end r) (floor_end s) at_r.0 at_s.0),
+        greater_least (Fin h) _ _ (greater_least (Fin h) (ceiling_end p) (ceiling_end q) at_p.1 at_q.1) (greater_least (Fin h) (ceiling_end r) (ceiling_end s) at_r.1 at_s.1),
       )
 
-  corners_least : (op : ℤ → ℤ → ℤ) (a b c d : ℤ) → IsTrue (holds_number (Fin a) (Fin b)) → IsTrue (holds_number (Fin c) (Fin d)) → ResultsBetween op l h (Fin a) (Fin b) (Fin c) (Fin d) → EndsBetween l h (least_of (low_end (op a c)) (low_end (op a d)) (low_end (op b c)) (low_end (op b d))) (greatest_of (high_end (op a c)) (high_end (op a d)) (high_end (op b c)) (high_end (op b d)))
+  corners_least : (op : ℤ → ℤ → ℤ) (a b c d : ℤ) → IsTrue (holds_number (Fin a) (Fin b)) → IsTrue (holds_number (Fin c) (Fin d)) → ResultsBetween op l h (Fin a) (Fin b) (Fin c) (Fin d) → EndsBetween l h (least_of (floor_end (op a c)) (floor_end (op a d)) (floor_end (op b c)) (floor_end (op b d))) (greatest_of (ceiling_end (op a c)) (ceiling_end (op a d)) (ceiling_end (op b c)) (ceiling_end (op b d)))
   corners_least op a b c d first second within =
       let i = le-from_int_le a b first in
       let j = le-from_int_le c d second in

@@ -1,2 +1,13 @@
 pub mod Arithmetic
+pub mod Carried
+pub mod Comparisons
+pub mod Corners
+pub mod Domains
+pub mod Inside
 pub mod Parts
+pub mod Points
+pub mod Quotients
+pub mod Remainders
+pub mod Shifts
+pub mod TwosComplement
+pub mod Widenings

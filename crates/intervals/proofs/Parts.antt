@@ -11,6 +11,7 @@ use Rattle.ext_int.proofs.Quotients.{IsPositive_up, IsNegative_down}
 use Rattle.intervals.specs.declared.Interval.{Interval}
 use Rattle.intervals.specs.Interval.{Admits, IsPoint, IsFinite, IsBetween, LiesBetween, least_end, greatest_end}
 use Rattle.intervals.proofs.Arithmetic.{point_between}
+use Rattle.intervals.proofs.Inside.{has_number, only_number}
 
 -- the numbers of an interval between two numbers, said by ends and by the numbers
 pub cut_some : (r : Option Interval) (s : Interval) (k m lo hi : ℤ) → k ≡ lo → m ≡ hi → IfSome r (λ i. (n : ℤ) → Admits i n ↔ (Admits s n × Below (Fin k) n × Above (Fin m) n)) → IfSome r (λ i. (n : ℤ) → Admits i n ↔ (Admits s n × IsBetween lo hi n))
@@ -23,7 +24,7 @@ cut_some (Some i) s k m lo hi e f fact = λ n.
 
 -- ---- the two sides of 0
 
-by_side : (y : ℤ) → y ≢ pos 0 → (y ≤ℤ negsuc 0) ⊎ (pos 1 ≤ℤ y)
+pub by_side : (y : ℤ) → y ≢ pos 0 → (y ≤ℤ negsuc 0) ⊎ (pos 1 ≤ℤ y)
 by_side (pos zero) ne = absurd (ne refl)
 by_side (pos (suc n)) ne = inr (omega (arith, ints))
 by_side (negsuc n) ne = inl (omega (arith, ints))
@@ -102,19 +103,8 @@ pub record Divides (s o r : Interval) : Type 0 where
   pub keeps : (x y : ℤ) → Admits s x → Admits o y → Admits r (int_div x y)
   pub least : (l h : ℤ) → FitsSigned w128 l → FitsSigned w128 h → IsFinite s → IsFinite o → ((x y : ℤ) → Admits s x → Admits o y → IsBetween l h (int_div x y)) → LiesBetween l h r
 
-admits_point : (i : Interval) (n : ℤ) → IsPoint i n → Admits i n
-admits_point i n p =
-    let self : n ≤ℤ n = omega (arith, ints) in
-    (subst (λ (e : Ext). Below e n) (sym p.0) self, subst (λ (e : Ext). Above e n) (sym p.1) self)
-
 finite_point : (i : Interval) (n : ℤ) → IsPoint i n → IsFinite i
 finite_point i n p = (subst IsNumber (sym p.0) tt, subst IsNumber (sym p.1) tt)
-
-only_point : (i : Interval) (n m : ℤ) → IsPoint i n → Admits i m → m ≡ n
-only_point i n m p q =
-    let low : n ≤ℤ m = subst (λ (e : Ext). Below e m) p.0 q.0 in
-    let high : m ≤ℤ n = subst (λ (e : Ext). Above e m) p.1 q.1 in
-    omega (arith, ints)
 
 same_quotient : (x y u v : ℤ) → u ≡ x → v ≡ y → IsBetween (int_div x y) (int_div x y) (int_div u v)
 same_quotient x y u v e f =
@@ -124,11 +114,11 @@ same_quotient x y u v e f =
 -- so at two points it is a point
 pub quotient_point : (s o : Interval) (lo hi : Ext) → IsQuotient s o lo hi → (x y : ℤ) → IsPoint s x → IsPoint o y → y ≢ pos 0 → FitsSigned w128 (int_div x y) → (lo ≡ Fin (int_div x y)) × (hi ≡ Fin (int_div x y))
 quotient_point s o lo hi quotient x y p q ne fits =
-    let at_x = admits_point s x p in
-    let at_y = admits_point o y q in
+    let at_x = has_number s x p in
+    let at_y = has_number o y q in
     let kept = quotient.keeps x y at_x at_y ne in
     let between = quotient.least (int_div x y) (int_div x y) y fits fits (finite_point s x p) (finite_point o y q) at_y ne
-    (λ u v i j _. same_quotient x y u v (only_point s x u p i) (only_point o y v q j)) in
+    (λ u v i j _. same_quotient x y u v (only_number s x u p i) (only_number o y v q j)) in
     point_between lo hi (int_div x y) kept.0 kept.1 between.0 between.1
 
 -- ---- quotients by the parts of the divisors

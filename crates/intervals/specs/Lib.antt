@@ -1,1 +1,5 @@
 pub mod Interval
+pub mod Corners
+pub mod Order
+pub mod Operations
+pub mod Widening

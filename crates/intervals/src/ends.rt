@@ -1,7 +1,8 @@
 //! What intervals need of ends beside `ext_int`.
 
-ghost use Rattle.std.specs.Prelude.{◌≡◌, ◌≢◌, pos, unwrap_or};
-ghost use Rattle.ext_int.specs.Ext.{holds_number, sum_low, sum_high, negation, quotient, rounded_low, rounded_high, least_of, greatest_of, product, least_corner, greatest_corner};
+ghost use Rattle.std.specs.Prelude.{◌≡◌, ◌≢◌, ◌-◌, ◌^◌, pos, unwrap_or};
+ghost use Rattle.ext_int.specs.Ext.{holds_number, sum_low, sum_high, negation, quotient, least_of, greatest_of, product};
+ghost use Rattle.intervals.specs.Corners.{floored, ceiled, least_corner, greatest_corner};
 
 use ext_int::{Ext, cmp, max, min, mul_high, mul_low};
 use std::cmp::Ordering;
@@ -31,18 +32,46 @@ fn exact_difference(a: Ext, b: Ext) -> Option<Ext>
     }
 }
 
-// The quotient by an end that is not 0, as a lower bound.
-fn quot_low(a: Ext, b: Ext) -> Ext
-    requires { b ≢ Ext.Fin (pos 0) }
-    ensures { result ≡ rounded_low (quotient a b) }
+// The product as a lower bound: where it is no `i128`, the greatest one below it, or `Low`.
+fn product_floor(a: Ext, b: Ext) -> Ext
+    ensures { result ≡ floored (product a b) }
 {
-    exact_quotient(a, b).unwrap_or(Ext::Low)
+    match (a, b) {
+        (Ext::Fin(x), Ext::Fin(y)) => match x.checked_mul(y) {
+            Some(z) => Ext::Fin(z),
+            None if (x < 0) == (y < 0) => Ext::Fin(i128::MAX),
+            None => Ext::Low,
+        },
+        _ => mul_low(a, b),
+    }
+}
+
+// The product as an upper bound: where it is no `i128`, the least one above it, or `High`.
+fn product_ceiling(a: Ext, b: Ext) -> Ext
+    ensures { result ≡ ceiled (product a b) }
+{
+    match (a, b) {
+        (Ext::Fin(x), Ext::Fin(y)) => match x.checked_mul(y) {
+            Some(z) => Ext::Fin(z),
+            None if (x < 0) == (y < 0) => Ext::High,
+            None => Ext::Fin(i128::MIN),
+        },
+        _ => mul_high(a, b),
+    }
+}
+
+// The quotient by an end that is not 0, as a lower bound. One that is no `i128` lies above them all.
+fn quot_floor(a: Ext, b: Ext) -> Ext
+    requires { b ≢ Ext.Fin (pos 0) }
+    ensures { result ≡ floored (quotient a b) }
+{
+    exact_quotient(a, b).unwrap_or(Ext::Fin(i128::MAX))
 }
 
 // The quotient by an end that is not 0, as an upper bound.
-fn quot_high(a: Ext, b: Ext) -> Ext
+fn quot_ceiling(a: Ext, b: Ext) -> Ext
     requires { b ≢ Ext.Fin (pos 0) }
-    ensures { result ≡ rounded_high (quotient a b) }
+    ensures { result ≡ ceiled (quotient a b) }
 {
     exact_quotient(a, b).unwrap_or(Ext::High)
 }
@@ -50,8 +79,8 @@ fn quot_high(a: Ext, b: Ext) -> Ext
 // The quotient by an end that is not 0, where it is infinite or an `i128`.
 fn exact_quotient(a: Ext, b: Ext) -> Option<Ext>
     requires { b ≢ Ext.Fin (pos 0) }
-    ensures low { rounded_low (quotient a b) ≡ unwrap_or result Ext.Low }
-    ensures high { rounded_high (quotient a b) ≡ unwrap_or result Ext.High }
+    ensures low { floored (quotient a b) ≡ unwrap_or result (Ext.Fin (pos (2 ^ 127 - 1))) }
+    ensures high { ceiled (quotient a b) ≡ unwrap_or result Ext.High }
 {
     match (a, b) {
         (_, Ext::Low) | (_, Ext::High) => Some(Ext::Fin(0)),
@@ -64,7 +93,12 @@ fn exact_quotient(a: Ext, b: Ext) -> Option<Ext>
 pub fn least_product(a: Ext, b: Ext, c: Ext, d: Ext) -> Ext
     ensures { result ≡ least_corner product a b c d }
 {
-    least(mul_low(a, c), mul_low(a, d), mul_low(b, c), mul_low(b, d))
+    least(
+        product_floor(a, c),
+        product_floor(a, d),
+        product_floor(b, c),
+        product_floor(b, d),
+    )
 }
 
 // The greatest of those products, as an upper bound.
@@ -72,10 +106,10 @@ pub fn greatest_product(a: Ext, b: Ext, c: Ext, d: Ext) -> Ext
     ensures { result ≡ greatest_corner product a b c d }
 {
     greatest(
-        mul_high(a, c),
-        mul_high(a, d),
-        mul_high(b, c),
-        mul_high(b, d),
+        product_ceiling(a, c),
+        product_ceiling(a, d),
+        product_ceiling(b, c),
+        product_ceiling(b, d),
     )
 }
 
@@ -86,10 +120,10 @@ pub fn least_quotient(a: Ext, b: Ext, c: Ext, d: Ext) -> Ext
     ensures { result ≡ least_corner quotient a b c d }
 {
     least(
-        quot_low(a, c),
-        quot_low(a, d),
-        quot_low(b, c),
-        quot_low(b, d),
+        quot_floor(a, c),
+        quot_floor(a, d),
+        quot_floor(b, c),
+        quot_floor(b, d),
     )
 }
 
@@ -100,10 +134,10 @@ pub fn greatest_quotient(a: Ext, b: Ext, c: Ext, d: Ext) -> Ext
     ensures { result ≡ greatest_corner quotient a b c d }
 {
     greatest(
-        quot_high(a, c),
-        quot_high(a, d),
-        quot_high(b, c),
-        quot_high(b, d),
+        quot_ceiling(a, c),
+        quot_ceiling(a, d),
+        quot_ceiling(b, c),
+        quot_ceiling(b, d),
     )
 }
 

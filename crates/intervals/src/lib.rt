@@ -6,7 +6,11 @@ ghost use Rattle.ext_int.specs.Ext.{holds_number};
 
 use ext_int::{Ext, add_high, add_low, max, min, neg_high, neg_low};
 
+mod bits;
+mod domain;
 mod ends;
+mod operators;
+mod widening;
 
 use ends::{
     greatest_product, greatest_quotient, is_range, least_product, least_quotient, sub_high, sub_low,
@@ -101,8 +105,8 @@ impl Interval {
         ensures point { (x y : ℤ) → IsPoint self.now x → IsPoint other.now y → y ≢ pos 0 → FitsSigned w128 (int_div x y) → IsPoint result (int_div x y) }
         ensures least { (l h d : ℤ) → FitsSigned w128 l → FitsSigned w128 h → IsFinite self.now → IsFinite other.now → Admits other.now d → d ≢ pos 0 → ((x y : ℤ) → Admits self.now x → Admits other.now y → y ≢ pos 0 → IsBetween l h (int_div x y)) → LiesBetween l h result }
     {
-        let negative = other.meet(Ext::Low, Ext::Fin(-1));
-        let positive = other.meet(Ext::Fin(1), Ext::High);
+        let negative = other.part(Ext::Low, Ext::Fin(-1));
+        let positive = other.part(Ext::Fin(1), Ext::High);
         match (negative, positive) {
             (Some(below), Some(above)) => self.quot_by(below).hull(self.quot_by(above)),
             (Some(below), None) => self.quot_by(below),
@@ -132,11 +136,11 @@ impl Interval {
         ensures some { IfSome result (λ i. (n : ℤ) → Admits i n ↔ (Admits self.now n × IsBetween lo hi n)) }
         ensures point { (n : ℤ) → IsPoint self.now n → IsBetween lo hi n → IsSomeAnd result (λ i. IsPoint i n) }
     {
-        self.meet(Ext::Fin(lo), Ext::Fin(hi))
+        self.part(Ext::Fin(lo), Ext::Fin(hi))
     }
 
     // The numbers that lie between these ends, or None where there is none.
-    fn meet(&self, lo: Ext, hi: Ext) -> Option<Interval>
+    fn part(&self, lo: Ext, hi: Ext) -> Option<Interval>
         ensures none { IsNone result ↔ ((n : ℤ) → Admits self.now n → Below lo n → Above hi n → ⊥) }
         ensures some { IfSome result (λ i. (n : ℤ) → Admits i n ↔ (Admits self.now n × Below lo n × Above hi n)) }
         ensures ends { IfSome result (λ i. (least_end i ≡ greater (least_end self.now) lo) × (greatest_end i ≡ lesser (greatest_end self.now) hi)) }
@@ -168,6 +172,7 @@ impl Interval {
         ensures left { (n : ℤ) → Admits self n → Admits result n }
         ensures right { (n : ℤ) → Admits other n → Admits result n }
         ensures least { (l h : ℤ) → LiesBetween l h self → LiesBetween l h other → LiesBetween l h result }
+        ensures ends { (least_end result ≡ lesser (least_end self) (least_end other)) × (greatest_end result ≡ greater (greatest_end self) (greatest_end other)) }
     {
         Interval {
             lo: min(self.lo, other.lo),
@@ -188,7 +193,7 @@ mod tests {
     // The interval between two ends, or all numbers where they hold none.
     fn between(ends: (Ext, Ext)) -> Interval {
         let all = Interval { lo: Low, hi: High };
-        all.meet(ends.0, ends.1).unwrap_or(all)
+        all.part(ends.0, ends.1).unwrap_or(all)
     }
 
     // Two operands; then their sums, differences and products.
@@ -242,14 +247,14 @@ mod tests {
                 (Fin(-1), Fin(-1)),
                 (Low, High),
                 (Fin(i128::MIN + 1), Fin(i128::MIN + 1)),
-                (Low, High),
+                (MAX, High),
             ),
             (
                 (Fin(-1), Fin(-1)),
                 (MIN, MIN),
                 (Low, High),
                 (MAX, MAX),
-                (Low, High),
+                (MAX, High),
             ),
         ];
         for (a, b, sums, differences, products) in rows {
@@ -271,7 +276,7 @@ mod tests {
             ((Fin(-9), Fin(20)), (Fin(-4), Fin(-2)), (Fin(-10), Fin(4))),
             ((Low, Fin(5)), (Fin(2), Fin(3)), (Low, Fin(2))),
             ((Fin(-8), Fin(5)), (Fin(2), High), (Fin(-4), Fin(2))),
-            ((MIN, MIN), (Fin(-1), Fin(-1)), (Low, High)),
+            ((MIN, MIN), (Fin(-1), Fin(-1)), (MAX, High)),
             ((MIN, MAX), (Fin(1), Fin(1)), (MIN, MAX)),
         ];
         for (a, b, quotients) in rows {

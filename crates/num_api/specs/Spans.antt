@@ -1,5 +1,5 @@
 -- Ranges from one whole number to another, and what the plain rule makes of them, operator by operator.
-use Rattle.std.specs.Prelude.{ℤ, pos, negsuc, ◌+ℤ◌, ◌-ℤ◌, ◌*ℤ◌, neg_ℤ, int_div, Option, Some, None, Bool, not, ◌&&◌, ◌||◌, if◌then◌else◌}
+use Rattle.std.specs.Prelude.{ℤ, ◌≡◌, pos, negsuc, ◌+ℤ◌, ◌-ℤ◌, ◌*ℤ◌, neg_ℤ, int_div, Option, Some, None, Bool, not, ◌&&◌, ◌||◌, if◌then◌else◌}
 use Rattle.std.specs.Int.{int_min, int_max}
 use Rattle.std.specs.Int.RustNames.{int_le, int_lt, FitsSigned}
 use Rattle.std.specs.Ordering.{int_eq}
@@ -9,6 +9,7 @@ use Rattle.ext_int.specs.declared.Ext.TheVariants.{Fin}
 use Rattle.num_api.specs.declared.message.Range.{Range}
 use Rattle.num_api.specs.declared.expr.NOp.{NOp}
 use Rattle.num_api.specs.declared.expr.NOp.TheVariants.{Neg, Not, Add, Sub, Mul, Quot, Rem, Shl, Shr, And, Or, Xor, Eq, Ne, Lt, Le}
+use Rattle.num_api.specs.Ranges.{IsPoint}
 use Rattle.num_api.specs.Value.{truth, binary_value}
 
 -- the whole numbers from lo to hi
@@ -129,3 +130,7 @@ binary_span Eq s t = Some (tests (may_equal s t) (may_differ s t))
 binary_span Ne s t = Some (tests (may_differ s t) (may_equal s t))
 binary_span Lt s t = Some (tests (may_be_less s t) (may_be_at_most t s))
 binary_span Le s t = Some (tests (may_be_at_most s t) (may_be_less t s))
+
+-- the operation is no quotient by what is known to be 0: that has no value, whatever the dividend
+abbrev pub IsNotByZero : NOp → Range → Type 0
+IsNotByZero op divisor = op ≡ Quot → IsPoint divisor (pos 0) → ⊥

@@ -5,7 +5,7 @@ ghost use Rattle.ramps.specs.Told.{Keeps};
 ghost use Rattle.num_api.specs.Ranges.{InRange, IsPoint, NoWider, hull};
 ghost use Rattle.num_api.specs.Residues.{InResidue, IsResidue, IsFoldResidue, IsMultiple};
 ghost use Rattle.num_api.specs.Value.{unary_value, binary_value};
-ghost use Rattle.num_api.specs.Spans.{Span, FitsSpan, range_of, unary_span, binary_span};
+ghost use Rattle.num_api.specs.Spans.{Span, FitsSpan, IsNotByZero, range_of, unary_span, binary_span};
 ghost use Rattle.num_api.specs.Fold.{IsAlignment};
 ghost use Rattle.std.specs.Int.RustNames.{FitsSigned};
 ghost use Rattle.num_api.specs.declared.message.Range.{Range};
@@ -71,7 +71,7 @@ pub trait ValueDomain: Copy {
     fn binary(op: NOp, a: &Self, b: &Self) -> Self
         ensures holds { (x y n : ℤ) → admits a.now x → admits b.now y → binary_value op x y ≡ Some n → admits result n }
         ensures point { (x y n : ℤ) → IsTrue exact → IsPoint (known a.now) x → IsPoint (known b.now) y → binary_value op x y ≡ Some n → FitsSigned w128 n → IsPoint (known result) n }
-        ensures plain { (s t r : Span) → IsTrue exact → NoWider (known a.now) (range_of s) → FitsSpan s → NoWider (known b.now) (range_of t) → FitsSpan t → binary_span op s t ≡ Some r → FitsSpan r → NoWider (known result) (range_of r) }
+        ensures plain { (s t r : Span) → IsTrue exact → IsNotByZero op (known b.now) → NoWider (known a.now) (range_of s) → FitsSpan s → NoWider (known b.now) (range_of t) → FitsSpan t → binary_span op s t ≡ Some r → FitsSpan r → NoWider (known result) (range_of r) }
         ensures fold_sum { (c : ℤ) → IsTrue folds → IsAlignment c → op ≡ Add → IsFoldResidue c (class a.now) → IsFoldResidue c (class b.now) → IsFoldResidue c (class result) }
         ensures fold_left { (c n : ℤ) → IsTrue folds → IsAlignment c → op ≡ Mul → IsMultiple c n → class a.now ≡ record { rem = n; modulus = pos 0 } → IsFoldResidue c (class result) }
         ensures fold_right { (c n : ℤ) → IsTrue folds → IsAlignment c → op ≡ Mul → IsMultiple c n → class b.now ≡ record { rem = n; modulus = pos 0 } → IsFoldResidue c (class result) };

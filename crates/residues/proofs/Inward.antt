@@ -476,13 +476,6 @@ no_wider_trans r s t h k = record { low = AtMost_trans t.lo s.lo r.lo k.low h.lo
 pub moved_not_empty : (c : Residue) (r : Range) → (inward_range c r ≡ r → ⊥) → ((n : ℤ) → InRange (inward_range c r) n → ⊥) → ⊥
 moved_not_empty c r h none = let between = number_between (inward_range c r).lo (inward_range c r).hi (inward_holds c r h) in none between.0 (record { low = between.1; high = between.2 })
 
--- a range of one number that is no wider than another one with that number
-pub point_of : (r s : Range) (x : ℤ) → IsPoint r x → NoWider s r → InRange s x → IsPoint s x
-point_of r s x p w h = point_inside r s x p w (holds_number_from s.lo s.hi x h.low h.high)
-
--- a value whose range moved, and none of whose numbers is in the range it moved to
-pub holds_of : (r : Range) (n : ℤ) → InRange r n → IsTrue (holds_some r)
-holds_of r n h = holds_number_from r.lo r.hi n h.low h.high
 
 -- the hull of narrower ranges is no wider
 pub hull_no_wider : (a b r s : Range) → NoWider a r → NoWider b s → NoWider (hull a b) (hull r s)
@@ -492,3 +485,58 @@ hull_no_wider a b r s h k = record { low = lesser_mono r.lo s.lo a.lo b.lo h.low
 pub if_some_map : {A : Type 0} (P Q : A → Type 0) (o : Option A) → ((a : A) → P a → Q a) → IfSome o P → IfSome o Q
 if_some_map P Q None f h = tt
 if_some_map P Q (Some a) f h = f a h
+
+-- ---- a range that has all numbers of another one and is no wider
+
+low_at_most : (a b hi : Ext) (m : ℤ) → Below a m → Above hi m → ((n : ℤ) → Below a n → Above hi n → Below b n) → AtMost b a
+low_at_most (Fin l) b hi m h k all = AtMost-from_below b l (all l (AtMost_refl (Fin l)) (above_less hi l m h k))
+  where
+    above_less : (e : Ext) (n m : ℤ) → n ≤ℤ m → Above e m → Above e n
+    above_less Low n m i j = j
+    above_less (Fin x) n m i j = le_trans n m x i j
+    above_less High n m i j = tt
+low_at_most High b hi m h k all = absurd h
+low_at_most Low Low hi m h k all = tt
+low_at_most Low (Fin x) hi m h k all = absurd (never_below x m (all (int_min (x -ℤ pos 1) m) tt (above_less hi (int_min (x -ℤ pos 1) m) m (min_second (x -ℤ pos 1) m) k)))
+  where
+    above_less : (e : Ext) (n m : ℤ) → n ≤ℤ m → Above e m → Above e n
+    above_less Low n m i j = j
+    above_less (Fin x) n m i j = le_trans n m x i j
+    above_less High n m i j = tt
+
+    never_below : (x m : ℤ) → x ≤ℤ int_min (x -ℤ pos 1) m → ⊥
+    never_below x m u = let v = min_first (x -ℤ pos 1) m in omega (arith, ints)
+low_at_most Low High hi m h k all = all m h k
+
+high_at_most : (a b lo : Ext) (m : ℤ) → Above a m → Below lo m → ((n : ℤ) → Above a n → Below lo n → Above b n) → AtMost a b
+high_at_most (Fin l) b lo m h k all = AtMost-from_above b l (all l (AtMost_refl (Fin l)) (below_more lo l m h k))
+  where
+    below_more : (e : Ext) (n m : ℤ) → m ≤ℤ n → Below e m → Below e n
+    below_more Low n m i j = tt
+    below_more (Fin x) n m i j = le_trans x m n j i
+    below_more High n m i j = j
+high_at_most Low b lo m h k all = absurd h
+high_at_most High High lo m h k all = tt
+high_at_most High (Fin x) lo m h k all = absurd (never_above x m (all (int_max (x +ℤ pos 1) m) tt (below_more lo (int_max (x +ℤ pos 1) m) m (max_second (x +ℤ pos 1) m) k)))
+  where
+    below_more : (e : Ext) (n m : ℤ) → m ≤ℤ n → Below e m → Below e n
+    below_more Low n m i j = tt
+    below_more (Fin x) n m i j = le_trans x m n j i
+    below_more High n m i j = j
+
+    never_above : (x m : ℤ) → int_max (x +ℤ pos 1) m ≤ℤ x → ⊥
+    never_above x m u = let v = max_first (x +ℤ pos 1) m in omega (arith, ints)
+high_at_most High Low lo m h k all = all m h k
+
+pub same_range : (r s : Range) → NoWider s r → ((n : ℤ) → InRange r n → InRange s n) → IsTrue (holds_some r) → s ≡ r
+same_range r s w all h =
+    let between = number_between r.lo r.hi h in
+    let low = AtMost_antisymm s.lo r.lo (low_at_most r.lo s.lo r.hi between.0 between.1 between.2 (λ n i j. (all n (record { low = i; high = j })).low)) w.low in
+    let high = AtMost_antisymm s.hi r.hi w.high (high_at_most r.hi s.hi r.lo between.0 between.2 between.1 (λ n i j. (all n (record { low = j; high = i })).high)) in
+    ap (λ (e : Ext). let t : Range = record { lo = e; hi = s.hi } in t) low ∙ ap (λ (e : Ext). let t : Range = record { lo = r.lo; hi = e } in t) high
+
+pub no_wider_itself : (r s : Range) → r ≡ s → NoWider r s
+no_wider_itself r s e = subst (λ (x : Range). NoWider r x) e (record { low = AtMost_refl r.lo; high = AtMost_refl r.hi })
+
+pub point_along : (r s : Range) (x : ℤ) → r ≡ s → IsPoint s x → IsPoint r x
+point_along r s x e h = subst (λ (t : Range). IsPoint t x) (sym e) h

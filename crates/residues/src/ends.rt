@@ -46,7 +46,7 @@ fn moved(c: Residue, r: Range) -> Range
 }
 
 // Whether the range holds a number.
-pub fn holds_number(r: Range) -> bool
+fn holds_number(r: Range) -> bool
     ensures { result ≡ holds_some r }
 {
     match (r.lo, r.hi) {

@@ -5,8 +5,10 @@ ghost use Rattle.num_api.specs.Ranges.{InRange, IsPoint, NoWider, holds_some};
 ghost use Rattle.num_api.specs.Residues.{IsResidue};
 ghost use Rattle.residues.specs.Inward.{moved_range, HasSome, IsReduced};
 
-use crate::ends::{holds_number, inward, is_same, meets};
-use num_api::{NOp, Range, Residue, ValueDomain};
+use crate::ends::{inward, is_same, meets};
+use crate::Class;
+use intervals::Interval;
+use num_api::{ExactValue, NOp, Range, Residue, ValueDomain};
 use ramps::{Ramp, Steps};
 
 /// A value of two domains at once: it has the numbers that are in both. The first gives the bounds
@@ -90,8 +92,7 @@ impl<V: ValueDomain, W: ValueDomain> Pair<V, W> {
     // The first part, with its bounds moved inward.
     fn tight(&self) -> V
         ensures holds { (n : ℤ) → IsInBoth V.admits W.admits self.now n → V.admits result n }
-        ensures plain { IsTrue V.exact → NoWider (V.known result) (range_of_pair V.known W.class self.now) }
-        ensures point { (x : ℤ) → IsTrue V.exact → IsPoint (range_of_pair V.known W.class self.now) x → IsPoint (V.known result) x }
+        ensures exact { IsTrue V.exact → V.known result ≡ range_of_pair V.known W.class self.now }
     {
         let ends = self.ends();
         if is_same(ends, self.bounds.range()) {
@@ -100,11 +101,11 @@ impl<V: ValueDomain, W: ValueDomain> Pair<V, W> {
         let Some(inside) = V::within(ends) else {
             return self.bounds;
         };
-        if !answers_some(inside) {
-            return self.bounds;
+        if !is_same(inside.range(), ends) {
+            return inside;
         }
         match inside.meet(&self.bounds) {
-            Some(both) if answers_some(both) => both,
+            Some(both) if is_same(both.range(), ends) => both,
             _ => inside,
         }
     }
@@ -213,10 +214,9 @@ impl<V: ValueDomain, W: ValueDomain> ValueDomain for Pair<V, W> {
     }
 }
 
-// Whether the value answers a range with a number.
-fn answers_some<V: ValueDomain>(v: V) -> bool
-    ensures value { result ≡ holds_some (V.known v) }
-    ensures holds { (n : ℤ) → V.admits v n → IsTrue result }
-{
-    holds_number(v.range())
+/// An interval with a class keeps every law of value domains.
+impl ExactValue for Pair<Interval, Class> {
+    ghost use Rattle.std.specs.Prelude.{refl};
+
+    ghost is_exact = { (refl, refl) };
 }

@@ -9,6 +9,7 @@ ghost use Rattle.num_api.specs.Ranges.{InRange, all_numbers};
 use crate::numbers::GREATEST_MODULUS;
 use crate::{Class, Pair};
 use ext_int::Ext::{self, Fin, High, Low};
+use intervals::Interval;
 use num_api::{NOp, Range, Residue, ValueDomain};
 use ramps::{Powers, Ramp, Steps, power_step};
 
@@ -292,6 +293,43 @@ fn pairs(rt: HostRuntime) {
         });
         assert_eq!(rt; ends, expected, "{lo:?} to {hi:?} in {c:?}");
     }
+}
+
+// An interval and a class, with the bounds moved inward.
+fn interval(lo: i128, hi: i128, c: Class) -> Option<Pair<Interval, Class>> {
+    match Interval::within(Range {
+        lo: Fin(lo),
+        hi: Fin(hi),
+    }) {
+        Some(bounds) => Pair::new(bounds, c),
+        None => None,
+    }
+}
+
+// An operator, and two intervals with classes; the ends and the class of the result.
+#[test]
+fn pairs_of_intervals(rt: HostRuntime) {
+    let rows = [
+        (NOp::Add, (1, 10, (0, 4)), (1, 1, (1, 0)), (5, 9, (1, 4))),
+        (NOp::Mul, (4, 4, (4, 0)), (0, 5, (0, 1)), (0, 20, (0, 4))),
+        (NOp::Sub, (0, 9, (0, 3)), (0, 9, (1, 6)), (-7, 8, (2, 3))),
+        (NOp::Rem, (0, 90, (2, 10)), (10, 10, (10, 0)), (2, 2, (2, 10))),
+    ];
+    for (op, a, b, expected) in rows {
+        let left = interval(a.0, a.1, class(a.2.0, a.2.1));
+        let right = interval(b.0, b.1, class(b.2.0, b.2.1));
+        if let (Some(left), Some(right)) = (left, right) {
+            let result = Pair::binary(op, &left, &right);
+            assert_eq!(rt; result.range(), Range { lo: Fin(expected.0), hi: Fin(expected.1) }, "{op:?}");
+            assert_eq!(rt; Class::new(result.residue()), class(expected.2.0, expected.2.1), "{op:?}");
+        }
+    }
+    let some = interval(5, 7, class(0, 1));
+    let fours = interval(-100, 100, class(0, 4));
+    if let (Some(some), Some(fours)) = (some, fours) {
+        assert!(rt; some.meet(&fours).is_none());
+    }
+    assert!(rt; interval(5, 7, class(0, 4)).is_none());
 }
 
 #[test]

@@ -6,5 +6,5 @@ use Rattle.intervals.proofs.Interval.cut.Goals as goal
 
 pub returns-clause-some : goal.returns-clause-some
 returns-clause-some c =
-    cut_some c.meet.result c.args.self.now (to_z w128 (of_z w128 c.args.lo)) (to_z w128 (of_z w128 c.args.hi)) c.args.lo c.args.hi
-    (to_z-of_z w128 c.args.lo c.ranges.lo) (to_z-of_z w128 c.args.hi c.ranges.hi) c.meet.ensures.some
+    cut_some c.part.result c.args.self.now (to_z w128 (of_z w128 c.args.lo)) (to_z w128 (of_z w128 c.args.hi)) c.args.lo c.args.hi
+    (to_z-of_z w128 c.args.lo c.ranges.lo) (to_z-of_z w128 c.args.hi c.ranges.hi) c.part.ensures.some

@@ -1,4 +1,4 @@
-use Rattle.ext_int.proofs.Products.{product_corners_low, product_corners_high}
+use Rattle.intervals.proofs.Corners.{product_corners_low, product_corners_high}
 use Rattle.intervals.proofs.Arithmetic.{product_least, product_holds}
 use Rattle.intervals.proofs.Interval.mul.Goals as goal
 

@@ -1,4 +1,4 @@
-use Rattle.ext_int.proofs.Quotients.{quotient_corners_low, quotient_corners_high}
+use Rattle.intervals.proofs.Corners.{quotient_corners_low, quotient_corners_high}
 use Rattle.intervals.proofs.Arithmetic.{quotient_least, quotient_holds}
 use Rattle.intervals.proofs.Interval.quot_by.Goals as goal
 

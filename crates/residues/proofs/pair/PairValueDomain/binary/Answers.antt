@@ -1,6 +1,6 @@
-use Rattle.std.proofs.Common.{ap, sym, subst}
+use Rattle.std.proofs.Common.{pos, ap, sym, subst}
 use Rattle.num_api.specs.Residues.{IsFoldResidue}
-use Rattle.residues.proofs.Inward.{no_wider_trans}
+use Rattle.residues.proofs.Inward.{no_wider_itself, point_along, no_wider_trans}
 use Rattle.residues.proofs.pair.PairValueDomain.binary.Goals as goal
 
 pub returns-clause-holds : goal.returns-clause-holds
@@ -9,12 +9,12 @@ returns-clause-holds g c = λ x y n h k e.
 
 pub returns-clause-point : goal.returns-clause-point
 returns-clause-point g c = λ x y n t p q e f.
-    c.kept.ensures.point n t (c.binary.ensures.point x y n t (c.tight.ensures.point x t p) (c.tight-2.ensures.point y t q) e f)
+    c.kept.ensures.point n t (c.binary.ensures.point x y n t (point_along _ _ x (c.tight.ensures.exact t) p) (point_along _ _ y (c.tight-2.ensures.exact t) q) e f)
 
 pub returns-clause-plain : goal.returns-clause-plain
-returns-clause-plain g c = λ s u r t w fs v fu e fr.
+returns-clause-plain g c = λ s u r t nz w fs v fu e fr.
     no_wider_trans _ _ _ (c.kept.ensures.plain t)
-    (c.binary.ensures.plain s u r t (no_wider_trans _ _ _ (c.tight.ensures.plain t) w) fs (no_wider_trans _ _ _ (c.tight-2.ensures.plain t) v) fu e fr)
+    (c.binary.ensures.plain s u r t (λ q z. nz q (point_along _ _ (pos 0) (sym (c.tight-2.ensures.exact t)) z)) (no_wider_trans _ _ _ (no_wider_itself _ _ (c.tight.ensures.exact t)) w) fs (no_wider_trans _ _ _ (no_wider_itself _ _ (c.tight-2.ensures.exact t)) v) fu e fr)
 
 pub returns-clause-fold_sum : goal.returns-clause-fold_sum
 returns-clause-fold_sum g c = λ d t al e h k.

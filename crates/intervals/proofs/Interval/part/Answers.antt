@@ -1,7 +1,7 @@
 use Rattle.std.proofs.Common.{IsTrue, sym, ◌∙◌}
 use Rattle.ext_int.specs.Ext.{holds_number}
 use Rattle.ext_int.proofs.Ends.{number_between}
-use Rattle.intervals.proofs.Interval.meet.Goals as goal
+use Rattle.intervals.proofs.Interval.part.Goals as goal
 
 pub returns-then-is_range-clause-none : goal.returns-then-is_range-clause-none
 returns-then-is_range-clause-none c =

@@ -1,0 +1,96 @@
+//! An interval as a value domain.
+
+ghost use Rattle.std.specs.Prelude.{◌≡◌, ℤ, ◌≤◌, ◌<◌, true, false};
+ghost use Rattle.num_api.specs.Weight.{range_weight};
+ghost use Rattle.ramps.specs.Told.{Keeps};
+ghost use Rattle.intervals.specs.Interval.{Admits, ends_of, class_of};
+ghost use Rattle.intervals.specs.Order.{includes};
+ghost use Rattle.intervals.specs.Widening.{widened};
+
+use crate::Interval;
+use crate::ends::is_range;
+use crate::operators::{all_numbers, at_most, binary, number, unary};
+use crate::widening::{lower, raise};
+use num_api::{NOp, Range, Residue, ValueDomain};
+use ramps::{Ramp, Steps};
+
+impl ValueDomain for Interval {
+    ghost admits = { Admits };
+
+    ghost known = { ends_of };
+
+    ghost class = { class_of };
+
+    ghost holds = { includes };
+
+    ghost weight = { λ steps i. range_weight steps (ends_of i) };
+
+    ghost exact = { true };
+
+    ghost folds = { false };
+
+    fn top() -> Self {
+        all_numbers()
+    }
+
+    fn within(r: Range) -> Option<Self> {
+        if is_range(r.lo, r.hi) {
+            Some(Interval { lo: r.lo, hi: r.hi })
+        } else {
+            None
+        }
+    }
+
+    fn range(&self) -> Range {
+        Range {
+            lo: self.lo,
+            hi: self.hi,
+        }
+    }
+
+    fn residue(&self) -> Residue {
+        match number(self) {
+            Some(n) => Residue { rem: n, modulus: 0 },
+            None => Residue { rem: 0, modulus: 1 },
+        }
+    }
+
+    fn unary(op: NOp, a: &Self) -> Self {
+        unary(op, a)
+    }
+
+    fn binary(op: NOp, a: &Self, b: &Self) -> Self {
+        binary(op, a, b)
+    }
+
+    fn meet(&self, other: &Self) -> Option<Self> {
+        self.part(other.lo, other.hi)
+    }
+
+    fn join(&self, other: &Self) -> Self {
+        self.hull(*other)
+    }
+
+    // A lower end that moves goes to the next step below, an upper end to the next step above; past the
+    // last step it is infinite.
+    fn widen<U: Fn(i128) -> Option<i128>, S: Steps>(&self, next: &Self, ramp: &Ramp<U>) -> Self
+        requires { Keeps U.pre U.post ramp.now S.list }
+        ensures left { (n : ℤ) → Admits self.now n → Admits result n }
+        ensures right { (n : ℤ) → Admits next.now n → Admits result n }
+        ensures no_rise { range_weight S.list (ends_of result) ≤ range_weight S.list (ends_of self.now) }
+        ensures falls { includes self.now next.now ≡ false → range_weight S.list (ends_of result) < range_weight S.list (ends_of self.now) }
+        ensures ends { ends_of result ≡ widened S.list self.now next.now }
+    {
+        Interval {
+            lo: lower::<U, S>(self.lo, next.lo, ramp),
+            hi: raise::<U, S>(self.hi, next.hi, ramp),
+        }
+    }
+
+    fn covers(&self, other: &Self) -> bool {
+        at_most(self.lo, other.lo) && at_most(other.hi, self.hi)
+    }
+}
+
+#[cfg(test)]
+mod tests;

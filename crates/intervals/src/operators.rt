@@ -1,0 +1,177 @@
+//! What each operator makes of intervals.
+
+ghost use Rattle.std.specs.Prelude.{◌≡◌, ℤ, ◌||◌, IsTrue, IfSome, IfNone};
+ghost use Rattle.intervals.specs.Interval.{Admits, IsPoint};
+ghost use Rattle.intervals.specs.Order.{is_at_most, is_before, may_equal, may_differ, may_be_less, may_be_at_most};
+ghost use Rattle.intervals.specs.Operations.{CarriesOne, Carries, IsBitwise, IsTests, HoldsRemainders, size_less_one, greatest_remainder};
+
+use crate::Interval;
+use crate::bits::bitwise;
+use ext_int::{Ext, cmp, max, min, neg_low};
+use num_api::NOp;
+use std::cmp::Ordering;
+
+// All whole numbers.
+pub fn all_numbers() -> Interval
+    ensures { (n : ℤ) → Admits result n }
+{
+    Interval {
+        lo: Ext::Low,
+        hi: Ext::High,
+    }
+}
+
+// What an operator of one operand makes of the interval.
+pub fn unary(op: NOp, a: &Interval) -> Interval
+    ensures { CarriesOne op a.now result }
+{
+    match op {
+        NOp::Neg => a.neg(),
+        NOp::Not => {
+            let zero = Interval::point(0);
+            tests(may_equal(a, &zero), may_differ(a, &zero))
+        }
+        _ => all_numbers(),
+    }
+}
+
+// What an operator of two operands makes of the intervals.
+pub fn binary(op: NOp, a: &Interval, b: &Interval) -> Interval
+    ensures { Carries op a.now b.now result }
+{
+    match op {
+        NOp::Neg | NOp::Not => all_numbers(),
+        NOp::Add => a.add(b),
+        NOp::Sub => a.sub(b),
+        NOp::Mul => a.mul(b),
+        NOp::Quot => a.quot(b),
+        NOp::Rem => remainder(a, b),
+        NOp::Shl | NOp::Shr | NOp::And | NOp::Or | NOp::Xor => of_bits(op, a, b),
+        NOp::Eq => tests(may_equal(a, b), may_differ(a, b)),
+        NOp::Ne => tests(may_differ(a, b), may_equal(a, b)),
+        NOp::Lt => tests(may_be_less(a, b), may_be_at_most(b, a)),
+        NOp::Le => tests(may_be_at_most(a, b), may_be_less(b, a)),
+    }
+}
+
+// The interval's number, where it holds no other.
+pub fn number(a: &Interval) -> Option<i128>
+    ensures some { IfSome result (IsPoint a.now) }
+    ensures none { IfNone result ((n : ℤ) → IsPoint a.now n → ⊥) }
+{
+    match (a.lo, a.hi) {
+        (Ext::Fin(lo), Ext::Fin(hi)) if lo == hi => Some(lo),
+        _ => None,
+    }
+}
+
+// The value of an operator on bits where both are points, and else all numbers.
+fn of_bits(op: NOp, a: &Interval, b: &Interval) -> Interval
+    requires { IsBitwise op }
+    ensures { Carries op a.now b.now result }
+{
+    match (number(a), number(b)) {
+        (Some(x), Some(y)) => match bitwise(op, x, y) {
+            Some(n) => Interval::point(n),
+            None => all_numbers(),
+        },
+        _ => all_numbers(),
+    }
+}
+
+// ---- remainders
+
+// The remainders by the divisors other than 0. Where 0 is the only one it may be any interval, and is 0.
+fn remainder(a: &Interval, b: &Interval) -> Interval
+    ensures { Carries NOp.Rem a.now b.now result }
+{
+    match (number(a), number(b)) {
+        (Some(x), Some(y)) if y != 0 => Interval::point(x.wrapping_rem(y)),
+        _ => remainders(a, b),
+    }
+}
+
+// The numbers on the dividend's side of 0 that are no further from it than the dividend, nor than one less
+// than the greatest size of a divisor.
+fn remainders(a: &Interval, b: &Interval) -> Interval
+    ensures { HoldsRemainders a.now b.now result }
+{
+    let most = most_remainder(b);
+    Interval {
+        lo: max(neg_low(most), min(a.lo, Ext::Fin(0))),
+        hi: min(most, max(a.hi, Ext::Fin(0))),
+    }
+}
+
+// One less than the greatest size of a divisor, and at least 0.
+fn most_remainder(b: &Interval) -> Ext
+    ensures { result ≡ greatest_remainder b.now }
+{
+    max(Ext::Fin(0), max(one_below_size(b.lo), one_below_size(b.hi)))
+}
+
+// One less than the size of a number.
+fn one_below_size(end: Ext) -> Ext
+    ensures { result ≡ size_less_one end }
+{
+    match end {
+        Ext::Fin(n) if n > 0 => Ext::Fin(n - 1),
+        Ext::Fin(n) => Ext::Fin(-1 - n),
+        _ => Ext::High,
+    }
+}
+
+// ---- tests
+
+// 0, 1 or both, as the test may fail or hold.
+fn tests(may_hold: bool, may_fail: bool) -> Interval
+    requires { IsTrue (may_hold || may_fail) }
+    ensures { IsTests may_hold may_fail result }
+{
+    Interval {
+        lo: Ext::Fin(if may_fail { 0 } else { 1 }),
+        hi: Ext::Fin(if may_hold { 1 } else { 0 }),
+    }
+}
+
+// Whether some number is in both.
+fn may_equal(a: &Interval, b: &Interval) -> bool
+    ensures { result ≡ may_equal a.now b.now }
+{
+    at_most(a.lo, b.hi) && at_most(b.lo, a.hi)
+}
+
+// Whether some number of the first is another one than some number of the second.
+fn may_differ(a: &Interval, b: &Interval) -> bool
+    ensures { result ≡ may_differ a.now b.now }
+{
+    before(a.lo, b.hi) || before(b.lo, a.hi)
+}
+
+// Whether some number of the first is below some number of the second.
+fn may_be_less(a: &Interval, b: &Interval) -> bool
+    ensures { result ≡ may_be_less a.now b.now }
+{
+    before(a.lo, b.hi)
+}
+
+// Whether some number of the first is not above some number of the second.
+fn may_be_at_most(a: &Interval, b: &Interval) -> bool
+    ensures { result ≡ may_be_at_most a.now b.now }
+{
+    at_most(a.lo, b.hi)
+}
+
+// Whether the first end is at or below the second.
+pub fn at_most(a: Ext, b: Ext) -> bool
+    ensures { result ≡ is_at_most a b }
+{
+    cmp(a, b) != Ordering::Greater
+}
+
+// Whether the first end is below the second.
+fn before(a: Ext, b: Ext) -> bool
+    ensures { result ≡ is_before a b }
+{
+    cmp(a, b) == Ordering::Less
+}
