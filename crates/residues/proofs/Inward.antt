@@ -476,7 +476,6 @@ no_wider_trans r s t h k = record { low = AtMost_trans t.lo s.lo r.lo k.low h.lo
 pub moved_not_empty : (c : Residue) (r : Range) → (inward_range c r ≡ r → ⊥) → ((n : ℤ) → InRange (inward_range c r) n → ⊥) → ⊥
 moved_not_empty c r h none = let between = number_between (inward_range c r).lo (inward_range c r).hi (inward_holds c r h) in none between.0 (record { low = between.1; high = between.2 })
 
-
 -- the hull of narrower ranges is no wider
 pub hull_no_wider : (a b r s : Range) → NoWider a r → NoWider b s → NoWider (hull a b) (hull r s)
 hull_no_wider a b r s h k = record { low = lesser_mono r.lo s.lo a.lo b.lo h.low k.low; high = greater_mono a.hi b.hi r.hi s.hi h.high k.high }

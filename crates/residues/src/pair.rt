@@ -5,8 +5,8 @@ ghost use Rattle.num_api.specs.Ranges.{InRange, IsPoint, NoWider, holds_some};
 ghost use Rattle.num_api.specs.Residues.{IsResidue};
 ghost use Rattle.residues.specs.Inward.{moved_range, HasSome, IsReduced};
 
-use crate::ends::{inward, is_same, meets};
 use crate::Class;
+use crate::ends::{inward, is_same, meets};
 use intervals::Interval;
 use num_api::{ExactValue, NOp, Range, Residue, ValueDomain};
 use ramps::{Ramp, Steps};

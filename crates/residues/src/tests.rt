@@ -313,14 +313,26 @@ fn pairs_of_intervals(rt: HostRuntime) {
         (NOp::Add, (1, 10, (0, 4)), (1, 1, (1, 0)), (5, 9, (1, 4))),
         (NOp::Mul, (4, 4, (4, 0)), (0, 5, (0, 1)), (0, 20, (0, 4))),
         (NOp::Sub, (0, 9, (0, 3)), (0, 9, (1, 6)), (-7, 8, (2, 3))),
-        (NOp::Rem, (0, 90, (2, 10)), (10, 10, (10, 0)), (2, 2, (2, 10))),
+        (
+            NOp::Rem,
+            (0, 90, (2, 10)),
+            (10, 10, (10, 0)),
+            (2, 2, (2, 10)),
+        ),
     ];
     for (op, a, b, expected) in rows {
         let left = interval(a.0, a.1, class(a.2.0, a.2.1));
         let right = interval(b.0, b.1, class(b.2.0, b.2.1));
         if let (Some(left), Some(right)) = (left, right) {
             let result = Pair::binary(op, &left, &right);
-            assert_eq!(rt; result.range(), Range { lo: Fin(expected.0), hi: Fin(expected.1) }, "{op:?}");
+            assert_eq!(rt;
+                result.range(),
+                Range {
+                    lo: Fin(expected.0),
+                    hi: Fin(expected.1)
+                },
+                "{op:?}"
+            );
             assert_eq!(rt; Class::new(result.residue()), class(expected.2.0, expected.2.1), "{op:?}");
         }
     }

@@ -1,6 +1,6 @@
 use Rattle.num_api.specs.Ranges.{hull}
 use Rattle.residues.specs.Pair.{range_of_pair}
-use Rattle.residues.proofs.Inward.{no_wider_itself, point_along, no_wider_trans, hull_no_wider}
+use Rattle.residues.proofs.Inward.{no_wider_itself, no_wider_trans, hull_no_wider}
 use Rattle.residues.proofs.pair.PairValueDomain.join.Goals as goal
 
 pub returns-clause-plain : goal.returns-clause-plain

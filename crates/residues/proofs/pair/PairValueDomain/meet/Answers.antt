@@ -1,7 +1,7 @@
 use Rattle.std.specs.Prelude.{IsTrue}
 use Rattle.num_api.specs.Ranges.{NoWider}
 use Rattle.residues.specs.Pair.{range_of_pair}
-use Rattle.residues.proofs.Inward.{no_wider_itself, point_along, no_wider_trans, if_some_map}
+use Rattle.residues.proofs.Inward.{no_wider_itself, no_wider_trans, if_some_map}
 use Rattle.residues.proofs.pair.PairValueDomain.meet.Goals as goal
 
 pub returns-in-Some-Some-clause-plain : goal.returns-in-Some-Some-clause-plain
