@@ -5,6 +5,12 @@ use Rattle.std.proofs.Common.{◌<◌, ◌*◌, ◌%◌, to_z}
 use Rattle.std.proofs.lemmas.Int.{ints, to_z_pos}
 use Rattle.std.proofs.lemmas.Nat.{pow_below}
 use mir.Syntax.{w128}
+use Rattle.ext_int.specs.declared.Ext.{Ext}
+use Rattle.ext_int.specs.declared.Ext.TheVariants.{Fin}
+use Rattle.ext_int.specs.Ext.{Below, Above}
+use Rattle.ext_int.proofs.Ends.{AtMost_refl}
+use Rattle.intervals.specs.declared.Interval.{Interval}
+use Rattle.intervals.specs.Interval.{Admits, IsPoint}
 use Rattle.num_api.specs.declared.message.Residue.{Residue}
 use Rattle.num_api.specs.declared.expr.NOp.{NOp}
 use Rattle.num_api.specs.declared.expr.NOp.TheVariants.{Neg, Add, Sub, Mul, Shl}
@@ -64,14 +70,16 @@ shifts op r s p t x (negsuc k) n e powers d h i v = absurd (nothing (of_operator
     nothing : let o : Option ℤ = None in o ≡ Some n → ⊥
     nothing q = cc
 
--- two classes of one number each
-pub points_some : (op : NOp) (a b : Residue) (o : Option ℤ) → a.modulus ≡ pos 0 → b.modulus ≡ pos 0 → IfSome o (λ n. binary_value op a.rem b.rem ≡ Some n) → IfSome o (λ m. (x y n : ℤ) → InResidue a x → InResidue b y → binary_value op x y ≡ Some n → n ≡ m)
-points_some op a b None e f h = tt
-points_some op a b (Some m) e f h = λ x y n i j v.
+-- two classes of one number each, by the value at these numbers
+pub at_points : (op : NOp) (a b r : Residue) → a.modulus ≡ pos 0 → b.modulus ≡ pos 0 → ((n : ℤ) → binary_value op a.rem b.rem ≡ Some n → InResidue r n) → (x y n : ℤ) → InResidue a x → InResidue b y → binary_value op x y ≡ Some n → InResidue r n
+at_points op a b r e f h x y n i j v =
     let u : x ≡ a.rem = one_number a x e i in
     let w : y ≡ b.rem = one_number b y f j in
-    let p : binary_value op a.rem b.rem ≡ Some n = subst (λ (t : ℤ). binary_value op a.rem t ≡ Some n) w (subst (λ (t : ℤ). binary_value op t y ≡ Some n) u v) in
-    some_same n m (sym p ∙ h)
+    h n (subst (λ (t : ℤ). binary_value op a.rem t ≡ Some n) w (subst (λ (t : ℤ). binary_value op t y ≡ Some n) u v))
+
+-- an interval of one number holds it
+pub point_admits : (i : Interval) (n : ℤ) → IsPoint i n → Admits i n
+point_admits i n (e, f) = (subst (λ (t : Ext). Below t n) (sym e) (AtMost_refl (Fin n)), subst (λ (t : Ext). Above t n) (sym f) (AtMost_refl (Fin n)))
 
 -- the bits of a small power of two
 pub power_bits : (k : ℕ) → k < 127 → to_z w128 ((1 * 2 ^ k) % 2 ^ 128) ≡ pos (2 ^ k)

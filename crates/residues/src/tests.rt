@@ -131,7 +131,8 @@ fn operators(rt: HostRuntime) {
         (NOp::Mul, (8, 0), (3, GREATEST_MODULUS - 1), (0, 8)),
         (NOp::Rem, (7, 12), (8, 0), (3, 4)),
         (NOp::Rem, (-7, 0), (2, 0), (-1, 0)),
-        (NOp::Rem, (5, 0), (0, 0), (5, 0)),
+        (NOp::Quot, (i128::MIN, 0), (-1, 0), (0, 1)),
+        (NOp::Shr, (-5, 0), (1, 0), (-3, 0)),
         (NOp::Quot, (-7, 0), (2, 0), (-3, 0)),
         (NOp::Quot, (0, 4), (2, 0), (0, 1)),
         (NOp::Shl, (1, 2), (3, 0), (8, 16)),
@@ -142,7 +143,10 @@ fn operators(rt: HostRuntime) {
         (NOp::Lt, (4, 0), (3, 0), (0, 0)),
         (NOp::Le, (3, 0), (4, 0), (1, 0)),
         (NOp::Eq, (0, 2), (1, 2), (0, 1)),
-        (NOp::And, (6, 0), (3, 0), (0, 1)),
+        (NOp::And, (6, 0), (3, 0), (2, 0)),
+        (NOp::And, (-1, 0), (12, 0), (12, 0)),
+        (NOp::Xor, (-1, 0), (0, 0), (-1, 0)),
+        (NOp::Or, (4, 8), (3, 0), (0, 1)),
     ];
     for (op, a, b, expected) in rows {
         let result = Class::binary(op, &class(a.0, a.1), &class(b.0, b.1));

@@ -11,7 +11,8 @@ use super::Class;
 use super::arithmetic::{difference, sum};
 use super::lattice::has;
 use super::products::{product, rest};
-use num_api::NOp;
+use intervals::Interval;
+use num_api::{NOp, ValueDomain};
 
 // What an operator of one operand makes of the numbers of a class.
 pub(super) fn unary(op: NOp, a: Class) -> Class
@@ -63,40 +64,24 @@ fn powers(a: Class) -> Class
     Class::all()
 }
 
-// An operator that keeps no class of sums or products: exact on two numbers, and else the class
-// of remainders or all numbers.
+// An operator that keeps no class of sums or products: that of its value at two numbers, the class
+// of remainders, or all numbers.
 fn other(op: NOp, a: Class, b: Class) -> Class
     ensures { (x y n : ℤ) → InResidue (residue_of a) x → InResidue (residue_of b) y → binary_value op x y ≡ Some n → InResidue (residue_of result) n }
 {
-    match (of_points(op, a, b), op) {
-        (Some(n), _) => Class::point(n),
-        (None, NOp::Rem) => rest(a, b),
-        (None, _) => Class::all(),
+    if a.residue.modulus == 0 && b.residue.modulus == 0 {
+        return at_numbers(op, a.residue.rem, b.residue.rem);
     }
-}
-
-// The one value of the operator, where each class is one number.
-fn of_points(op: NOp, a: Class, b: Class) -> Option<i128>
-    ensures { IfSome result (λ m. (x y n : ℤ) → InResidue (residue_of a) x → InResidue (residue_of b) y → binary_value op x y ≡ Some n → n ≡ m) }
-{
-    if a.residue.modulus != 0 || b.residue.modulus != 0 {
-        return None;
-    }
-    value(op, a.residue.rem, b.residue.rem)
-}
-
-// The value of an operator that divides or compares, where it is an `i128`; the others have rules
-// of their own.
-fn value(op: NOp, x: i128, y: i128) -> Option<i128>
-    ensures { IfSome result (λ n. binary_value op x y ≡ Some n) }
-{
     match op {
-        NOp::Quot => x.checked_div(y),
-        NOp::Rem => x.checked_rem(y),
-        NOp::Eq => Some(i128::from(x == y)),
-        NOp::Ne => Some(i128::from(x != y)),
-        NOp::Lt => Some(i128::from(x < y)),
-        NOp::Le => Some(i128::from(x <= y)),
-        _ => None,
+        NOp::Rem => rest(a, b),
+        _ => Class::all(),
     }
+}
+
+// The class of the operator's value at two numbers, as intervals have it.
+fn at_numbers(op: NOp, x: i128, y: i128) -> Class
+    ensures { (n : ℤ) → binary_value op x y ≡ Some n → InResidue (residue_of result) n }
+{
+    let value = Interval::binary(op, &Interval::point(x), &Interval::point(y));
+    Class::new(value.residue())
 }
