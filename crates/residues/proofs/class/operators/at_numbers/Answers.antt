@@ -1,4 +1,4 @@
-use Rattle.std.proofs.Common.{ℤ, sym, subst, FitsSigned}
+use Rattle.std.proofs.Common.{sym, subst, FitsSigned}
 use Rattle.std.proofs.lemmas.Int.{to_z-of_z}
 use mir.Syntax.{w128}
 use Rattle.intervals.specs.Interval.{IsPoint}
