@@ -1,0 +1,43 @@
+use Rattle.std.proofs.Common.{◌≡◌, ℤ, pos, ◌*ℤ◌, ◌≤ℤ◌, sym, subst, FitsSigned, rules}
+use Rattle.std.proofs.lemmas.Int.{to_z-of_z}
+use mir.Syntax.{w128}
+use Rattle.residues.specs.Class.{residue_of}
+use Rattle.residues.proofs.Moves.{moved}
+use Rattle.residues.proofs.Products.{not_negative_product, product_by}
+use Rattle.residues.proofs.class.products.exact_product.Goals as goal
+
+pub small_class-requires-clause-m_is_not_negative : goal.small_class-requires-clause-m_is_not_negative
+small_class-requires-clause-m_is_not_negative c =
+    let a = residue_of c.args.a in
+    let f : FitsSigned w128 a.modulus = search rules in
+    let g : FitsSigned w128 c.args.g = c.ranges.g in
+    let h : FitsSigned w128 c.in_ok-left.left = search rules in
+    let e : c.in_ok-left.left ≡ a.modulus *ℤ c.args.g = (simp to_z-of_z at c.in_ok-left.ensures).1 in
+    moved (λ (t : ℤ). pos 0 ≤ℤ t) c.in_ok-left.left h (subst (λ (t : ℤ). pos 0 ≤ℤ t) (sym e) (not_negative_product a.modulus c.args.g c.args.a.proper.not_negative c.requires.g_is_not_negative))
+
+pub small_class-requires-clause-n_is_not_negative : goal.small_class-requires-clause-n_is_not_negative
+small_class-requires-clause-n_is_not_negative c =
+    let b = residue_of c.args.b in
+    let f : FitsSigned w128 b.modulus = search rules in
+    let g : FitsSigned w128 c.args.f = c.ranges.f in
+    let h : FitsSigned w128 c.in_ok-right.right = search rules in
+    let e : c.in_ok-right.right ≡ c.args.f *ℤ b.modulus = (simp to_z-of_z at c.in_ok-right.ensures).1 in
+    moved (λ (t : ℤ). pos 0 ≤ℤ t) c.in_ok-right.right h (subst (λ (t : ℤ). pos 0 ≤ℤ t) (sym e) (not_negative_product c.args.f b.modulus c.requires.f_is_not_negative c.args.b.proper.not_negative))
+
+pub returns : goal.returns
+returns c =
+    let a = residue_of c.args.a in
+    let b = residue_of c.args.b in
+    let f1 : FitsSigned w128 a.rem = search rules in
+    let f2 : FitsSigned w128 b.rem = search rules in
+    let f3 : FitsSigned w128 a.modulus = search rules in
+    let f4 : FitsSigned w128 b.modulus = search rules in
+    let f5 : FitsSigned w128 c.args.f = c.ranges.f in
+    let f6 : FitsSigned w128 c.args.g = c.ranges.g in
+    let f7 : FitsSigned w128 c.in_ok-rem.rem = search rules in
+    let f8 : FitsSigned w128 c.in_ok-left.left = search rules in
+    let f9 : FitsSigned w128 c.in_ok-right.right = search rules in
+    let p : c.in_ok-rem.rem ≡ a.rem *ℤ b.rem = (simp to_z-of_z at c.in_ok-rem.ensures).1 in
+    let q : c.in_ok-left.left ≡ a.modulus *ℤ c.args.g = (simp to_z-of_z at c.in_ok-left.ensures).1 in
+    let s : c.in_ok-right.right ≡ c.args.f *ℤ b.modulus = (simp to_z-of_z at c.in_ok-right.ensures).1 in
+    product_by a b c.args.f c.args.g c.in_ok-rem.rem c.in_ok-left.left c.in_ok-right.right c.small_class.result p q s (simp to_z-of_z at c.small_class.ensures.some)

@@ -1,0 +1,4 @@
+pub mod Classes
+pub mod Class
+pub mod Inward
+pub mod Pair

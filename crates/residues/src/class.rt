@@ -1,0 +1,148 @@
+// Congruence classes.
+
+ghost use Rattle.std.specs.Prelude.{◌≡◌, ℤ, pos, ◌^◌, ◌≤ℤ◌, true, false};
+ghost use Rattle.num_api.specs.Residues.{IsResidue};
+
+mod arithmetic;
+mod lattice;
+mod meeting;
+mod operators;
+mod products;
+mod ranges;
+
+use crate::numbers::remainder;
+use lattice::{holds_all, joined};
+use meeting::met;
+use num_api::{NOp, Range, Residue, ValueDomain};
+use operators::{binary, unary};
+use ramps::{Ramp, Steps};
+use ranges::{range, within};
+
+/// A congruence class: the whole numbers that are one remainder up to a multiple of a modulus. A
+/// modulus of 0 leaves one number; one of 1 or more is at most 2^100.
+#[derive(Clone, Copy, Debug, PartialEq, Eq)]
+pub struct Class {
+    residue: Residue,
+    ghost proper: { IsResidue residue },
+}
+
+impl Class {
+    ghost use Rattle.residues.specs.Class.{residue_of};
+    ghost use Rattle.residues.specs.Classes.{class_of, IsClassOf};
+
+    /// The class of a remainder and a modulus.
+    pub fn new(r: Residue) -> Class
+        requires { IsResidue r }
+        ensures { residue_of result ≡ r }
+    {
+        Class { residue: r }
+    }
+
+    // The class of `n` alone.
+    pub(crate) fn point(n: i128) -> Class
+        ensures { residue_of result ≡ class_of n (pos 0) }
+    {
+        Class {
+            residue: Residue { rem: n, modulus: 0 },
+        }
+    }
+
+    // The class of all numbers.
+    pub(crate) fn all() -> Class
+        ensures { residue_of result ≡ class_of (pos 0) (pos 1) }
+    {
+        Class {
+            residue: Residue { rem: 0, modulus: 1 },
+        }
+    }
+
+    // The numbers that are `rem` up to a multiple of the modulus.
+    pub(crate) fn of(rem: i128, modulus: i128) -> Class
+        requires low { pos 0 ≤ℤ modulus }
+        requires high { modulus ≤ℤ pos (2 ^ 100) }
+        ensures { IsClassOf rem modulus (residue_of result) }
+    {
+        if modulus == 0 {
+            return Class::point(rem);
+        }
+        Class {
+            residue: Residue {
+                rem: remainder(rem, modulus),
+                modulus,
+            },
+        }
+    }
+}
+
+impl ValueDomain for Class {
+    ghost use Rattle.residues.specs.Class.{residue_of, range_of_class, holds_class, class_weight};
+    ghost use Rattle.num_api.specs.Residues.{InResidue};
+    ghost use Rattle.residues.specs.Classes.{IsJoin, LiesIn, Meets};
+    ghost use Rattle.num_api.specs.declared.message.Residue.{Residue};
+    ghost use Rattle.std.specs.Prelude.{IfSome, IfNone};
+
+    ghost admits = { λ c n. InResidue (residue_of c) n };
+
+    ghost known = { λ c. range_of_class (residue_of c) };
+
+    ghost class = { residue_of };
+
+    ghost holds = { λ c d. holds_class (residue_of c) (residue_of d) };
+
+    ghost weight = { λ steps c. class_weight (residue_of c) };
+
+    ghost exact = { false };
+
+    ghost folds = { true };
+
+    fn top() -> Self {
+        Class::all()
+    }
+
+    fn within(r: Range) -> Option<Self> {
+        within(r)
+    }
+
+    fn range(&self) -> Range {
+        range(*self)
+    }
+
+    fn residue(&self) -> Residue {
+        self.residue
+    }
+
+    fn unary(op: NOp, a: &Self) -> Self {
+        unary(op, *a)
+    }
+
+    fn binary(op: NOp, a: &Self, b: &Self) -> Self {
+        binary(op, *a, *b)
+    }
+
+    /// Exactly the numbers that are in both, where a class of them has a modulus of at most 2^100,
+    /// and else those of the first.
+    fn meet(&self, other: &Self) -> Option<Self>
+        ensures some { IfSome result (λ c. (n : ℤ) → InResidue (residue_of self.now) n → InResidue (residue_of other.now) n → InResidue (residue_of c) n) }
+        ensures none { IfNone result ((n : ℤ) → InResidue (residue_of self.now) n → InResidue (residue_of other.now) n → ⊥) }
+        ensures meets { IfSome result (λ c. Meets (residue_of self.now) (residue_of other.now) (residue_of c)) }
+    {
+        met(*self, *other)
+    }
+
+    /// The least class that holds both, where its modulus is at most 2^100, and else all numbers.
+    fn join(&self, other: &Self) -> Self
+        ensures left { (n : ℤ) → InResidue (residue_of self.now) n → InResidue (residue_of result) n }
+        ensures right { (n : ℤ) → InResidue (residue_of other.now) n → InResidue (residue_of result) n }
+        ensures least { (s : Residue) → IsJoin (residue_of self.now) (residue_of other.now) s → LiesIn (residue_of result) s }
+    {
+        joined(*self, *other)
+    }
+
+    fn widen<U: Fn(i128) -> Option<i128>, S: Steps>(&self, next: &Self, _ramp: &Ramp<U>) -> Self {
+        joined(*self, *next)
+    }
+
+    fn covers(&self, other: &Self) -> bool {
+        holds_all(*self, *other)
+    }
+}

@@ -1,0 +1,87 @@
+// What the operators make of classes.
+
+ghost use Rattle.std.specs.Prelude.{◌≡◌, ℕ, ℤ, pos, ◌^◌, Some, IfSome};
+ghost use Rattle.num_api.specs.Fold.{IsAlignment};
+ghost use Rattle.num_api.specs.Residues.{InResidue, IsFoldResidue};
+ghost use Rattle.num_api.specs.Value.{unary_value, binary_value};
+ghost use Rattle.num_api.specs.declared.expr.NOp.TheVariants.{Not, Add, Mul};
+ghost use Rattle.residues.specs.Class.{residue_of};
+
+use super::Class;
+use super::arithmetic::{difference, sum};
+use super::lattice::has;
+use super::products::{product, rest};
+use intervals::Interval;
+use num_api::{NOp, ValueDomain};
+
+// What an operator of one operand makes of the numbers of a class.
+pub(super) fn unary(op: NOp, a: Class) -> Class
+    ensures { (x n : ℤ) → InResidue (residue_of a) x → unary_value op x ≡ Some n → InResidue (residue_of result) n }
+{
+    match op {
+        NOp::Neg => difference(Class::point(0), a),
+        NOp::Not => denial(a),
+        _ => Class::all(),
+    }
+}
+
+// What an operator of two operands makes of the numbers of two classes.
+pub(super) fn binary(op: NOp, a: Class, b: Class) -> Class
+    ensures fold_sum { (c : ℤ) → IsAlignment c → op ≡ Add → IsFoldResidue c (residue_of a) → IsFoldResidue c (residue_of b) → IsFoldResidue c (residue_of result) }
+    ensures fold_left { (c : ℤ) → IsAlignment c → op ≡ Mul → IsFoldResidue c (residue_of a) → IsFoldResidue c (residue_of result) }
+    ensures fold_right { (c : ℤ) → IsAlignment c → op ≡ Mul → IsFoldResidue c (residue_of b) → IsFoldResidue c (residue_of result) }
+    ensures holds { (x y n : ℤ) → InResidue (residue_of a) x → InResidue (residue_of b) y → binary_value op x y ≡ Some n → InResidue (residue_of result) n }
+{
+    match op {
+        NOp::Add => sum(a, b),
+        NOp::Sub => difference(a, b),
+        NOp::Mul => product(a, b),
+        NOp::Shl => product(a, powers(b)),
+        _ => other(op, a, b),
+    }
+}
+
+// What `Not` makes of a class.
+fn denial(a: Class) -> Class
+    ensures { (x n : ℤ) → InResidue (residue_of a) x → unary_value Not x ≡ Some n → InResidue (residue_of result) n }
+{
+    if !has(a, 0) {
+        return Class::point(0);
+    }
+    if a.residue.modulus == 0 {
+        return Class::point(1);
+    }
+    Class::all()
+}
+
+// A class that holds the power of two of each number of the class that is not negative.
+fn powers(a: Class) -> Class
+    ensures { (k : ℕ) → InResidue (residue_of a) (pos k) → InResidue (residue_of result) (pos (2 ^ k)) }
+{
+    if a.residue.modulus == 0 && a.residue.rem >= 0 && a.residue.rem < 127 {
+        return Class::point(1 << a.residue.rem as u32);
+    }
+    Class::all()
+}
+
+// An operator that keeps no class of sums or products: that of its value at two numbers, the class
+// of remainders, or all numbers.
+fn other(op: NOp, a: Class, b: Class) -> Class
+    ensures { (x y n : ℤ) → InResidue (residue_of a) x → InResidue (residue_of b) y → binary_value op x y ≡ Some n → InResidue (residue_of result) n }
+{
+    if a.residue.modulus == 0 && b.residue.modulus == 0 {
+        return at_numbers(op, a.residue.rem, b.residue.rem);
+    }
+    match op {
+        NOp::Rem => rest(a, b),
+        _ => Class::all(),
+    }
+}
+
+// The class of the operator's value at two numbers, as intervals have it.
+fn at_numbers(op: NOp, x: i128, y: i128) -> Class
+    ensures { (n : ℤ) → binary_value op x y ≡ Some n → InResidue (residue_of result) n }
+{
+    let value = Interval::binary(op, &Interval::point(x), &Interval::point(y));
+    Class::new(value.residue())
+}

@@ -1,0 +1,222 @@
+// Pairs of a range domain and a class domain.
+
+ghost use Rattle.std.specs.Prelude.{◌≡◌, ℤ, pos, ◌+◌, ◌&&◌, IsTrue, IfSome, IfNone};
+ghost use Rattle.num_api.specs.Ranges.{InRange, IsPoint, NoWider, holds_some};
+ghost use Rattle.num_api.specs.Residues.{IsResidue};
+ghost use Rattle.residues.specs.Inward.{moved_range, HasSome, IsReduced};
+
+use crate::Class;
+use crate::ends::{inward, is_same, meets};
+use intervals::Interval;
+use num_api::{ExactValue, NOp, Range, Residue, ValueDomain};
+use ramps::{Ramp, Steps};
+
+/// A value of two domains at once: it has the numbers that are in both. The first gives the bounds
+/// and the second the class; each bound is moved inward to the nearest number of the class, and
+/// stays where that is no `i128`. Widening alone widens each part by itself and moves no bound.
+#[derive(Clone, Copy, Debug, PartialEq, Eq)]
+pub struct Pair<V, W> {
+    bounds: V,
+    class: W,
+}
+
+impl<V: ValueDomain, W: ValueDomain> Pair<V, W> {
+    ghost use Rattle.residues.specs.Pair.{bounds_part, class_part, IsInBoth, range_of_pair};
+
+    /// The numbers that are in both, with the bounds moved inward; `None` only where there is none.
+    pub fn new(v: V, w: W) -> Option<Pair<V, W>>
+        ensures some { IfSome result (λ p. (n : ℤ) → V.admits v n → W.admits w n → IsInBoth V.admits W.admits p n) }
+        ensures none { IfNone result ((n : ℤ) → V.admits v n → W.admits w n → ⊥) }
+        ensures class { IfSome result (λ p. class_part p ≡ w) }
+        ensures shares { IfSome result (λ p. HasSome (range_of_pair V.known W.class p) (W.class (class_part p))) }
+        ensures plain { IfSome result (λ p. IsTrue V.exact → NoWider (range_of_pair V.known W.class p) (V.known v)) }
+    {
+        let loose = Pair {
+            bounds: v,
+            class: w,
+        };
+        loose.tightened()
+    }
+
+    // The same numbers, with the bounds moved inward; `None` only where there is none.
+    fn tightened(&self) -> Option<Pair<V, W>>
+        ensures proper { IsResidue (W.class (class_part self.now)) }
+        ensures some { IfSome result (λ p. (n : ℤ) → IsInBoth V.admits W.admits self.now n → IsInBoth V.admits W.admits p n) }
+        ensures none { IfNone result ((n : ℤ) → IsInBoth V.admits W.admits self.now n → ⊥) }
+        ensures class { IfSome result (λ p. class_part p ≡ class_part self.now) }
+        ensures shares { IfSome result (λ p. HasSome (range_of_pair V.known W.class p) (W.class (class_part p))) }
+        ensures plain { IfSome result (λ p. IsTrue V.exact → NoWider (range_of_pair V.known W.class p) (V.known (bounds_part self.now))) }
+    {
+        if !self.shares() {
+            return None;
+        }
+        let tight = Pair {
+            bounds: self.tight(),
+            class: self.class,
+        };
+        if tight.shares() { Some(tight) } else { None }
+    }
+
+    // The same numbers, with the bounds moved inward where that leaves some.
+    fn kept(&self) -> Self
+        ensures holds { (n : ℤ) → IsInBoth V.admits W.admits self.now n → IsInBoth V.admits W.admits result n }
+        ensures class { class_part result ≡ class_part self.now }
+        ensures plain { IsTrue V.exact → NoWider (range_of_pair V.known W.class result) (V.known (bounds_part self.now)) }
+        ensures point { (x : ℤ) → IsTrue V.exact → IsPoint (V.known (bounds_part self.now)) x → IsPoint (range_of_pair V.known W.class result) x }
+    {
+        match self.tightened() {
+            Some(pair) => pair,
+            None => *self,
+        }
+    }
+
+    // The bounds, moved inward.
+    fn ends(&self) -> Range
+        ensures value { result ≡ range_of_pair V.known W.class self.now }
+        ensures proper { IsResidue (W.class (class_part self.now)) }
+        ensures holds { (n : ℤ) → IsInBoth V.admits W.admits self.now n → InRange result n }
+        ensures reduced { IsReduced result (W.class (class_part self.now)) }
+    {
+        inward(self.class.residue(), self.bounds.range())
+    }
+
+    // Whether moving the bounds inward leaves a number.
+    fn shares(&self) -> bool
+        ensures value { result ≡ holds_some (moved_range (W.class (class_part self.now)) (V.known (bounds_part self.now))) }
+        ensures proper { IsResidue (W.class (class_part self.now)) }
+        ensures holds { (n : ℤ) → IsInBoth V.admits W.admits self.now n → IsTrue result }
+    {
+        meets(self.class.residue(), self.bounds.range())
+    }
+
+    // The first part, with its bounds moved inward.
+    fn tight(&self) -> V
+        ensures holds { (n : ℤ) → IsInBoth V.admits W.admits self.now n → V.admits result n }
+        ensures exact { IsTrue V.exact → V.known result ≡ range_of_pair V.known W.class self.now }
+    {
+        let ends = self.ends();
+        if is_same(ends, self.bounds.range()) {
+            return self.bounds;
+        }
+        let Some(inside) = V::within(ends) else {
+            return self.bounds;
+        };
+        if !is_same(inside.range(), ends) {
+            return inside;
+        }
+        match inside.meet(&self.bounds) {
+            Some(both) if is_same(both.range(), ends) => both,
+            _ => inside,
+        }
+    }
+}
+
+impl<V: ValueDomain, W: ValueDomain> ValueDomain for Pair<V, W> {
+    ghost use Rattle.residues.specs.Pair.{bounds_part, class_part, IsInBoth, range_of_pair};
+
+    ghost admits = { IsInBoth V.admits W.admits };
+
+    ghost known = { range_of_pair V.known W.class };
+
+    ghost class = { λ p. W.class (class_part p) };
+
+    ghost holds = { λ p q. V.holds (bounds_part p) (bounds_part q) && W.holds (class_part p) (class_part q) };
+
+    ghost weight = { λ steps p. V.weight steps (bounds_part p) + W.weight steps (class_part p) };
+
+    ghost exact = { V.exact };
+
+    ghost folds = { W.folds };
+
+    fn top() -> Self {
+        Pair {
+            bounds: V::top(),
+            class: W::top(),
+        }
+    }
+
+    /// Of a value that is there, some number of the range is in the class.
+    fn within(r: Range) -> Option<Self>
+        ensures some { IfSome result (λ p. (n : ℤ) → InRange r n → IsInBoth V.admits W.admits p n) }
+        ensures none { IfNone result ((n : ℤ) → InRange r n → ⊥) }
+        ensures plain { IfSome result (λ p. IsTrue V.exact → NoWider (range_of_pair V.known W.class p) r) }
+        ensures fold { IfSome result (λ p. (n : ℤ) → IsTrue W.folds → IsPoint r n → W.class (class_part p) ≡ record { rem = n; modulus = pos 0 }) }
+        ensures shares { IfSome result (λ p. HasSome (range_of_pair V.known W.class p) (W.class (class_part p))) }
+    {
+        match (V::within(r), W::within(r)) {
+            (Some(bounds), Some(class)) => Pair::new(bounds, class),
+            _ => None,
+        }
+    }
+
+    /// Each end that is a number is in the class, unless no `i128` of the range is.
+    fn range(&self) -> Range
+        ensures value { result ≡ range_of_pair V.known W.class self.now }
+        ensures holds { (n : ℤ) → IsInBoth V.admits W.admits self.now n → InRange result n }
+        ensures reduced { IsReduced result (W.class (class_part self.now)) }
+    {
+        self.ends()
+    }
+
+    fn residue(&self) -> Residue {
+        self.class.residue()
+    }
+
+    fn unary(op: NOp, a: &Self) -> Self {
+        let loose = Pair {
+            bounds: V::unary(op, &a.tight()),
+            class: W::unary(op, &a.class),
+        };
+        loose.kept()
+    }
+
+    fn binary(op: NOp, a: &Self, b: &Self) -> Self {
+        let loose = Pair {
+            bounds: V::binary(op, &a.tight(), &b.tight()),
+            class: W::binary(op, &a.class, &b.class),
+        };
+        loose.kept()
+    }
+
+    /// Of a value that is there, some number of the range is in the class.
+    fn meet(&self, other: &Self) -> Option<Self>
+        ensures some { IfSome result (λ p. (n : ℤ) → IsInBoth V.admits W.admits self.now n → IsInBoth V.admits W.admits other.now n → IsInBoth V.admits W.admits p n) }
+        ensures none { IfNone result ((n : ℤ) → IsInBoth V.admits W.admits self.now n → IsInBoth V.admits W.admits other.now n → ⊥) }
+        ensures plain { IfSome result (λ p. IsTrue V.exact → NoWider (range_of_pair V.known W.class p) (range_of_pair V.known W.class self.now) × NoWider (range_of_pair V.known W.class p) (range_of_pair V.known W.class other.now)) }
+        ensures shares { IfSome result (λ p. HasSome (range_of_pair V.known W.class p) (W.class (class_part p))) }
+    {
+        match (
+            self.tight().meet(&other.tight()),
+            self.class.meet(&other.class),
+        ) {
+            (Some(bounds), Some(class)) => Pair::new(bounds, class),
+            _ => None,
+        }
+    }
+
+    fn join(&self, other: &Self) -> Self {
+        let loose = Pair {
+            bounds: self.tight().join(&other.tight()),
+            class: self.class.join(&other.class),
+        };
+        loose.kept()
+    }
+
+    fn widen<U: Fn(i128) -> Option<i128>, S: Steps>(&self, next: &Self, ramp: &Ramp<U>) -> Self {
+        Pair {
+            bounds: self.bounds.widen::<U, S>(&next.bounds, ramp),
+            class: self.class.widen::<U, S>(&next.class, ramp),
+        }
+    }
+
+    fn covers(&self, other: &Self) -> bool {
+        self.bounds.covers(&other.bounds) && self.class.covers(&other.class)
+    }
+}
+
+/// An interval with a class keeps every law of value domains.
+impl ExactValue for Pair<Interval, Class> {
+    ghost use Rattle.std.specs.Prelude.{refl};
+
+    ghost is_exact = { (refl, refl) };
+}
