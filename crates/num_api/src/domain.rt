@@ -44,7 +44,7 @@ pub trait Oracle {
         ensures answer { may_range self.now (nexpr_tree e.now) result }
         ensures holds { (v : List ℤ) (n : ℤ) → admits self.now v → value_of v (nexpr_tree e.now) ≡ Some n → InRange result n }
         ensures point { (v : List ℤ) (n : ℤ) → IsTrue exact → admits self.now v → IsSharpOn (known self.now) v (nexpr_tree e.now) → AllFit v (nexpr_tree e.now) → value_of v (nexpr_tree e.now) ≡ Some n → IsPoint result n }
-        ensures plain { (given : ℕ → Range) (s : Span) → IsTrue exact → IsUnder (known self.now) given → IsPlain given (nexpr_tree e.now) → plain given (nexpr_tree e.now) ≡ Some s → NoWider result (range_of s) };
+        ensures plain { (given : ℕ → Range) (s : Span) (v : List ℤ) (n : ℤ) → IsTrue exact → admits self.now v → value_of v (nexpr_tree e.now) ≡ Some n → IsUnder (known self.now) given → IsPlain given (nexpr_tree e.now) → plain given (nexpr_tree e.now) ≡ Some s → NoWider result (range_of s) };
 
     /// A class that holds the expression's value.
     fn residue(&self, e: &NExpr) -> Residue
@@ -91,7 +91,7 @@ pub trait NumDomain: Oracle + Sized + Drop {
         ensures told { OnOk result ((v w : List ℤ) (n : ℤ) → Self.admits self.old v → O.admits ask.now v → value_of v (nexpr_tree e.now) ≡ Some n → SetTo x.0 n v w → TellsOf w out.old out.new) }
         ensures sharp_here { OnOk result ((v : List ℤ) (n : ℤ) → IsTrue Self.exact → Self.admits self.old v → O.admits ask.now v → IsSharpOn (Self.known self.old) v (nexpr_tree e.now) → AllFit v (nexpr_tree e.now) → value_of v (nexpr_tree e.now) ≡ Some n → IsPoint (Self.known self.new x.0) n) }
         ensures sharp_others { OnOk result ((v : List ℤ) (n : ℤ) (y : ℕ) → IsTrue Self.exact → Self.admits self.old v → O.admits ask.now v → IsSharpOn (Self.known self.old) v (nexpr_tree e.now) → AllFit v (nexpr_tree e.now) → value_of v (nexpr_tree e.now) ≡ Some n → y ≢ x.0 → IsSharp (Self.known self.old) v y → IsSharp (Self.known self.new) v y) }
-        ensures plain { OnOk result ((given : ℕ → Range) (s : Span) → IsTrue Self.exact → IsUnder (Self.known self.old) given → IsPlain given (nexpr_tree e.now) → plain given (nexpr_tree e.now) ≡ Some s → IsUnder (Self.known self.new) (with_range given x.0 (range_of s))) };
+        ensures plain { OnOk result ((given : ℕ → Range) (s : Span) (v : List ℤ) (n : ℤ) → IsTrue Self.exact → Self.admits self.old v → value_of v (nexpr_tree e.now) ≡ Some n → IsUnder (Self.known self.old) given → IsPlain given (nexpr_tree e.now) → plain given (nexpr_tree e.now) ≡ Some s → IsUnder (Self.known self.new) (with_range given x.0 (range_of s))) };
 
     /// Gives the variable any number of a range that holds one.
     fn havoc(&mut self, x: Var, r: Range) -> Result<(), NoMemory>
