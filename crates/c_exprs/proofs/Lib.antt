@@ -1,0 +1,9 @@
+pub mod Ranks
+pub mod NodeSteps
+pub mod Steps
+pub mod Bars
+pub mod Choices
+pub mod TypeSteps
+pub mod DeclaratorSteps
+pub mod ExprSteps
+pub mod TextSteps

@@ -1,0 +1,395 @@
+// Declarators and parameters.
+
+ghost use Rattle.std.specs.Prelude.{◌≡◌, ℕ, ◌+◌, ◌<◌, ◌≤◌, Bool, true, false, not, ◌&&◌, List, length, IfOk};
+ghost use Rattle.c_syntax.specs.Written.{declarator_tree, param_tree, params_from};
+ghost use Rattle.c_grammar.specs.Ahead.{is_close, is_open, params_ahead};
+ghost use Rattle.c_grammar.specs.Parts as part;
+ghost use Rattle.c_grammar.specs.Made.{is_given};
+ghost use Rattle.c_grammar.specs.Choice.{is_const_word};
+ghost use Rattle.c_grammar.specs.Refused.{first_is, may_omit};
+ghost use Rattle.c_exprs.specs.Answers.{Answers, Consts, DeclaratorStarts, DirectStarts, Extends, SizeIsMissing, TailStarts};
+ghost use Rattle.c_exprs.specs.Kinds.{direct_at, is_no_tail, tail_at};
+ghost use Rattle.c_exprs.specs.Views.{role_view, scene_of};
+
+use crate::class::Class;
+use crate::context::Context;
+use crate::copy::name_of;
+use crate::exprs::conditional;
+use crate::fault::Fault;
+use crate::look::{Mark, comes, params_ahead, plain_word_ahead, type_name_ahead};
+use crate::token::{barred, refused, taken};
+use crate::type_kind::{DirectKind, Role, TailKind, direct_at, tail_at};
+use crate::type_node::{
+    array_declarator, empty_declarator, function_declarator, grouped_declarator, is_given,
+    one_param, open_array_declarator, param_of, pointer_declarator, push_param,
+};
+use crate::types::specs;
+use c_syntax::{Construct, Declarator, Keyword, Param, Placed, Pos, Punctuator};
+
+/// A declarator, or an abstract one.
+#[cycle(descent)]
+pub fn declarator<'a>(
+    context: &Context<'_>,
+    role: Role,
+    count: u32,
+    tokens: &'a [Placed],
+) -> Result<(Declarator, &'a [Placed]), Fault<'a>>
+    ensures goes { Answers count (scene_of context.now) (part.ADeclarator (part.Declarator (role_view role))) tokens.now (λ d. declarator_tree d) result }
+    ensures shorter { IfOk result (λ x. length x.1.now ≤ length tokens.now) }
+{
+    if type_name_ahead(context, tokens) {
+        return Err(barred(count, Construct::TypedefAgain, tokens));
+    }
+    if comes(Mark::Star, tokens) {
+        return pointer(context, role, count, tokens);
+    }
+    let (whole, rest) = direct(context, role, count, tokens)?;
+    Ok((whole, rest))
+}
+
+/// `*` and what it points to.
+#[cycle(descent)]
+fn pointer<'a>(
+    context: &Context<'_>,
+    role: Role,
+    count: u32,
+    tokens: &'a [Placed],
+) -> Result<(Declarator, &'a [Placed]), Fault<'a>>
+    requires { DeclaratorStarts (scene_of context.now) tokens.now }
+    ensures goes { Answers count (scene_of context.now) (part.ADeclarator (part.Declarator (role_view role))) tokens.now (λ d. declarator_tree d) result }
+    ensures shorter { IfOk result (λ x. length x.1.now < length tokens.now) }
+{
+    let star = Class::Sign(Punctuator::Star);
+    let (at, behind) = taken(context, count, 1, star, tokens)?;
+    let (is_const, after) = consts(context, role, count + 1, at.pos, behind)?;
+    let (inner, rest) = declarator(context, role, count + 1, after)?;
+    let whole = pointer_declarator(context.alloc, at.pos, is_const, inner)?;
+    Ok((whole, rest))
+}
+
+/// The words `const` behind a `*`, and whether there is one.
+fn consts<'a>(
+    context: &Context<'_>,
+    role: Role,
+    count: u32,
+    at: Pos,
+    tokens: &'a [Placed],
+) -> Result<(bool, &'a [Placed]), Fault<'a>>
+    ensures goes { Consts count (scene_of context.now) (role_view role) at tokens.now result }
+    ensures ended { IfOk result (λ x. first_is is_const_word x.1.now ≡ false) }
+    ensures shorter { IfOk result (λ x. length x.1.now ≤ length tokens.now) }
+{
+    let mut is_const = false;
+    let mut rest = tokens;
+    'words: while comes(Mark::Const, rest) {
+        let (_word, after) = taken(context, count, 0, Class::Keyword(Keyword::Const), rest)?;
+        is_const = true;
+        rest = after;
+    }
+    Ok((is_const, rest))
+}
+
+/// A declarator behind its stars.
+#[cycle(descent)]
+fn direct<'a>(
+    context: &Context<'_>,
+    role: Role,
+    count: u32,
+    tokens: &'a [Placed],
+) -> Result<(Declarator, &'a [Placed]), Fault<'a>>
+    ensures goes { Answers count (scene_of context.now) (part.ADeclarator (part.Direct (role_view role))) tokens.now (λ d. declarator_tree d) result }
+    ensures shorter { IfOk result (λ x. length x.1.now ≤ length tokens.now) }
+{
+    if params_come(context, role, tokens) {
+        return Err(barred(count, Construct::FunctionPointer, tokens));
+    }
+    match direct_at(context, role, tokens) {
+        DirectKind::Name => named(context, role, count, tokens),
+        DirectKind::Grouped => grouped(context, role, count, tokens),
+        DirectKind::Nameless => { tails(context, role, count, false, Declarator::Absent, tokens) }
+        DirectKind::Neither => Err(refused(context, count, tokens)),
+    }
+}
+
+/// A word, and what follows it.
+#[cycle(descent)]
+fn named<'a>(
+    context: &Context<'_>,
+    role: Role,
+    count: u32,
+    tokens: &'a [Placed],
+) -> Result<(Declarator, &'a [Placed]), Fault<'a>>
+    requires { DirectStarts (scene_of context.now) (role_view role) tokens.now DirectKind.Name }
+    ensures goes { Answers count (scene_of context.now) (part.ADeclarator (part.Direct (role_view role))) tokens.now (λ d. declarator_tree d) result }
+    ensures shorter { IfOk result (λ x. length x.1.now < length tokens.now) }
+{
+    let (word, behind) = taken(context, count, 0, Class::Word, tokens)?;
+    let name = name_of(context.alloc, &word.token)?;
+    let first = Declarator::Name {
+        pos: word.pos,
+        name,
+    };
+    let (whole, rest) = tails(context, role, count, true, first, behind)?;
+    Ok((whole, rest))
+}
+
+/// A declarator between parentheses, and what follows it.
+#[cycle(descent)]
+fn grouped<'a>(
+    context: &Context<'_>,
+    role: Role,
+    count: u32,
+    tokens: &'a [Placed],
+) -> Result<(Declarator, &'a [Placed]), Fault<'a>>
+    requires { DirectStarts (scene_of context.now) (role_view role) tokens.now DirectKind.Grouped }
+    ensures goes { Answers count (scene_of context.now) (part.ADeclarator (part.Direct (role_view role))) tokens.now (λ d. declarator_tree d) result }
+    ensures shorter { IfOk result (λ x. length x.1.now < length tokens.now) }
+{
+    let opens = Class::Sign(Punctuator::LeftParenthesis);
+    let closes = Class::Sign(Punctuator::RightParenthesis);
+    let (opening, behind) = taken(context, count, 1, opens, tokens)?;
+    let (inner, rest) = declarator(context, role, count + 1, behind)?;
+    if !is_given(&inner) {
+        return Err(refused(context, count, rest));
+    }
+    let (_close, behind) = taken(context, count, 0, closes, rest)?;
+    let first = grouped_declarator(context.alloc, opening.pos, inner)?;
+    let (whole, rest) = tails(context, role, count, false, first, behind)?;
+    Ok((whole, rest))
+}
+
+/// Brackets and parameters behind a declarator, which is a word alone where `plain`.
+#[cycle(descent)]
+fn tails<'a>(
+    context: &Context<'_>,
+    role: Role,
+    count: u32,
+    plain: bool,
+    first: Declarator,
+    tokens: &'a [Placed],
+) -> Result<(Declarator, &'a [Placed]), Fault<'a>>
+    ensures goes { Answers count (scene_of context.now) (part.ADeclarator (part.Tails (role_view role) plain (declarator_tree first))) tokens.now (λ d. declarator_tree d) result }
+    ensures shorter { IfOk result (λ x. length x.1.now ≤ length tokens.now) }
+{
+    let mut is_plain = plain;
+    let mut inner = first;
+    let mut rest = tokens;
+    'forms: loop {
+        if calls_no_name(is_plain, &inner, rest) {
+            return Err(barred(count, Construct::FunctionPointer, rest));
+        }
+        let kind = tail_at(rest);
+        if is_no_tail(kind) {
+            return Ok((inner, rest));
+        }
+        let (longer, after) = tail(context, role, count, kind, inner, rest)?;
+        is_plain = false;
+        inner = longer;
+        rest = after;
+    }
+}
+
+/// Brackets or parameters behind a declarator.
+#[cycle(descent)]
+fn tail<'a>(
+    context: &Context<'_>,
+    role: Role,
+    count: u32,
+    kind: TailKind,
+    inner: Declarator,
+    tokens: &'a [Placed],
+) -> Result<(Declarator, &'a [Placed]), Fault<'a>>
+    requires { TailStarts tokens.now kind }
+    ensures goes { Extends count (scene_of context.now) (role_view role) (declarator_tree inner) tokens.now result }
+    ensures shorter { IfOk result (λ x. length x.1.now < length tokens.now) }
+{
+    match kind {
+        TailKind::Array => array(context, role, count, inner, tokens),
+        TailKind::Function => function(context, role, count, inner, tokens),
+        TailKind::Nothing => unreachable!(),
+    }
+}
+
+/// Brackets behind a declarator.
+#[cycle(descent)]
+fn array<'a>(
+    context: &Context<'_>,
+    role: Role,
+    count: u32,
+    inner: Declarator,
+    tokens: &'a [Placed],
+) -> Result<(Declarator, &'a [Placed]), Fault<'a>>
+    requires { tail_at tokens.now ≡ TailKind.Array }
+    ensures goes { Extends count (scene_of context.now) (role_view role) (declarator_tree inner) tokens.now result }
+    ensures shorter { IfOk result (λ x. length x.1.now < length tokens.now) }
+{
+    let opens = Class::Sign(Punctuator::LeftBracket);
+    let (at, behind) = taken(context, count, 1, opens, tokens)?;
+    let (whole, rest) = size(context, role, count + 1, at.pos, inner, behind)?;
+    Ok((whole, rest))
+}
+
+/// Parameters behind a declarator.
+#[cycle(descent)]
+fn function<'a>(
+    context: &Context<'_>,
+    role: Role,
+    count: u32,
+    inner: Declarator,
+    tokens: &'a [Placed],
+) -> Result<(Declarator, &'a [Placed]), Fault<'a>>
+    requires { tail_at tokens.now ≡ TailKind.Function }
+    ensures goes { Extends count (scene_of context.now) (role_view role) (declarator_tree inner) tokens.now result }
+    ensures shorter { IfOk result (λ x. length x.1.now < length tokens.now) }
+{
+    let opens = Class::Sign(Punctuator::LeftParenthesis);
+    let (at, behind) = taken(context, count, 1, opens, tokens)?;
+    let (whole, rest) = parameters(context, count + 1, at.pos, inner, behind)?;
+    Ok((whole, rest))
+}
+
+/// What follows `[`.
+#[cycle(descent)]
+fn size<'a>(
+    context: &Context<'_>,
+    role: Role,
+    count: u32,
+    at: Pos,
+    inner: Declarator,
+    tokens: &'a [Placed],
+) -> Result<(Declarator, &'a [Placed]), Fault<'a>>
+    ensures goes { Answers count (scene_of context.now) (part.ADeclarator (part.Size (role_view role) at (declarator_tree inner))) tokens.now (λ d. declarator_tree d) result }
+    ensures shorter { IfOk result (λ x. length x.1.now < length tokens.now) }
+{
+    if comes(Mark::RightBracket, tokens) {
+        if role.is_member() {
+            return Err(barred(count, Construct::FlexibleArray, tokens));
+        }
+        return no_size(context, role, count, at, inner, tokens);
+    }
+    let closes = Class::Sign(Punctuator::RightBracket);
+    let (value, rest) = conditional(context, count, tokens)?;
+    let (_close, rest) = taken(context, count, 0, closes, rest)?;
+    Ok((array_declarator(context.alloc, at, inner, value)?, rest))
+}
+
+/// The bracket that closes, where there is no size.
+fn no_size<'a>(
+    context: &Context<'_>,
+    role: Role,
+    count: u32,
+    at: Pos,
+    inner: Declarator,
+    tokens: &'a [Placed],
+) -> Result<(Declarator, &'a [Placed]), Fault<'a>>
+    requires { SizeIsMissing (role_view role) tokens.now }
+    ensures goes { Answers count (scene_of context.now) (part.ADeclarator (part.Size (role_view role) at (declarator_tree inner))) tokens.now (λ d. declarator_tree d) result }
+    ensures shorter { IfOk result (λ x. length x.1.now < length tokens.now) }
+{
+    let closes = Class::Sign(Punctuator::RightBracket);
+    let (_close, rest) = taken(context, count, 0, closes, tokens)?;
+    Ok((open_array_declarator(context.alloc, at, inner)?, rest))
+}
+
+/// What follows the parenthesis that opens parameters.
+#[cycle(descent)]
+fn parameters<'a>(
+    context: &Context<'_>,
+    count: u32,
+    at: Pos,
+    inner: Declarator,
+    tokens: &'a [Placed],
+) -> Result<(Declarator, &'a [Placed]), Fault<'a>>
+    ensures goes { Answers count (scene_of context.now) (part.ADeclarator (part.Parameters at (declarator_tree inner))) tokens.now (λ d. declarator_tree d) result }
+    ensures shorter { IfOk result (λ x. length x.1.now < length tokens.now) }
+{
+    if comes(Mark::Close, tokens) {
+        return no_parameters(context, count, at, inner, tokens);
+    }
+    let (first, rest) = parameter(context, count, tokens)?;
+    let params = one_param(context.alloc, first)?;
+    let (whole, rest) = more_parameters(context, count, at, inner, params, rest)?;
+    Ok((whole, rest))
+}
+
+/// The parenthesis that closes, where there are no parameters.
+fn no_parameters<'a>(
+    context: &Context<'_>,
+    count: u32,
+    at: Pos,
+    inner: Declarator,
+    tokens: &'a [Placed],
+) -> Result<(Declarator, &'a [Placed]), Fault<'a>>
+    requires { first_is is_close tokens.now ≡ true }
+    ensures goes { Answers count (scene_of context.now) (part.ADeclarator (part.Parameters at (declarator_tree inner))) tokens.now (λ d. declarator_tree d) result }
+    ensures shorter { IfOk result (λ x. length x.1.now < length tokens.now) }
+{
+    let closes = Class::Sign(Punctuator::RightParenthesis);
+    let (_close, rest) = taken(context, count, 0, closes, tokens)?;
+    Ok((empty_declarator(context.alloc, at, inner)?, rest))
+}
+
+/// The parameters behind the first.
+#[cycle(descent)]
+fn more_parameters<'a>(
+    context: &Context<'_>,
+    count: u32,
+    at: Pos,
+    inner: Declarator,
+    before: Vec<Param>,
+    tokens: &'a [Placed],
+) -> Result<(Declarator, &'a [Placed]), Fault<'a>>
+    ensures goes { Answers count (scene_of context.now) (part.ADeclarator (part.MoreParameters at (declarator_tree inner) (params_from before.items))) tokens.now (λ d. declarator_tree d) result }
+    ensures shorter { IfOk result (λ x. length x.1.now < length tokens.now) }
+{
+    let mut params = before;
+    let mut rest = tokens;
+    'others: while !comes(Mark::Close, rest) {
+        let (_comma, behind) = taken(context, count, 0, Class::Sign(Punctuator::Comma), rest)?;
+        let (next, after) = parameter(context, count, behind)?;
+        push_param(&mut params, next)?;
+        rest = after;
+    }
+    let closes = Class::Sign(Punctuator::RightParenthesis);
+    let (_close, rest) = taken(context, count, 0, closes, rest)?;
+    let whole = function_declarator(context.alloc, at, inner, params)?;
+    Ok((whole, rest))
+}
+
+/// A parameter.
+#[cycle(descent)]
+fn parameter<'a>(
+    context: &Context<'_>,
+    count: u32,
+    tokens: &'a [Placed],
+) -> Result<(Param, &'a [Placed]), Fault<'a>>
+    ensures goes { Answers count (scene_of context.now) part.Parameter tokens.now (λ p. param_tree p) result }
+    ensures shorter { IfOk result (λ x. length x.1.now < length tokens.now) }
+{
+    if plain_word_ahead(context, tokens) {
+        return Err(barred(count, Construct::OldParameters, tokens));
+    }
+    let (words, rest) = specs(context, count, tokens)?;
+    let (shape, rest) = declarator(context, Role::OfParameter, count, rest)?;
+    Ok((param_of(words, shape), rest))
+}
+
+// Parameters come where a name is missing.
+fn params_come(context: &Context<'_>, role: Role, tokens: &[Placed]) -> bool
+    ensures { result ≡ (may_omit (role_view role) && params_ahead (scene_of context.now) tokens.now) }
+{
+    role.may_omit() && params_ahead(context, tokens)
+}
+
+// The parenthesis of parameters comes, and no plain word stands before it.
+fn calls_no_name(is_plain: bool, inner: &Declarator, tokens: &[Placed]) -> bool
+    ensures { result ≡ (first_is is_open tokens.now && (not is_plain && is_given (declarator_tree inner.now))) }
+{
+    comes(Mark::Open, tokens) && !is_plain && is_given(inner)
+}
+
+fn is_no_tail(kind: TailKind) -> bool
+    ensures { result ≡ is_no_tail kind }
+{
+    matches!(kind, TailKind::Nothing)
+}

@@ -1,0 +1,675 @@
+// Expressions.
+
+ghost use Rattle.std.specs.Prelude.{◌≡◌, ℕ, ◌+◌, ◌<◌, ◌≤◌, Bool, true, not, ◌&&◌, List, length, IfOk};
+ghost use Rattle.c_syntax.specs.Written.{expr_tree, exprs_from, exprs_tree};
+ghost use Rattle.c_grammar.specs.Ahead.{is_close, is_open, type_ahead};
+ghost use Rattle.c_grammar.specs.Made.{is_word};
+ghost use Rattle.c_grammar.specs.ExprRules.{operand};
+ghost use Rattle.c_grammar.specs.Parts as part;
+ghost use Rattle.c_exprs.specs.Answers.{Answers, CallComes, Steps, SuffixComes};
+ghost use Rattle.c_grammar.specs.Descent.{Goes};
+ghost use Rattle.c_grammar.specs.Refused.{first_is};
+ghost use Rattle.c_exprs.specs.Kinds.{assign_at, is_no_suffix, prefix_at, primary_at, suffix_at};
+ghost use Rattle.c_exprs.specs.Views.{level_view, scene_of};
+
+use crate::class::Class;
+use crate::context::Context;
+use crate::copy::name_of;
+use crate::declarators::declarator;
+use crate::expr_node::{
+    arrow_expr, assign_expr, cast_expr, compound_expr, cond_expr, dot_expr, enclosed_expr,
+    index_expr, is_word, joined, one_expr, post_step_expr, pre_step_expr, push_expr, sizeof_expr,
+    sizeof_type, unary_expr,
+};
+use crate::fault::Fault;
+use crate::kind::{
+    AssignKind, PrefixKind, PrimaryKind, SuffixKind, assign_at, assign_sign, prefix_at, primary_at,
+    step_sign, suffix_at, unary_sign,
+};
+use crate::leaf::{character, number, strings, word};
+use crate::level::{Level, joint_at, joint_sign};
+use crate::look::{Mark, comes, type_ahead};
+use crate::token::{barred, barred_call, refused, taken};
+use crate::type_kind::Role;
+use crate::types::specs;
+use c_syntax::{
+    AssignOp, Construct, Expr, Exprs, Keyword, Placed, Pos, Punctuator, StepWay, UnaryOp,
+};
+
+/// Operands of a level, and joints between them.
+#[cycle(descent)]
+pub fn run<'a>(
+    context: &Context<'_>,
+    level: Level,
+    count: u32,
+    tokens: &'a [Placed],
+) -> Result<(Expr, &'a [Placed]), Fault<'a>>
+    ensures goes { Answers count (scene_of context.now) (part.AnExpr (part.Run (level_view level))) tokens.now (λ e. expr_tree e) result }
+    ensures shorter { IfOk result (λ x. length x.1.now < length tokens.now) }
+{
+    let (first, rest) = operand(context, level, count, tokens)?;
+    let (whole, rest) = more(context, level, count, first, rest)?;
+    Ok((whole, rest))
+}
+
+/// What stands on either side of a joint of the level.
+#[cycle(descent)]
+fn operand<'a>(
+    context: &Context<'_>,
+    level: Level,
+    count: u32,
+    tokens: &'a [Placed],
+) -> Result<(Expr, &'a [Placed]), Fault<'a>>
+    ensures goes { Answers count (scene_of context.now) (part.AnExpr (operand (level_view level))) tokens.now (λ e. expr_tree e) result }
+    ensures shorter { IfOk result (λ x. length x.1.now < length tokens.now) }
+{
+    match level {
+        Level::Commas => assignment(context, count, tokens),
+        Level::Ors => run(context, Level::Ands, count, tokens),
+        Level::Ands => run(context, Level::BitOrs, count, tokens),
+        Level::BitOrs => run(context, Level::BitXors, count, tokens),
+        Level::BitXors => run(context, Level::BitAnds, count, tokens),
+        Level::BitAnds => run(context, Level::Equalities, count, tokens),
+        Level::Equalities => run(context, Level::Relations, count, tokens),
+        Level::Relations => run(context, Level::Shifts, count, tokens),
+        Level::Shifts => run(context, Level::Sums, count, tokens),
+        Level::Sums => run(context, Level::Products, count, tokens),
+        Level::Products => cast(context, count, tokens),
+    }
+}
+
+/// The joints and operands behind the first operand.
+#[cycle(descent)]
+fn more<'a>(
+    context: &Context<'_>,
+    level: Level,
+    count: u32,
+    first: Expr,
+    tokens: &'a [Placed],
+) -> Result<(Expr, &'a [Placed]), Fault<'a>>
+    ensures goes { Answers count (scene_of context.now) (part.AnExpr (part.More (level_view level) (expr_tree first))) tokens.now (λ e. expr_tree e) result }
+    ensures shorter { IfOk result (λ x. length x.1.now ≤ length tokens.now) }
+{
+    let mut left = first;
+    let mut rest = tokens;
+    let mut depth = count;
+    'joints: while let Some(joint) = joint_at(level, rest) {
+        let sign = Class::Sign(joint_sign(joint));
+        let (at, behind) = taken(context, depth, 1, sign, rest)?;
+        let (right, after) = operand(context, level, depth + 1, behind)?;
+        left = joined(context.alloc, joint, at.pos, left, right)?;
+        rest = after;
+        depth += 1;
+    }
+    Ok((left, rest))
+}
+
+/// An assignment, or a conditional alone.
+#[cycle(descent)]
+pub fn assignment<'a>(
+    context: &Context<'_>,
+    count: u32,
+    tokens: &'a [Placed],
+) -> Result<(Expr, &'a [Placed]), Fault<'a>>
+    ensures goes { Answers count (scene_of context.now) (part.AnExpr part.Assignment) tokens.now (λ e. expr_tree e) result }
+    ensures shorter { IfOk result (λ x. length x.1.now < length tokens.now) }
+{
+    let (left, rest) = conditional(context, count, tokens)?;
+    let (whole, rest) = assigned(context, count, left, rest)?;
+    Ok((whole, rest))
+}
+
+/// An assignment's operator and right side, where there are any.
+#[cycle(descent)]
+fn assigned<'a>(
+    context: &Context<'_>,
+    count: u32,
+    left: Expr,
+    tokens: &'a [Placed],
+) -> Result<(Expr, &'a [Placed]), Fault<'a>>
+    ensures goes { Answers count (scene_of context.now) (part.AnExpr (part.Assigned (expr_tree left))) tokens.now (λ e. expr_tree e) result }
+    ensures shorter { IfOk result (λ x. length x.1.now ≤ length tokens.now) }
+{
+    match assign_at(tokens) {
+        AssignKind::Plain => plain_assigned(context, count, left, tokens),
+        AssignKind::Compound(op) => compound_assigned(context, count, op, left, tokens),
+        AssignKind::Nothing => Ok((left, tokens)),
+    }
+}
+
+/// `=` and what follows it.
+#[cycle(descent)]
+fn plain_assigned<'a>(
+    context: &Context<'_>,
+    count: u32,
+    left: Expr,
+    tokens: &'a [Placed],
+) -> Result<(Expr, &'a [Placed]), Fault<'a>>
+    requires { assign_at tokens.now ≡ AssignKind.Plain }
+    ensures goes { Answers count (scene_of context.now) (part.AnExpr (part.Assigned (expr_tree left))) tokens.now (λ e. expr_tree e) result }
+    ensures shorter { IfOk result (λ x. length x.1.now ≤ length tokens.now) }
+{
+    let (at, behind) = taken(context, count, 1, Class::Sign(Punctuator::Assign), tokens)?;
+    let (right, rest) = assignment(context, count + 1, behind)?;
+    Ok((assign_expr(context.alloc, at.pos, left, right)?, rest))
+}
+
+/// `op=` and what follows it.
+#[cycle(descent)]
+fn compound_assigned<'a>(
+    context: &Context<'_>,
+    count: u32,
+    op: AssignOp,
+    left: Expr,
+    tokens: &'a [Placed],
+) -> Result<(Expr, &'a [Placed]), Fault<'a>>
+    requires { assign_at tokens.now ≡ AssignKind.Compound op }
+    ensures goes { Answers count (scene_of context.now) (part.AnExpr (part.Assigned (expr_tree left))) tokens.now (λ e. expr_tree e) result }
+    ensures shorter { IfOk result (λ x. length x.1.now ≤ length tokens.now) }
+{
+    let sign = Class::Sign(assign_sign(op));
+    let (at, behind) = taken(context, count, 1, sign, tokens)?;
+    let (right, rest) = assignment(context, count + 1, behind)?;
+    Ok((compound_expr(context.alloc, at.pos, op, left, right)?, rest))
+}
+
+/// A conditional, or what stands before its `?` alone.
+#[cycle(descent)]
+pub fn conditional<'a>(
+    context: &Context<'_>,
+    count: u32,
+    tokens: &'a [Placed],
+) -> Result<(Expr, &'a [Placed]), Fault<'a>>
+    ensures goes { Answers count (scene_of context.now) (part.AnExpr part.Conditional) tokens.now (λ e. expr_tree e) result }
+    ensures shorter { IfOk result (λ x. length x.1.now < length tokens.now) }
+{
+    let (condition, rest) = run(context, Level::Ors, count, tokens)?;
+    let (whole, rest) = chosen(context, count, condition, rest)?;
+    Ok((whole, rest))
+}
+
+/// `?` and what follows it, where there is one.
+#[cycle(descent)]
+fn chosen<'a>(
+    context: &Context<'_>,
+    count: u32,
+    condition: Expr,
+    tokens: &'a [Placed],
+) -> Result<(Expr, &'a [Placed]), Fault<'a>>
+    ensures goes { Answers count (scene_of context.now) (part.AnExpr (part.Chosen (expr_tree condition))) tokens.now (λ e. expr_tree e) result }
+    ensures shorter { IfOk result (λ x. length x.1.now ≤ length tokens.now) }
+{
+    if !comes(Mark::Question, tokens) {
+        return Ok((condition, tokens));
+    }
+    let question = Class::Sign(Punctuator::Question);
+    let (at, behind) = taken(context, count, 1, question, tokens)?;
+    let (then, rest) = run(context, Level::Commas, count + 1, behind)?;
+    let (_colon, behind) = taken(context, count, 1, Class::Sign(Punctuator::Colon), rest)?;
+    let (otherwise, rest) = conditional(context, count + 1, behind)?;
+    let whole = cond_expr(context.alloc, at.pos, condition, then, otherwise)?;
+    Ok((whole, rest))
+}
+
+/// A cast, or a unary expression.
+#[cycle(descent)]
+fn cast<'a>(
+    context: &Context<'_>,
+    count: u32,
+    tokens: &'a [Placed],
+) -> Result<(Expr, &'a [Placed]), Fault<'a>>
+    ensures goes { Answers count (scene_of context.now) (part.AnExpr part.Cast) tokens.now (λ e. expr_tree e) result }
+    ensures shorter { IfOk result (λ x. length x.1.now < length tokens.now) }
+{
+    if type_ahead(context, tokens) {
+        return cast_form(context, count, tokens);
+    }
+    let (whole, rest) = unary(context, count, tokens)?;
+    Ok((whole, rest))
+}
+
+/// A cast.
+#[cycle(descent)]
+fn cast_form<'a>(
+    context: &Context<'_>,
+    count: u32,
+    tokens: &'a [Placed],
+) -> Result<(Expr, &'a [Placed]), Fault<'a>>
+    requires { type_ahead (scene_of context.now) tokens.now ≡ true }
+    ensures goes { Answers count (scene_of context.now) (part.AnExpr part.Cast) tokens.now (λ e. expr_tree e) result }
+    ensures shorter { IfOk result (λ x. length x.1.now < length tokens.now) }
+{
+    let opens = Class::Sign(Punctuator::LeftParenthesis);
+    let closes = Class::Sign(Punctuator::RightParenthesis);
+    let (at, behind) = taken(context, count, 1, opens, tokens)?;
+    let (words, rest) = specs(context, count + 2, behind)?;
+    let (shape, rest) = declarator(context, Role::OfTypeName, count + 2, rest)?;
+    let (_close, behind) = taken(context, count, 1, closes, rest)?;
+    let (inner, rest) = cast_operand(context, count + 1, behind)?;
+    let whole = cast_expr(context.alloc, at.pos, words, shape, inner)?;
+    Ok((whole, rest))
+}
+
+/// What is cast.
+#[cycle(descent)]
+fn cast_operand<'a>(
+    context: &Context<'_>,
+    count: u32,
+    tokens: &'a [Placed],
+) -> Result<(Expr, &'a [Placed]), Fault<'a>>
+    ensures goes { Answers count (scene_of context.now) (part.AnExpr part.Operand) tokens.now (λ e. expr_tree e) result }
+    ensures shorter { IfOk result (λ x. length x.1.now < length tokens.now) }
+{
+    if comes(Mark::Brace, tokens) {
+        return Err(barred(count, Construct::CompoundLiteral, tokens));
+    }
+    let (whole, rest) = cast(context, count, tokens)?;
+    Ok((whole, rest))
+}
+
+/// A unary expression.
+#[cycle(descent)]
+fn unary<'a>(
+    context: &Context<'_>,
+    count: u32,
+    tokens: &'a [Placed],
+) -> Result<(Expr, &'a [Placed]), Fault<'a>>
+    ensures goes { Answers count (scene_of context.now) (part.AnExpr part.Unary) tokens.now (λ e. expr_tree e) result }
+    ensures shorter { IfOk result (λ x. length x.1.now < length tokens.now) }
+{
+    match prefix_at(tokens) {
+        PrefixKind::Sizeof => size_of(context, count, tokens),
+        PrefixKind::Step(way) => pre_step(context, count, way, tokens),
+        PrefixKind::Unary(op) => unary_form(context, count, op, tokens),
+        PrefixKind::Nothing => no_prefix(context, count, tokens),
+    }
+}
+
+/// A unary expression without a prefix.
+#[cycle(descent)]
+fn no_prefix<'a>(
+    context: &Context<'_>,
+    count: u32,
+    tokens: &'a [Placed],
+) -> Result<(Expr, &'a [Placed]), Fault<'a>>
+    requires { prefix_at tokens.now ≡ PrefixKind.Nothing }
+    ensures goes { Answers count (scene_of context.now) (part.AnExpr part.Unary) tokens.now (λ e. expr_tree e) result }
+    ensures shorter { IfOk result (λ x. length x.1.now < length tokens.now) }
+{
+    let (whole, rest) = postfix(context, count, tokens)?;
+    Ok((whole, rest))
+}
+
+/// `sizeof` and what follows it.
+#[cycle(descent)]
+fn size_of<'a>(
+    context: &Context<'_>,
+    count: u32,
+    tokens: &'a [Placed],
+) -> Result<(Expr, &'a [Placed]), Fault<'a>>
+    requires { prefix_at tokens.now ≡ PrefixKind.Sizeof }
+    ensures goes { Answers count (scene_of context.now) (part.AnExpr part.Unary) tokens.now (λ e. expr_tree e) result }
+    ensures shorter { IfOk result (λ x. length x.1.now < length tokens.now) }
+{
+    let keyword = Class::Keyword(Keyword::Sizeof);
+    let (at, behind) = taken(context, count, 1, keyword, tokens)?;
+    let (whole, rest) = sized(context, count + 1, at.pos, behind)?;
+    Ok((whole, rest))
+}
+
+/// `++` or `--` and its operand.
+#[cycle(descent)]
+fn pre_step<'a>(
+    context: &Context<'_>,
+    count: u32,
+    way: StepWay,
+    tokens: &'a [Placed],
+) -> Result<(Expr, &'a [Placed]), Fault<'a>>
+    requires { prefix_at tokens.now ≡ PrefixKind.Step way }
+    ensures goes { Answers count (scene_of context.now) (part.AnExpr part.Unary) tokens.now (λ e. expr_tree e) result }
+    ensures shorter { IfOk result (λ x. length x.1.now < length tokens.now) }
+{
+    let sign = Class::Sign(step_sign(way));
+    let (at, behind) = taken(context, count, 1, sign, tokens)?;
+    let (inner, rest) = unary(context, count + 1, behind)?;
+    Ok((pre_step_expr(context.alloc, at.pos, way, inner)?, rest))
+}
+
+/// A unary operator and its operand.
+#[cycle(descent)]
+fn unary_form<'a>(
+    context: &Context<'_>,
+    count: u32,
+    op: UnaryOp,
+    tokens: &'a [Placed],
+) -> Result<(Expr, &'a [Placed]), Fault<'a>>
+    requires { prefix_at tokens.now ≡ PrefixKind.Unary op }
+    ensures goes { Answers count (scene_of context.now) (part.AnExpr part.Unary) tokens.now (λ e. expr_tree e) result }
+    ensures shorter { IfOk result (λ x. length x.1.now < length tokens.now) }
+{
+    let sign = Class::Sign(unary_sign(op));
+    let (at, behind) = taken(context, count, 1, sign, tokens)?;
+    let (inner, rest) = cast(context, count + 1, behind)?;
+    Ok((unary_expr(context.alloc, at.pos, op, inner)?, rest))
+}
+
+/// What follows `sizeof`.
+#[cycle(descent)]
+fn sized<'a>(
+    context: &Context<'_>,
+    count: u32,
+    at: Pos,
+    tokens: &'a [Placed],
+) -> Result<(Expr, &'a [Placed]), Fault<'a>>
+    ensures goes { Answers count (scene_of context.now) (part.AnExpr (part.Sized at)) tokens.now (λ e. expr_tree e) result }
+    ensures shorter { IfOk result (λ x. length x.1.now < length tokens.now) }
+{
+    if type_ahead(context, tokens) {
+        return sized_type(context, count, at, tokens);
+    }
+    let (inner, rest) = unary(context, count, tokens)?;
+    Ok((sizeof_expr(context.alloc, at, inner)?, rest))
+}
+
+/// A type between parentheses, behind `sizeof`.
+#[cycle(descent)]
+fn sized_type<'a>(
+    context: &Context<'_>,
+    count: u32,
+    at: Pos,
+    tokens: &'a [Placed],
+) -> Result<(Expr, &'a [Placed]), Fault<'a>>
+    requires { type_ahead (scene_of context.now) tokens.now ≡ true }
+    ensures goes { Answers count (scene_of context.now) (part.AnExpr (part.Sized at)) tokens.now (λ e. expr_tree e) result }
+    ensures shorter { IfOk result (λ x. length x.1.now < length tokens.now) }
+{
+    let opens = Class::Sign(Punctuator::LeftParenthesis);
+    let closes = Class::Sign(Punctuator::RightParenthesis);
+    let (_opening, behind) = taken(context, count, 1, opens, tokens)?;
+    let (words, rest) = specs(context, count + 1, behind)?;
+    let (shape, rest) = declarator(context, Role::OfTypeName, count + 1, rest)?;
+    let (_close, rest) = taken(context, count, 0, closes, rest)?;
+    if comes(Mark::Brace, rest) {
+        return Err(barred(count, Construct::CompoundLiteral, rest));
+    }
+    Ok((sizeof_type(context.alloc, at, words, shape)?, rest))
+}
+
+/// A primary expression and its postfix forms.
+#[cycle(descent)]
+fn postfix<'a>(
+    context: &Context<'_>,
+    count: u32,
+    tokens: &'a [Placed],
+) -> Result<(Expr, &'a [Placed]), Fault<'a>>
+    ensures goes { Answers count (scene_of context.now) (part.AnExpr part.Postfix) tokens.now (λ e. expr_tree e) result }
+    ensures shorter { IfOk result (λ x. length x.1.now < length tokens.now) }
+{
+    let (base, rest) = primary(context, count, tokens)?;
+    let (whole, rest) = suffixes(context, count, base, rest)?;
+    Ok((whole, rest))
+}
+
+/// The postfix forms behind a primary expression.
+#[cycle(descent)]
+fn suffixes<'a>(
+    context: &Context<'_>,
+    count: u32,
+    first: Expr,
+    tokens: &'a [Placed],
+) -> Result<(Expr, &'a [Placed]), Fault<'a>>
+    ensures goes { Answers count (scene_of context.now) (part.AnExpr (part.Suffixes (expr_tree first))) tokens.now (λ e. expr_tree e) result }
+    ensures shorter { IfOk result (λ x. length x.1.now ≤ length tokens.now) }
+{
+    let mut base = first;
+    let mut rest = tokens;
+    let mut depth = count;
+    'forms: loop {
+        if calls_no_word(&base, rest) {
+            return Err(barred_call(depth, rest));
+        }
+        let kind = suffix_at(rest);
+        if is_no_suffix(kind) {
+            return Ok((base, rest));
+        }
+        let (longer, after) = suffix(context, depth, kind, base, rest)?;
+        base = longer;
+        rest = after;
+        depth += 1;
+    }
+}
+
+/// One postfix form behind an expression.
+#[cycle(descent)]
+fn suffix<'a>(
+    context: &Context<'_>,
+    count: u32,
+    kind: SuffixKind,
+    base: Expr,
+    tokens: &'a [Placed],
+) -> Result<(Expr, &'a [Placed]), Fault<'a>>
+    requires { SuffixComes tokens.now kind (expr_tree base) }
+    ensures goes { Steps (λ o. Goes count (scene_of context.now) (part.AnExpr (part.Suffixes (expr_tree base))) tokens.now o) (λ e rest o. Goes (count + 1) (scene_of context.now) (part.AnExpr (part.Suffixes (expr_tree e))) rest o) result }
+    ensures within { IfOk result (λ _. count + 1 ≤ 200) }
+    ensures shorter { IfOk result (λ x. length x.1.now < length tokens.now) }
+{
+    match kind {
+        SuffixKind::Index => index(context, count, base, tokens),
+        SuffixKind::Call => call(context, count, base, tokens),
+        SuffixKind::Dot => dot(context, count, base, tokens),
+        SuffixKind::Arrow => arrow(context, count, base, tokens),
+        SuffixKind::Step(way) => post_step(context, count, way, base, tokens),
+        SuffixKind::Nothing => unreachable!(),
+    }
+}
+
+/// An index.
+#[cycle(descent)]
+fn index<'a>(
+    context: &Context<'_>,
+    count: u32,
+    base: Expr,
+    tokens: &'a [Placed],
+) -> Result<(Expr, &'a [Placed]), Fault<'a>>
+    requires { suffix_at tokens.now ≡ SuffixKind.Index }
+    ensures goes { Steps (λ o. Goes count (scene_of context.now) (part.AnExpr (part.Suffixes (expr_tree base))) tokens.now o) (λ e rest o. Goes (count + 1) (scene_of context.now) (part.AnExpr (part.Suffixes (expr_tree e))) rest o) result }
+    ensures within { IfOk result (λ _. count + 1 ≤ 200) }
+    ensures shorter { IfOk result (λ x. length x.1.now < length tokens.now) }
+{
+    let opens = Class::Sign(Punctuator::LeftBracket);
+    let closes = Class::Sign(Punctuator::RightBracket);
+    let (at, behind) = taken(context, count, 2, opens, tokens)?;
+    let (index, rest) = run(context, Level::Commas, count + 2, behind)?;
+    let (_close, rest) = taken(context, count, 1, closes, rest)?;
+    Ok((index_expr(context.alloc, at.pos, base, index)?, rest))
+}
+
+/// The arguments of a call.
+#[cycle(descent)]
+fn call<'a>(
+    context: &Context<'_>,
+    count: u32,
+    base: Expr,
+    tokens: &'a [Placed],
+) -> Result<(Expr, &'a [Placed]), Fault<'a>>
+    requires { CallComes tokens.now (expr_tree base) }
+    ensures goes { Steps (λ o. Goes count (scene_of context.now) (part.AnExpr (part.Suffixes (expr_tree base))) tokens.now o) (λ e rest o. Goes (count + 1) (scene_of context.now) (part.AnExpr (part.Suffixes (expr_tree e))) rest o) result }
+    ensures within { IfOk result (λ _. count + 1 ≤ 200) }
+    ensures shorter { IfOk result (λ x. length x.1.now < length tokens.now) }
+{
+    let opens = Class::Sign(Punctuator::LeftParenthesis);
+    match base {
+        Expr::Word { pos, name } => {
+            let (_opening, behind) = taken(context, count, 2, opens, tokens)?;
+            let (args, rest) = arguments(context, count + 2, behind)?;
+            Ok((Expr::Call { pos, name, args }, rest))
+        }
+        _ => unreachable!(),
+    }
+}
+
+/// `.` and a member.
+fn dot<'a>(
+    context: &Context<'_>,
+    count: u32,
+    base: Expr,
+    tokens: &'a [Placed],
+) -> Result<(Expr, &'a [Placed]), Fault<'a>>
+    requires { suffix_at tokens.now ≡ SuffixKind.Dot }
+    ensures goes { Steps (λ o. Goes count (scene_of context.now) (part.AnExpr (part.Suffixes (expr_tree base))) tokens.now o) (λ e rest o. Goes (count + 1) (scene_of context.now) (part.AnExpr (part.Suffixes (expr_tree e))) rest o) result }
+    ensures within { IfOk result (λ _. count + 1 ≤ 200) }
+    ensures shorter { IfOk result (λ x. length x.1.now < length tokens.now) }
+{
+    let sign = Class::Sign(Punctuator::Dot);
+    let (at, behind) = taken(context, count, 1, sign, tokens)?;
+    let (word, rest) = taken(context, count, 1, Class::AnyWord, behind)?;
+    let member = name_of(context.alloc, &word.token)?;
+    Ok((dot_expr(context.alloc, at.pos, base, member)?, rest))
+}
+
+/// `->` and a member.
+fn arrow<'a>(
+    context: &Context<'_>,
+    count: u32,
+    base: Expr,
+    tokens: &'a [Placed],
+) -> Result<(Expr, &'a [Placed]), Fault<'a>>
+    requires { suffix_at tokens.now ≡ SuffixKind.Arrow }
+    ensures goes { Steps (λ o. Goes count (scene_of context.now) (part.AnExpr (part.Suffixes (expr_tree base))) tokens.now o) (λ e rest o. Goes (count + 1) (scene_of context.now) (part.AnExpr (part.Suffixes (expr_tree e))) rest o) result }
+    ensures within { IfOk result (λ _. count + 1 ≤ 200) }
+    ensures shorter { IfOk result (λ x. length x.1.now < length tokens.now) }
+{
+    let sign = Class::Sign(Punctuator::Arrow);
+    let (at, behind) = taken(context, count, 1, sign, tokens)?;
+    let (word, rest) = taken(context, count, 1, Class::AnyWord, behind)?;
+    let member = name_of(context.alloc, &word.token)?;
+    Ok((arrow_expr(context.alloc, at.pos, base, member)?, rest))
+}
+
+/// `++` or `--` behind an expression.
+fn post_step<'a>(
+    context: &Context<'_>,
+    count: u32,
+    way: StepWay,
+    base: Expr,
+    tokens: &'a [Placed],
+) -> Result<(Expr, &'a [Placed]), Fault<'a>>
+    requires { suffix_at tokens.now ≡ SuffixKind.Step way }
+    ensures goes { Steps (λ o. Goes count (scene_of context.now) (part.AnExpr (part.Suffixes (expr_tree base))) tokens.now o) (λ e rest o. Goes (count + 1) (scene_of context.now) (part.AnExpr (part.Suffixes (expr_tree e))) rest o) result }
+    ensures within { IfOk result (λ _. count + 1 ≤ 200) }
+    ensures shorter { IfOk result (λ x. length x.1.now < length tokens.now) }
+{
+    let sign = Class::Sign(step_sign(way));
+    let (at, rest) = taken(context, count, 1, sign, tokens)?;
+    Ok((post_step_expr(context.alloc, at.pos, way, base)?, rest))
+}
+
+/// A primary expression.
+#[cycle(descent)]
+fn primary<'a>(
+    context: &Context<'_>,
+    count: u32,
+    tokens: &'a [Placed],
+) -> Result<(Expr, &'a [Placed]), Fault<'a>>
+    ensures goes { Answers count (scene_of context.now) (part.AnExpr part.Primary) tokens.now (λ e. expr_tree e) result }
+    ensures shorter { IfOk result (λ x. length x.1.now < length tokens.now) }
+{
+    match primary_at(context, tokens) {
+        PrimaryKind::Word => word(context, count, tokens),
+        PrimaryKind::Number => number(context, count, tokens),
+        PrimaryKind::Character => character(context, count, tokens),
+        PrimaryKind::Text => strings(context, count, tokens),
+        PrimaryKind::Enclosed => enclosed(context, count, tokens),
+        PrimaryKind::Neither => Err(refused(context, count, tokens)),
+    }
+}
+
+/// An expression between parentheses.
+#[cycle(descent)]
+fn enclosed<'a>(
+    context: &Context<'_>,
+    count: u32,
+    tokens: &'a [Placed],
+) -> Result<(Expr, &'a [Placed]), Fault<'a>>
+    requires { primary_at (scene_of context.now) tokens.now ≡ PrimaryKind.Enclosed }
+    ensures goes { Answers count (scene_of context.now) (part.AnExpr part.Primary) tokens.now (λ e. expr_tree e) result }
+    ensures shorter { IfOk result (λ x. length x.1.now < length tokens.now) }
+{
+    let opens = Class::Sign(Punctuator::LeftParenthesis);
+    let closes = Class::Sign(Punctuator::RightParenthesis);
+    let (opening, behind) = taken(context, count, 1, opens, tokens)?;
+    let (inner, rest) = run(context, Level::Commas, count + 1, behind)?;
+    let (_close, rest) = taken(context, count, 0, closes, rest)?;
+    Ok((enclosed_expr(context.alloc, opening.pos, inner)?, rest))
+}
+
+/// The arguments of a call, up to the parenthesis that closes them.
+#[cycle(descent)]
+fn arguments<'a>(
+    context: &Context<'_>,
+    count: u32,
+    tokens: &'a [Placed],
+) -> Result<(Exprs, &'a [Placed]), Fault<'a>>
+    ensures goes { Answers count (scene_of context.now) part.Arguments tokens.now (λ a. exprs_tree a) result }
+    ensures shorter { IfOk result (λ x. length x.1.now < length tokens.now) }
+{
+    if comes(Mark::Close, tokens) {
+        return no_arguments(context, count, tokens);
+    }
+    let (first, rest) = assignment(context, count, tokens)?;
+    let args = one_expr(context.alloc, first)?;
+    let (whole, rest) = more_arguments(context, count, args, rest)?;
+    Ok((whole, rest))
+}
+
+/// The arguments behind the first.
+#[cycle(descent)]
+fn more_arguments<'a>(
+    context: &Context<'_>,
+    count: u32,
+    before: Vec<Expr>,
+    tokens: &'a [Placed],
+) -> Result<(Exprs, &'a [Placed]), Fault<'a>>
+    ensures goes { Answers count (scene_of context.now) (part.MoreArguments (exprs_from before.items)) tokens.now (λ a. exprs_tree a) result }
+    ensures shorter { IfOk result (λ x. length x.1.now < length tokens.now) }
+{
+    let mut args = before;
+    let mut rest = tokens;
+    'others: while !comes(Mark::Close, rest) {
+        let (_comma, behind) = taken(context, count, 0, Class::Sign(Punctuator::Comma), rest)?;
+        let (next, after) = assignment(context, count, behind)?;
+        push_expr(&mut args, next)?;
+        rest = after;
+    }
+    let closes = Class::Sign(Punctuator::RightParenthesis);
+    let (_close, rest) = taken(context, count, 0, closes, rest)?;
+    Ok((Exprs::from_vec(args), rest))
+}
+
+/// No arguments.
+fn no_arguments<'a>(
+    context: &Context<'_>,
+    count: u32,
+    tokens: &'a [Placed],
+) -> Result<(Exprs, &'a [Placed]), Fault<'a>>
+    requires { first_is is_close tokens.now ≡ true }
+    ensures goes { Answers count (scene_of context.now) part.Arguments tokens.now (λ a. exprs_tree a) result }
+    ensures shorter { IfOk result (λ x. length x.1.now < length tokens.now) }
+{
+    let closes = Class::Sign(Punctuator::RightParenthesis);
+    let (_close, rest) = taken(context, count, 0, closes, tokens)?;
+    Ok((Exprs::new(context.alloc), rest))
+}
+
+// The parenthesis of a call comes, and no plain word stands before it.
+fn calls_no_word(base: &Expr, tokens: &[Placed]) -> bool
+    ensures { result ≡ (first_is is_open tokens.now && not (is_word (expr_tree base.now))) }
+{
+    comes(Mark::Open, tokens) && !is_word(base)
+}
+
+fn is_no_suffix(kind: SuffixKind) -> bool
+    ensures { result ≡ is_no_suffix kind }
+{
+    matches!(kind, SuffixKind::Nothing)
+}

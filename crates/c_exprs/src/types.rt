@@ -1,0 +1,536 @@
+// Specs: the words and types that begin a declaration.
+
+ghost use Rattle.std.specs.Prelude.{◌≡◌, ℕ, ◌+◌, ◌<◌, ◌≤◌, Bool, true, ◌&&◌, ◌||◌, List, length, IfOk, option_map};
+ghost use Rattle.c_syntax.specs.Written.{enumerator_tree, enumerators_from, enumerators_tree, declarators_from, memberdecl_tree, memberdecls_from, memberdecls_tree, spec_tree, specs_from, specs_tree};
+ghost use Rattle.c_grammar.specs.Choice.{is_right_brace, is_semicolon};
+ghost use Rattle.c_grammar.specs.Made.{has_type, is_type};
+ghost use Rattle.c_grammar.specs.Parts as part;
+ghost use Rattle.c_grammar.specs.Refused.{first_is, is_type_name};
+ghost use Rattle.c_exprs.specs.Answers.{Answers};
+ghost use Rattle.c_exprs.specs.Kinds.{spec_at, tag_at};
+ghost use Rattle.c_exprs.specs.Views.{scene_of};
+
+use crate::class::Class;
+use crate::context::Context;
+use crate::copy::name_of;
+use crate::declarators::declarator;
+use crate::exprs::conditional;
+use crate::fault::Fault;
+use crate::leaf::{basic, constant, storage, typedef_name};
+use crate::look::{Mark, comes, spec_ahead, type_name_ahead};
+use crate::token::{barred, refused, taken};
+use crate::type_kind::{Role, SpecKind, TagKind, spec_at, tag_at};
+use crate::type_node::{
+    is_type, one_declarator, one_enumerator, one_member, one_spec, push_declarator,
+    push_enumerator, push_member, push_spec, specs_pos, valued_enumerator,
+};
+use c_syntax::{
+    Construct, Declarator, Declarators, Enumerator, Enumerators, Keyword, MemberDecl, MemberDecls,
+    Name, Placed, Pos, Punctuator, Spec, Specs, Tag,
+};
+
+/// Specs, as many as there are.
+#[cycle(descent)]
+pub fn specs<'a>(
+    context: &Context<'_>,
+    count: u32,
+    tokens: &'a [Placed],
+) -> Result<(Specs, &'a [Placed]), Fault<'a>>
+    ensures goes { Answers count (scene_of context.now) part.Specs tokens.now (λ s. specs_tree s) result }
+    ensures shorter { IfOk result (λ x. length x.1.now < length tokens.now) }
+{
+    let (first, rest) = spec(context, count, tokens)?;
+    let typed = is_type(&first);
+    let items = one_spec(context.alloc, first)?;
+    let (whole, rest) = more_specs(context, count, typed, items, rest)?;
+    Ok((whole, rest))
+}
+
+/// The specs behind the first. `typed` tells that those before tell a type.
+#[cycle(descent)]
+fn more_specs<'a>(
+    context: &Context<'_>,
+    count: u32,
+    typed: bool,
+    before: Vec<Spec>,
+    tokens: &'a [Placed],
+) -> Result<(Specs, &'a [Placed]), Fault<'a>>
+    requires { typed ≡ has_type (specs_from before.items) }
+    ensures goes { Answers count (scene_of context.now) (part.MoreSpecs (specs_from before.items)) tokens.now (λ s. specs_tree s) result }
+    ensures shorter { IfOk result (λ x. length x.1.now ≤ length tokens.now) }
+{
+    let mut has_type = typed;
+    let mut items = before;
+    let mut rest = tokens;
+    'words: loop {
+        if type_comes_again(context, has_type, rest) {
+            return Err(barred(count, Construct::TypedefAgain, rest));
+        }
+        if !spec_ahead(context, rest) {
+            return Ok((Specs::from_vec(items), rest));
+        }
+        let (next, after) = spec(context, count, rest)?;
+        has_type = tells_type(has_type, &next);
+        push_spec(&mut items, next)?;
+        rest = after;
+    }
+}
+
+/// A spec.
+#[cycle(descent)]
+fn spec<'a>(
+    context: &Context<'_>,
+    count: u32,
+    tokens: &'a [Placed],
+) -> Result<(Spec, &'a [Placed]), Fault<'a>>
+    ensures goes { Answers count (scene_of context.now) (part.ASpec part.Spec) tokens.now (λ s. spec_tree s) result }
+    ensures shorter { IfOk result (λ x. length x.1.now < length tokens.now) }
+{
+    match spec_at(context, tokens) {
+        SpecKind::TypedefName => typedef_name(context, count, tokens),
+        SpecKind::Storage(word) => storage(context, count, word, tokens),
+        SpecKind::Const => constant(context, count, tokens),
+        SpecKind::Basic(word) => basic(context, count, word, tokens),
+        SpecKind::Structure => structure(context, count, tokens),
+        SpecKind::Enumeration => enumeration(context, count, tokens),
+        SpecKind::Neither => Err(refused(context, count, tokens)),
+    }
+}
+
+/// `struct` and what follows it.
+#[cycle(descent)]
+fn structure<'a>(
+    context: &Context<'_>,
+    count: u32,
+    tokens: &'a [Placed],
+) -> Result<(Spec, &'a [Placed]), Fault<'a>>
+    requires { spec_at (scene_of context.now) tokens.now ≡ SpecKind.Structure }
+    ensures goes { Answers count (scene_of context.now) (part.ASpec part.Spec) tokens.now (λ s. spec_tree s) result }
+    ensures shorter { IfOk result (λ x. length x.1.now < length tokens.now) }
+{
+    let keyword = Class::Keyword(Keyword::Struct);
+    let (at, behind) = taken(context, count, 0, keyword, tokens)?;
+    let (whole, rest) = structure_form(context, count, at.pos, behind)?;
+    Ok((whole, rest))
+}
+
+/// What follows `struct`.
+#[cycle(descent)]
+fn structure_form<'a>(
+    context: &Context<'_>,
+    count: u32,
+    at: Pos,
+    tokens: &'a [Placed],
+) -> Result<(Spec, &'a [Placed]), Fault<'a>>
+    ensures goes { Answers count (scene_of context.now) (part.ASpec (part.Structure at)) tokens.now (λ s. spec_tree s) result }
+    ensures shorter { IfOk result (λ x. length x.1.now < length tokens.now) }
+{
+    match tag_at(tokens) {
+        TagKind::Tag => structure_tag(context, count, at, tokens),
+        TagKind::Body => structure_body(context, count, at, tokens),
+        TagKind::Neither => Err(refused(context, count, tokens)),
+    }
+}
+
+/// A tag, and braces where there are any.
+#[cycle(descent)]
+fn structure_tag<'a>(
+    context: &Context<'_>,
+    count: u32,
+    at: Pos,
+    tokens: &'a [Placed],
+) -> Result<(Spec, &'a [Placed]), Fault<'a>>
+    requires { tag_at tokens.now ≡ TagKind.Tag }
+    ensures goes { Answers count (scene_of context.now) (part.ASpec (part.Structure at)) tokens.now (λ s. spec_tree s) result }
+    ensures shorter { IfOk result (λ x. length x.1.now < length tokens.now) }
+{
+    let (word, behind) = taken(context, count, 0, Class::AnyWord, tokens)?;
+    let name = name_of(context.alloc, &word.token)?;
+    let tag = Tag {
+        pos: word.pos,
+        name,
+    };
+    let (whole, rest) = structure_tagged(context, count, at, tag, behind)?;
+    Ok((whole, rest))
+}
+
+/// Braces without a tag.
+#[cycle(descent)]
+fn structure_body<'a>(
+    context: &Context<'_>,
+    count: u32,
+    at: Pos,
+    tokens: &'a [Placed],
+) -> Result<(Spec, &'a [Placed]), Fault<'a>>
+    requires { tag_at tokens.now ≡ TagKind.Body }
+    ensures goes { Answers count (scene_of context.now) (part.ASpec (part.Structure at)) tokens.now (λ s. spec_tree s) result }
+    ensures shorter { IfOk result (λ x. length x.1.now < length tokens.now) }
+{
+    let brace = Class::Sign(Punctuator::LeftBrace);
+    let (_opening, behind) = taken(context, count, 1, brace, tokens)?;
+    let (members, rest) = members(context, count + 1, behind)?;
+    Ok((
+        Spec::StructBody {
+            pos: at,
+            tag: None,
+            members,
+        },
+        rest,
+    ))
+}
+
+/// Braces behind a tag, where there are any.
+#[cycle(descent)]
+fn structure_tagged<'a>(
+    context: &Context<'_>,
+    count: u32,
+    at: Pos,
+    tag: Tag,
+    tokens: &'a [Placed],
+) -> Result<(Spec, &'a [Placed]), Fault<'a>>
+    ensures goes { Answers count (scene_of context.now) (part.ASpec (part.StructureTagged at tag)) tokens.now (λ s. spec_tree s) result }
+    ensures shorter { IfOk result (λ x. length x.1.now ≤ length tokens.now) }
+{
+    if !comes(Mark::Brace, tokens) {
+        return Ok((Spec::Struct { pos: at, tag }, tokens));
+    }
+    let brace = Class::Sign(Punctuator::LeftBrace);
+    let (_opening, behind) = taken(context, count, 1, brace, tokens)?;
+    let (members, rest) = members(context, count + 1, behind)?;
+    Ok((
+        Spec::StructBody {
+            pos: at,
+            tag: Some(tag),
+            members,
+        },
+        rest,
+    ))
+}
+
+/// `enum` and what follows it.
+#[cycle(descent)]
+fn enumeration<'a>(
+    context: &Context<'_>,
+    count: u32,
+    tokens: &'a [Placed],
+) -> Result<(Spec, &'a [Placed]), Fault<'a>>
+    requires { spec_at (scene_of context.now) tokens.now ≡ SpecKind.Enumeration }
+    ensures goes { Answers count (scene_of context.now) (part.ASpec part.Spec) tokens.now (λ s. spec_tree s) result }
+    ensures shorter { IfOk result (λ x. length x.1.now < length tokens.now) }
+{
+    let keyword = Class::Keyword(Keyword::Enum);
+    let (at, behind) = taken(context, count, 0, keyword, tokens)?;
+    let (whole, rest) = enumeration_form(context, count, at.pos, behind)?;
+    Ok((whole, rest))
+}
+
+/// What follows `enum`.
+#[cycle(descent)]
+fn enumeration_form<'a>(
+    context: &Context<'_>,
+    count: u32,
+    at: Pos,
+    tokens: &'a [Placed],
+) -> Result<(Spec, &'a [Placed]), Fault<'a>>
+    ensures goes { Answers count (scene_of context.now) (part.ASpec (part.Enumeration at)) tokens.now (λ s. spec_tree s) result }
+    ensures shorter { IfOk result (λ x. length x.1.now < length tokens.now) }
+{
+    match tag_at(tokens) {
+        TagKind::Tag => enumeration_tag(context, count, at, tokens),
+        TagKind::Body => enumeration_body(context, count, at, tokens),
+        TagKind::Neither => Err(refused(context, count, tokens)),
+    }
+}
+
+/// A tag, and braces where there are any.
+#[cycle(descent)]
+fn enumeration_tag<'a>(
+    context: &Context<'_>,
+    count: u32,
+    at: Pos,
+    tokens: &'a [Placed],
+) -> Result<(Spec, &'a [Placed]), Fault<'a>>
+    requires { tag_at tokens.now ≡ TagKind.Tag }
+    ensures goes { Answers count (scene_of context.now) (part.ASpec (part.Enumeration at)) tokens.now (λ s. spec_tree s) result }
+    ensures shorter { IfOk result (λ x. length x.1.now < length tokens.now) }
+{
+    let (word, behind) = taken(context, count, 0, Class::AnyWord, tokens)?;
+    let name = name_of(context.alloc, &word.token)?;
+    let tag = Tag {
+        pos: word.pos,
+        name,
+    };
+    let (whole, rest) = enumeration_tagged(context, count, at, tag, behind)?;
+    Ok((whole, rest))
+}
+
+/// Braces without a tag.
+#[cycle(descent)]
+fn enumeration_body<'a>(
+    context: &Context<'_>,
+    count: u32,
+    at: Pos,
+    tokens: &'a [Placed],
+) -> Result<(Spec, &'a [Placed]), Fault<'a>>
+    requires { tag_at tokens.now ≡ TagKind.Body }
+    ensures goes { Answers count (scene_of context.now) (part.ASpec (part.Enumeration at)) tokens.now (λ s. spec_tree s) result }
+    ensures shorter { IfOk result (λ x. length x.1.now < length tokens.now) }
+{
+    let brace = Class::Sign(Punctuator::LeftBrace);
+    let (_opening, behind) = taken(context, count, 1, brace, tokens)?;
+    let (enumerators, rest) = enumerators(context, count + 1, behind)?;
+    Ok((
+        Spec::EnumBody {
+            pos: at,
+            tag: None,
+            enumerators,
+        },
+        rest,
+    ))
+}
+
+/// Braces behind a tag, where there are any.
+#[cycle(descent)]
+fn enumeration_tagged<'a>(
+    context: &Context<'_>,
+    count: u32,
+    at: Pos,
+    tag: Tag,
+    tokens: &'a [Placed],
+) -> Result<(Spec, &'a [Placed]), Fault<'a>>
+    ensures goes { Answers count (scene_of context.now) (part.ASpec (part.EnumerationTagged at tag)) tokens.now (λ s. spec_tree s) result }
+    ensures shorter { IfOk result (λ x. length x.1.now ≤ length tokens.now) }
+{
+    if !comes(Mark::Brace, tokens) {
+        return Ok((Spec::Enum { pos: at, tag }, tokens));
+    }
+    let brace = Class::Sign(Punctuator::LeftBrace);
+    let (_opening, behind) = taken(context, count, 1, brace, tokens)?;
+    let (enumerators, rest) = enumerators(context, count + 1, behind)?;
+    Ok((
+        Spec::EnumBody {
+            pos: at,
+            tag: Some(tag),
+            enumerators,
+        },
+        rest,
+    ))
+}
+
+/// The members of a struct, up to the brace that closes them.
+#[cycle(descent)]
+fn members<'a>(
+    context: &Context<'_>,
+    count: u32,
+    tokens: &'a [Placed],
+) -> Result<(MemberDecls, &'a [Placed]), Fault<'a>>
+    ensures goes { Answers count (scene_of context.now) part.Members tokens.now (λ m. memberdecls_tree m) result }
+    ensures shorter { IfOk result (λ x. length x.1.now < length tokens.now) }
+{
+    let (first, rest) = member(context, count, tokens)?;
+    let items = one_member(context.alloc, first)?;
+    let (whole, rest) = more_members(context, count, items, rest)?;
+    Ok((whole, rest))
+}
+
+/// The members behind the first.
+#[cycle(descent)]
+fn more_members<'a>(
+    context: &Context<'_>,
+    count: u32,
+    before: Vec<MemberDecl>,
+    tokens: &'a [Placed],
+) -> Result<(MemberDecls, &'a [Placed]), Fault<'a>>
+    ensures goes { Answers count (scene_of context.now) (part.MoreMembers (memberdecls_from before.items)) tokens.now (λ m. memberdecls_tree m) result }
+    ensures shorter { IfOk result (λ x. length x.1.now < length tokens.now) }
+{
+    let mut items = before;
+    let mut rest = tokens;
+    'lines: while !comes(Mark::RightBrace, rest) {
+        let (next, after) = member(context, count, rest)?;
+        push_member(&mut items, next)?;
+        rest = after;
+    }
+    let closes = Class::Sign(Punctuator::RightBrace);
+    let (_close, rest) = taken(context, count, 0, closes, rest)?;
+    Ok((MemberDecls::from_vec(items), rest))
+}
+
+/// Members that are declared together.
+#[cycle(descent)]
+fn member<'a>(
+    context: &Context<'_>,
+    count: u32,
+    tokens: &'a [Placed],
+) -> Result<(MemberDecl, &'a [Placed]), Fault<'a>>
+    ensures goes { Answers count (scene_of context.now) part.AMember tokens.now (λ m. memberdecl_tree m) result }
+    ensures shorter { IfOk result (λ x. length x.1.now < length tokens.now) }
+{
+    let (words, rest) = specs(context, count, tokens)?;
+    let (first, rest) = declarator(context, Role::OfMember, count, rest)?;
+    let items = one_declarator(context.alloc, first)?;
+    let (whole, rest) = more_declarators(context, count, words, items, rest)?;
+    Ok((whole, rest))
+}
+
+/// The declarators of members behind the first.
+#[cycle(descent)]
+fn more_declarators<'a>(
+    context: &Context<'_>,
+    count: u32,
+    specs: Specs,
+    before: Vec<Declarator>,
+    tokens: &'a [Placed],
+) -> Result<(MemberDecl, &'a [Placed]), Fault<'a>>
+    ensures goes { Answers count (scene_of context.now) (part.MoreDeclarators (specs_tree specs) (declarators_from before.items)) tokens.now (λ m. memberdecl_tree m) result }
+    ensures shorter { IfOk result (λ x. length x.1.now < length tokens.now) }
+{
+    let mut declarators = before;
+    let mut rest = tokens;
+    'others: loop {
+        if comes(Mark::Colon, rest) {
+            return Err(barred(count, Construct::BitField, rest));
+        }
+        if comes(Mark::Semicolon, rest) {
+            return members_end(context, count, specs, declarators, rest);
+        }
+        let (_comma, behind) = taken(context, count, 0, Class::Sign(Punctuator::Comma), rest)?;
+        let (next, after) = declarator(context, Role::OfMember, count, behind)?;
+        push_declarator(&mut declarators, next)?;
+        rest = after;
+    }
+}
+
+/// The semicolon behind the declarators of members.
+fn members_end<'a>(
+    context: &Context<'_>,
+    count: u32,
+    specs: Specs,
+    declarators: Vec<Declarator>,
+    tokens: &'a [Placed],
+) -> Result<(MemberDecl, &'a [Placed]), Fault<'a>>
+    requires { first_is is_semicolon tokens.now ≡ true }
+    ensures goes { Answers count (scene_of context.now) (part.MoreDeclarators (specs_tree specs) (declarators_from declarators.items)) tokens.now (λ m. memberdecl_tree m) result }
+    ensures shorter { IfOk result (λ x. length x.1.now < length tokens.now) }
+{
+    let semicolon = Class::Sign(Punctuator::Semicolon);
+    let (_end, rest) = taken(context, count, 0, semicolon, tokens)?;
+    Ok((
+        MemberDecl::Members {
+            pos: specs_pos(&specs),
+            specs,
+            declarators: Declarators::from_vec(declarators),
+        },
+        rest,
+    ))
+}
+
+/// The constants of an enumeration, up to the brace that closes them.
+#[cycle(descent)]
+fn enumerators<'a>(
+    context: &Context<'_>,
+    count: u32,
+    tokens: &'a [Placed],
+) -> Result<(Enumerators, &'a [Placed]), Fault<'a>>
+    ensures goes { Answers count (scene_of context.now) part.Enumerators tokens.now (λ e. enumerators_tree e) result }
+    ensures shorter { IfOk result (λ x. length x.1.now < length tokens.now) }
+{
+    let (first, rest) = enumerator(context, count, tokens)?;
+    let items = one_enumerator(context.alloc, first)?;
+    let (whole, rest) = more_enumerators(context, count, items, rest)?;
+    Ok((whole, rest))
+}
+
+/// The constants behind the first.
+#[cycle(descent)]
+fn more_enumerators<'a>(
+    context: &Context<'_>,
+    count: u32,
+    before: Vec<Enumerator>,
+    tokens: &'a [Placed],
+) -> Result<(Enumerators, &'a [Placed]), Fault<'a>>
+    ensures goes { Answers count (scene_of context.now) (part.MoreEnumerators (enumerators_from before.items)) tokens.now (λ e. enumerators_tree e) result }
+    ensures shorter { IfOk result (λ x. length x.1.now < length tokens.now) }
+{
+    let mut items = before;
+    let mut rest = tokens;
+    'values: while !comes(Mark::RightBrace, rest) {
+        let (_comma, behind) = taken(context, count, 0, Class::Sign(Punctuator::Comma), rest)?;
+        if comes(Mark::RightBrace, behind) {
+            return comma_end(context, count, items, behind);
+        }
+        let (next, after) = enumerator(context, count, behind)?;
+        push_enumerator(&mut items, next)?;
+        rest = after;
+    }
+    let closes = Class::Sign(Punctuator::RightBrace);
+    let (_close, rest) = taken(context, count, 0, closes, rest)?;
+    Ok((Enumerators::from_vec(items), rest))
+}
+
+/// The brace behind a last comma.
+fn comma_end<'a>(
+    context: &Context<'_>,
+    count: u32,
+    items: Vec<Enumerator>,
+    tokens: &'a [Placed],
+) -> Result<(Enumerators, &'a [Placed]), Fault<'a>>
+    requires { first_is is_right_brace tokens.now ≡ true }
+    ensures goes { Answers count (scene_of context.now) (part.NextEnumerator (enumerators_from items.items)) tokens.now (λ e. enumerators_tree e) result }
+    ensures shorter { IfOk result (λ x. length x.1.now < length tokens.now) }
+{
+    let closes = Class::Sign(Punctuator::RightBrace);
+    let (_close, rest) = taken(context, count, 0, closes, tokens)?;
+    Ok((Enumerators::from_vec(items), rest))
+}
+
+/// A constant of an enumeration.
+#[cycle(descent)]
+fn enumerator<'a>(
+    context: &Context<'_>,
+    count: u32,
+    tokens: &'a [Placed],
+) -> Result<(Enumerator, &'a [Placed]), Fault<'a>>
+    ensures goes { Answers count (scene_of context.now) part.AnEnumerator tokens.now (λ e. enumerator_tree e) result }
+    ensures shorter { IfOk result (λ x. length x.1.now < length tokens.now) }
+{
+    let (word, behind) = taken(context, count, 0, Class::Word, tokens)?;
+    let name = name_of(context.alloc, &word.token)?;
+    let (whole, rest) = enumerator_value(context, count, word.pos, name, behind)?;
+    Ok((whole, rest))
+}
+
+/// The value of a constant, where it is given.
+#[cycle(descent)]
+fn enumerator_value<'a>(
+    context: &Context<'_>,
+    count: u32,
+    at: Pos,
+    name: Name,
+    tokens: &'a [Placed],
+) -> Result<(Enumerator, &'a [Placed]), Fault<'a>>
+    ensures goes { Answers count (scene_of context.now) (part.EnumeratorValue at name) tokens.now (λ e. enumerator_tree e) result }
+    ensures shorter { IfOk result (λ x. length x.1.now ≤ length tokens.now) }
+{
+    if !comes(Mark::Assign, tokens) {
+        return Ok((Enumerator::Plain { pos: at, name }, tokens));
+    }
+    let sign = Class::Sign(Punctuator::Assign);
+    let (_equals, behind) = taken(context, count, 1, sign, tokens)?;
+    let (value, rest) = conditional(context, count + 1, behind)?;
+    Ok((valued_enumerator(context.alloc, at, name, value)?, rest))
+}
+
+// A typedef name comes behind specs that tell a type.
+fn type_comes_again(context: &Context<'_>, has_type: bool, tokens: &[Placed]) -> bool
+    ensures { result ≡ (first_is (is_type_name (scene_of context.now)) tokens.now && has_type) }
+{
+    type_name_ahead(context, tokens) && has_type
+}
+
+// Whether specs tell a type, with one more.
+fn tells_type(before: bool, next: &Spec) -> bool
+    ensures { result ≡ (before || is_type (spec_tree next.now)) }
+{
+    before || is_type(next)
+}
