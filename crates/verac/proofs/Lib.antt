@@ -1,9 +1,10 @@
-pub mod Trees
 pub mod CommandLemmas
 pub mod RunLemmas
 pub mod SizeLemmas
 pub mod AlarmLemmas
 pub mod WalkLemmas
-pub mod FormLemmas
-pub mod VerdictLemmas
+pub mod ParseSeen
+pub mod ParseOnly
+pub mod ParseLemmas
+pub mod ParseExact
 pub mod HeadlineLemmas

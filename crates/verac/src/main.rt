@@ -1,17 +1,15 @@
 //! Verac: what may go wrong in a C file, from its bytes to the report.
-#![tactic(auto, using(crate::proofs::Trees::the_trees))]
+#![tactic(auto)]
 
 mod command;
-mod form;
+mod parse;
 mod program;
-mod refusal;
 mod report;
 mod runs;
 mod status;
 #[cfg(test)]
 mod tests;
 mod tree;
-mod verdict;
 mod walk;
 
 use outside_io::{HostFiles, HostOut};
