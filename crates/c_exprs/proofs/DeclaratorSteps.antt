@@ -20,14 +20,14 @@ use Rattle.c_grammar.specs.Ahead.{is_close, no_group_ahead}
 use Rattle.c_grammar.specs.Refused.{first_is}
 use Rattle.c_grammar.specs.Choice.{choose, direct_word_choice, is_const_word}
 use Rattle.c_grammar.specs.Descent.{Outcome, Done, Stop, Goes, Follows, is_done}
-use Rattle.c_exprs.specs.declared.type_kind.DirectKind.{DirectKind}
-use Rattle.c_exprs.specs.declared.type_kind.DirectKind.TheVariants as directs
-use Rattle.c_exprs.specs.declared.type_kind.TailKind.{TailKind}
-use Rattle.c_exprs.specs.declared.type_kind.TailKind.TheVariants as tails
-use Rattle.c_exprs.specs.Answers.{Takes}
-use Rattle.c_exprs.specs.Kinds.{direct_at, direct_of, direct_of_word, is_no_tail, tail_at, tail_of, sign_of}
-use Rattle.c_exprs.proofs.Choices.{Chosen}
-use Rattle.c_exprs.proofs.Steps.{by, take, here, stops_here, if_true, if_false}
+use Rattle.c_descent.specs.declared.type_kind.DirectKind.{DirectKind}
+use Rattle.c_descent.specs.declared.type_kind.DirectKind.TheVariants as directs
+use Rattle.c_descent.specs.declared.type_kind.TailKind.{TailKind}
+use Rattle.c_descent.specs.declared.type_kind.TailKind.TheVariants as tails
+use Rattle.c_descent.specs.Answers.{Takes}
+use Rattle.c_descent.specs.Kinds.{direct_at, direct_of, direct_of_word, is_no_tail, tail_at, tail_of, sign_of}
+use Rattle.c_descent.proofs.Choices.{Chosen}
+use Rattle.c_descent.proofs.Steps.{by, take, here, stops_here, if_true, if_false}
 
 abbrev at_token : Pos → Token → List Placed → List Placed
 at_token at k ts = record { pos = at; token = k } ∷ ts

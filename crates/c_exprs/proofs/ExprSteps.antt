@@ -21,16 +21,16 @@ use Rattle.c_grammar.specs.Ahead.{is_open, is_close}
 use Rattle.c_grammar.specs.Refused.{Why, first_is, where_true, part_construct}
 use Rattle.c_grammar.specs.Made.{is_word, joined}
 use Rattle.c_grammar.specs.Descent.{Outcome, Done, Stop, Goes, Follows, goes_on, stops, is_done}
-use Rattle.c_exprs.specs.declared.fault.Fault.{Fault}
-use Rattle.c_exprs.specs.declared.level.Level.{Level}
-use Rattle.c_exprs.specs.declared.level.Joint.{Joint}
-use Rattle.c_exprs.specs.Views.{level_view, joint_view, is_question}
-use Rattle.c_exprs.specs.Answers.{Gives, Takes, SuffixComes}
-use Rattle.c_exprs.specs.declared.kind.SuffixKind.{SuffixKind}
-use Rattle.c_exprs.specs.declared.kind.SuffixKind.TheVariants as suffixes
-use Rattle.c_exprs.specs.Kinds.{joint_here, suffix_at, is_no_suffix}
-use Rattle.c_exprs.proofs.Choices.{Chosen, MoreTells, more_is, SuffixTells, suffix_is}
-use Rattle.c_exprs.proofs.Steps.{by, take, here, stops_here, if_false}
+use Rattle.c_descent.specs.declared.fault.Fault.{Fault}
+use Rattle.c_descent.specs.declared.level.Level.{Level}
+use Rattle.c_descent.specs.declared.level.Joint.{Joint}
+use Rattle.c_descent.specs.Views.{level_view, joint_view, is_question}
+use Rattle.c_descent.specs.Answers.{Gives, Takes, SuffixComes}
+use Rattle.c_descent.specs.declared.kind.SuffixKind.{SuffixKind}
+use Rattle.c_descent.specs.declared.kind.SuffixKind.TheVariants as suffixes
+use Rattle.c_descent.specs.Kinds.{joint_here, suffix_at, is_no_suffix}
+use Rattle.c_descent.proofs.Choices.{Chosen, MoreTells, more_is, SuffixTells, suffix_is}
+use Rattle.c_descent.proofs.Steps.{by, take, here, stops_here, if_false}
 
 -- the operand of a level that is known
 pub operand_at : {A : Type 0} {d : ℕ} {w : Scene} {ts : List Placed} {view : A → ExprTree} {r : Result (A × Bor (List Placed)) Fault} {l m : Level} → l ≡ m → Gives (λ o. Goes d w (AnExpr (operand (level_view m))) ts o) view r → Gives (λ o. Goes d w (AnExpr (operand (level_view l))) ts o) view r

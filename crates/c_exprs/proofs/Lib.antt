@@ -1,9 +1,3 @@
 pub mod Ranks
-pub mod NodeSteps
-pub mod Steps
-pub mod Bars
-pub mod Choices
-pub mod TypeSteps
 pub mod DeclaratorSteps
 pub mod ExprSteps
-pub mod TextSteps

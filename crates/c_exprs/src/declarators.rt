@@ -7,23 +7,13 @@ ghost use Rattle.c_grammar.specs.Parts as part;
 ghost use Rattle.c_grammar.specs.Made.{is_given};
 ghost use Rattle.c_grammar.specs.Choice.{is_const_word};
 ghost use Rattle.c_grammar.specs.Refused.{first_is, may_omit};
-ghost use Rattle.c_exprs.specs.Answers.{Answers, Consts, DeclaratorStarts, DirectStarts, Extends, SizeIsMissing, TailStarts};
-ghost use Rattle.c_exprs.specs.Kinds.{direct_at, is_no_tail, tail_at};
-ghost use Rattle.c_exprs.specs.Views.{role_view, scene_of};
+ghost use Rattle.c_descent.specs.Answers.{Answers, Consts, DeclaratorStarts, DirectStarts, Extends, SizeIsMissing, TailStarts};
+ghost use Rattle.c_descent.specs.Kinds.{direct_at, is_no_tail, tail_at};
+ghost use Rattle.c_descent.specs.Views.{role_view, scene_of};
 
-use crate::class::Class;
-use crate::context::Context;
-use crate::copy::name_of;
 use crate::exprs::conditional;
-use crate::fault::Fault;
-use crate::look::{Mark, comes, params_ahead, plain_word_ahead, type_name_ahead};
-use crate::token::{barred, refused, taken};
-use crate::type_kind::{DirectKind, Role, TailKind, direct_at, tail_at};
-use crate::type_node::{
-    array_declarator, empty_declarator, function_declarator, grouped_declarator, is_given,
-    one_param, open_array_declarator, param_of, pointer_declarator, push_param,
-};
 use crate::types::specs;
+use c_descent::{Class, Context, DirectKind, Fault, Mark, Role, TailKind, array_declarator, barred, comes, direct_at, empty_declarator, function_declarator, grouped_declarator, is_given, name_of, one_param, open_array_declarator, param_of, params_ahead, plain_word_ahead, pointer_declarator, push_param, refused, tail_at, taken, type_name_ahead};
 use c_syntax::{Construct, Declarator, Keyword, Param, Placed, Pos, Punctuator};
 
 /// A declarator, or an abstract one.

@@ -6,32 +6,15 @@ ghost use Rattle.c_grammar.specs.Ahead.{is_close, is_open, type_ahead};
 ghost use Rattle.c_grammar.specs.Made.{is_word};
 ghost use Rattle.c_grammar.specs.ExprRules.{operand};
 ghost use Rattle.c_grammar.specs.Parts as part;
-ghost use Rattle.c_exprs.specs.Answers.{Answers, CallComes, Steps, SuffixComes};
+ghost use Rattle.c_descent.specs.Answers.{Answers, CallComes, Steps, SuffixComes};
 ghost use Rattle.c_grammar.specs.Descent.{Goes};
 ghost use Rattle.c_grammar.specs.Refused.{first_is};
-ghost use Rattle.c_exprs.specs.Kinds.{assign_at, is_no_suffix, prefix_at, primary_at, suffix_at};
-ghost use Rattle.c_exprs.specs.Views.{level_view, scene_of};
+ghost use Rattle.c_descent.specs.Kinds.{assign_at, is_no_suffix, prefix_at, primary_at, suffix_at};
+ghost use Rattle.c_descent.specs.Views.{level_view, scene_of};
 
-use crate::class::Class;
-use crate::context::Context;
-use crate::copy::name_of;
 use crate::declarators::declarator;
-use crate::expr_node::{
-    arrow_expr, assign_expr, cast_expr, compound_expr, cond_expr, dot_expr, enclosed_expr,
-    index_expr, is_word, joined, one_expr, post_step_expr, pre_step_expr, push_expr, sizeof_expr,
-    sizeof_type, unary_expr,
-};
-use crate::fault::Fault;
-use crate::kind::{
-    AssignKind, PrefixKind, PrimaryKind, SuffixKind, assign_at, assign_sign, prefix_at, primary_at,
-    step_sign, suffix_at, unary_sign,
-};
-use crate::leaf::{character, number, strings, word};
-use crate::level::{Level, joint_at, joint_sign};
-use crate::look::{Mark, comes, type_ahead};
-use crate::token::{barred, barred_call, refused, taken};
-use crate::type_kind::Role;
 use crate::types::specs;
+use c_descent::{AssignKind, Class, Context, Fault, Level, Mark, PrefixKind, PrimaryKind, Role, SuffixKind, arrow_expr, assign_at, assign_expr, assign_sign, barred, barred_call, cast_expr, character, comes, compound_expr, cond_expr, dot_expr, enclosed_expr, index_expr, is_word, joined, joint_at, joint_sign, name_of, number, one_expr, post_step_expr, pre_step_expr, prefix_at, primary_at, push_expr, refused, sizeof_expr, sizeof_type, step_sign, strings, suffix_at, taken, type_ahead, unary_expr, unary_sign, word};
 use c_syntax::{
     AssignOp, Construct, Expr, Exprs, Keyword, Placed, Pos, Punctuator, StepWay, UnaryOp,
 };

@@ -6,24 +6,13 @@ ghost use Rattle.c_grammar.specs.Choice.{is_right_brace, is_semicolon};
 ghost use Rattle.c_grammar.specs.Made.{has_type, is_type};
 ghost use Rattle.c_grammar.specs.Parts as part;
 ghost use Rattle.c_grammar.specs.Refused.{first_is, is_type_name};
-ghost use Rattle.c_exprs.specs.Answers.{Answers};
-ghost use Rattle.c_exprs.specs.Kinds.{spec_at, tag_at};
-ghost use Rattle.c_exprs.specs.Views.{scene_of};
+ghost use Rattle.c_descent.specs.Answers.{Answers};
+ghost use Rattle.c_descent.specs.Kinds.{spec_at, tag_at};
+ghost use Rattle.c_descent.specs.Views.{scene_of};
 
-use crate::class::Class;
-use crate::context::Context;
-use crate::copy::name_of;
 use crate::declarators::declarator;
 use crate::exprs::conditional;
-use crate::fault::Fault;
-use crate::leaf::{basic, constant, storage, typedef_name};
-use crate::look::{Mark, comes, spec_ahead, type_name_ahead};
-use crate::token::{barred, refused, taken};
-use crate::type_kind::{Role, SpecKind, TagKind, spec_at, tag_at};
-use crate::type_node::{
-    is_type, one_declarator, one_enumerator, one_member, one_spec, push_declarator,
-    push_enumerator, push_member, push_spec, specs_pos, valued_enumerator,
-};
+use c_descent::{Class, Context, Fault, Mark, Role, SpecKind, TagKind, barred, basic, comes, constant, is_type, name_of, one_declarator, one_enumerator, one_member, one_spec, push_declarator, push_enumerator, push_member, push_spec, refused, spec_ahead, spec_at, specs_pos, storage, tag_at, taken, type_name_ahead, typedef_name, valued_enumerator};
 use c_syntax::{
     Construct, Declarator, Declarators, Enumerator, Enumerators, Keyword, MemberDecl, MemberDecls,
     Name, Placed, Pos, Punctuator, Spec, Specs, Tag,

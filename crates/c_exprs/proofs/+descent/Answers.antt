@@ -8,13 +8,13 @@ use Rattle.c_grammar.specs.Grammar.{expr_rule, type_rule}
 use Rattle.c_grammar.specs.ExprRules as rule
 use Rattle.c_grammar.specs.TypeRules as kind
 use Rattle.c_grammar.specs.Descent.{goes_on, stops, is_done, is_barred, no_rule, passes, fails}
-use Rattle.c_exprs.specs.Views.{scene_of, level_view}
-use Rattle.c_exprs.specs.Answers.{given, halted, stepped}
-use Rattle.c_exprs.proofs.Steps.{halts, failed, starved, stalls, starves, answer, halt, take, refuse, step, stall, stopped, by, here, stops_here, done, if_true, if_false, borne, unborne, sign_is}
-use Rattle.c_exprs.proofs.Choices.{primary_is, prefix_is, suffix_is, assign_is, more_is}
+use Rattle.c_descent.specs.Views.{scene_of, level_view}
+use Rattle.c_descent.specs.Answers.{given, halted, stepped}
+use Rattle.c_descent.proofs.Steps.{halts, failed, starved, stalls, starves, answer, halt, take, refuse, step, stall, stopped, by, here, stops_here, done, if_true, if_false, borne, unborne, sign_is}
+use Rattle.c_descent.proofs.Choices.{primary_is, prefix_is, suffix_is, assign_is, more_is}
 use Rattle.c_exprs.proofs.ExprSteps.{operand_at, not_question, is_question_ahead, suffix_free, tail_expr, suffixes_at, joint_step, joint_stop, argument_step, arguments_at, and_left, nothing_of, call_by, no_other, no_joint}
 use Rattle.c_grammar.specs.Made.{function_of}
-use Rattle.c_exprs.proofs.TypeSteps.{spec_is, structure_is, enumeration_is, specs_at, members_at, declarators_at, enumerators_at, structure_tagged_at, enumeration_tagged_at, value_at, again_is, spec_step, member_step, declarator_step, next_step, enumerator_step, carried, one_type, more_type}
+use Rattle.c_descent.proofs.TypeSteps.{spec_is, structure_is, enumeration_is, specs_at, members_at, declarators_at, enumerators_at, structure_tagged_at, enumeration_tagged_at, value_at, again_is, spec_step, member_step, declarator_step, next_step, enumerator_step, carried, one_type, more_type}
 use Rattle.c_exprs.proofs.DeclaratorSteps.{direct_is, tail_is, no_tail, tails_at, tails_named, tails_absent, parameters_at, tail_declarator, parameter_step, both_true, first_false}
 use Rattle.c_exprs.proofs.+descent.Goals as goal
 

@@ -2,7 +2,7 @@ use Rattle.std.proofs.Common.{◌+◌, ◌*◌, ◌≤◌, length, ◌≡◌}
 use Rattle.c_syntax.specs.Written.{ExprTree, ExprTrees, expr_tree, exprs_from, DeclaratorTree, EnumeratorTrees, MemberDeclTree, MemberDeclTrees, SpecTrees, declarator_tree, declarators_from, enumerators_from, memberdecls_from, params_from, specs_from, specs_tree}
 use Rattle.c_grammar.specs.Parts as part
 use Rattle.c_grammar.specs.Descent.{Outcome, Goes}
-use Rattle.c_exprs.specs.Views.{scene_of, level_view, role_view}
+use Rattle.c_descent.specs.Views.{scene_of, level_view, role_view}
 use Rattle.c_exprs.proofs.Ranks.{rank}
 use Rattle.c_grammar.specs.Made.{has_type}
 use Rattle.c_exprs.proofs.+descent.Given as goal

@@ -1,8 +1,8 @@
 use Rattle.std.proofs.Common.{refl, sym, arith}
 use Rattle.c_grammar.specs.Grammar.{type_rule}
 use Rattle.c_grammar.specs.TypeRules as kind
-use Rattle.c_exprs.specs.Answers.{stepped}
-use Rattle.c_exprs.proofs.Steps.{halts, stalls, refuse, by, if_true}
+use Rattle.c_descent.specs.Answers.{stepped}
+use Rattle.c_descent.proofs.Steps.{halts, stalls, refuse, by, if_true}
 use Rattle.c_exprs.proofs.DeclaratorSteps.{const_step}
 use Rattle.c_exprs.proofs.declarators.consts.Goals as goal
 

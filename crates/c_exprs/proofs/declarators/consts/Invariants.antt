@@ -2,7 +2,7 @@ use Rattle.std.proofs.Common.{◌≤◌, false, length}
 use Rattle.c_syntax.specs.Written.{DeclaratorTree}
 use Rattle.c_grammar.specs.Parts as part
 use Rattle.c_grammar.specs.Descent.{Outcome, Goes}
-use Rattle.c_exprs.specs.Views.{role_view, scene_of}
+use Rattle.c_descent.specs.Views.{role_view, scene_of}
 use Rattle.c_exprs.proofs.declarators.consts.Given as goal
 
 -- what is left decides for all of it

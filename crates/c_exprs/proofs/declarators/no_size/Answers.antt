@@ -1,7 +1,7 @@
 use Rattle.c_grammar.specs.Grammar.{type_rule}
 use Rattle.c_grammar.specs.TypeRules as kind
-use Rattle.c_exprs.specs.Answers.{given}
-use Rattle.c_exprs.proofs.Steps.{halts, failed, starved, refuse, take, by, done, if_true, unborne}
+use Rattle.c_descent.specs.Answers.{given}
+use Rattle.c_descent.proofs.Steps.{halts, failed, starved, refuse, take, by, done, if_true, unborne}
 use Rattle.c_exprs.proofs.DeclaratorSteps.{second_false}
 use Rattle.c_exprs.proofs.declarators.no_size.Goals as goal
 

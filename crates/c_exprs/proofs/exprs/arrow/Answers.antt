@@ -3,10 +3,10 @@ use Rattle.c_syntax.specs.Written as trees
 use Rattle.c_syntax.specs.Written.{expr_tree}
 use Rattle.c_grammar.specs.Grammar.{expr_rule}
 use Rattle.c_grammar.specs.ExprRules as rule
-use Rattle.c_exprs.specs.Views.{scene_of}
-use Rattle.c_exprs.specs.Answers.{stepped}
-use Rattle.c_exprs.proofs.Steps.{stalls, starves, halts, refuse, take, by}
-use Rattle.c_exprs.proofs.Choices.{suffix_is}
+use Rattle.c_descent.specs.Views.{scene_of}
+use Rattle.c_descent.specs.Answers.{stepped}
+use Rattle.c_descent.proofs.Steps.{stalls, starves, halts, refuse, take, by}
+use Rattle.c_descent.proofs.Choices.{suffix_is}
 use Rattle.c_exprs.proofs.ExprSteps.{suffix_free, suffixes_at, tail_expr}
 use Rattle.c_exprs.proofs.exprs.arrow.Goals as goal
 

@@ -1,8 +1,8 @@
 use Rattle.std.proofs.Common.{refl}
 use Rattle.c_grammar.specs.Grammar.{expr_rule}
 use Rattle.c_grammar.specs.ExprRules as rule
-use Rattle.c_exprs.specs.Answers.{given}
-use Rattle.c_exprs.proofs.Steps.{failed, halts, refuse, take, by, done, if_true}
+use Rattle.c_descent.specs.Answers.{given}
+use Rattle.c_descent.proofs.Steps.{failed, halts, refuse, take, by, done, if_true}
 use Rattle.c_exprs.proofs.exprs.no_arguments.Goals as goal
 
 pub returns-in_err-_close-clause-goes : goal.returns-in_err-_close-clause-goes

@@ -1,8 +1,8 @@
 use Rattle.std.proofs.Common.{refl}
 use Rattle.c_grammar.specs.Grammar.{type_rule}
 use Rattle.c_grammar.specs.TypeRules as kind
-use Rattle.c_exprs.specs.Answers.{given}
-use Rattle.c_exprs.proofs.Steps.{halts, failed, refuse, take, by, done, if_true}
+use Rattle.c_descent.specs.Answers.{given}
+use Rattle.c_descent.proofs.Steps.{halts, failed, refuse, take, by, done, if_true}
 use Rattle.c_exprs.proofs.types.comma_end.Goals as goal
 
 pub returns-in_err-_close-clause-goes : goal.returns-in_err-_close-clause-goes

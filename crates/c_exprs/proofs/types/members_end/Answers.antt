@@ -1,8 +1,8 @@
 use Rattle.c_grammar.specs.Grammar.{type_rule}
 use Rattle.c_grammar.specs.TypeRules as kind
-use Rattle.c_exprs.specs.Answers.{given}
-use Rattle.c_exprs.proofs.Steps.{halts, failed, refuse, take, by, done, if_true, unborne}
-use Rattle.c_exprs.proofs.TypeSteps.{no_colon, members_are}
+use Rattle.c_descent.specs.Answers.{given}
+use Rattle.c_descent.proofs.Steps.{halts, failed, refuse, take, by, done, if_true, unborne}
+use Rattle.c_descent.proofs.TypeSteps.{no_colon, members_are}
 use Rattle.c_exprs.proofs.types.members_end.Goals as goal
 
 pub returns-in_err-_end-clause-goes : goal.returns-in_err-_end-clause-goes

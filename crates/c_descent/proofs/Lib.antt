@@ -1,0 +1,6 @@
+pub mod NodeSteps
+pub mod Steps
+pub mod Bars
+pub mod Choices
+pub mod TypeSteps
+pub mod TextSteps

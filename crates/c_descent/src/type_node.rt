@@ -1,0 +1,337 @@
+// Nodes of types and declarators.
+
+ghost use Rattle.std.specs.Prelude.{◌≡◌, IfOk, option_map};
+ghost use Rattle.c_syntax.specs.Written.{declarator_tree, declarators_from, declarators_then, enumerator_tree, enumerators_from, enumerators_then, expr_tree, memberdecl_tree, memberdecls_from, memberdecls_then, more_declarators, more_enumerators, more_members, more_params, more_specs, no_declarators, no_enumerators, no_members, no_params, no_specs, param_tree, params_from, params_then, spec_tree, specs_from, specs_then, specs_tree, Array, Grouped, OpenArray, Pointer, Valued, Function, Members};
+ghost use Rattle.c_grammar.specs.Made.{declared_word, function_of, is_bare_void, is_given, is_type, param_of, specs_pos};
+ghost use Rattle.c_descent.specs.Kinds.{is_void_alone, is_void_spec, is_void_word};
+
+use c_syntax::{
+    Declarator, Enumerator, Expr, MemberDecl, Name, Param, Params, Pos, Spec, Specs, TypeWord,
+};
+use std::alloc::{AllocError, Global};
+
+pub fn grouped_declarator(
+    alloc: Global,
+    pos: Pos,
+    inner: Declarator,
+) -> Result<Declarator, AllocError>
+    ensures { IfOk result (λ d. declarator_tree d ≡ Grouped pos (declarator_tree inner)) }
+{
+    Ok(Declarator::Grouped {
+        pos,
+        inner: Box::new(alloc, inner)?,
+    })
+}
+
+pub fn pointer_declarator(
+    alloc: Global,
+    pos: Pos,
+    is_const: bool,
+    inner: Declarator,
+) -> Result<Declarator, AllocError>
+    ensures { IfOk result (λ d. declarator_tree d ≡ Pointer pos is_const (declarator_tree inner)) }
+{
+    Ok(Declarator::Pointer {
+        pos,
+        is_const,
+        inner: Box::new(alloc, inner)?,
+    })
+}
+
+pub fn array_declarator(
+    alloc: Global,
+    pos: Pos,
+    inner: Declarator,
+    size: Expr,
+) -> Result<Declarator, AllocError>
+    ensures { IfOk result (λ d. declarator_tree d ≡ Array pos (declarator_tree inner) (expr_tree size)) }
+{
+    Ok(Declarator::Array {
+        pos,
+        inner: Box::new(alloc, inner)?,
+        size: Box::new(alloc, size)?,
+    })
+}
+
+pub fn open_array_declarator(
+    alloc: Global,
+    pos: Pos,
+    inner: Declarator,
+) -> Result<Declarator, AllocError>
+    ensures { IfOk result (λ d. declarator_tree d ≡ OpenArray pos (declarator_tree inner)) }
+{
+    Ok(Declarator::OpenArray {
+        pos,
+        inner: Box::new(alloc, inner)?,
+    })
+}
+
+/// These parameters behind a declarator.
+pub fn function_declarator(
+    alloc: Global,
+    pos: Pos,
+    inner: Declarator,
+    params: Vec<Param>,
+) -> Result<Declarator, AllocError>
+    ensures { IfOk result (λ d. declarator_tree d ≡ function_of pos (declarator_tree inner) (params_from params.items)) }
+{
+    let inner = Box::new(alloc, inner)?;
+    if is_void(params.as_slice()) {
+        return Ok(Declarator::VoidFunction { pos, inner });
+    }
+    Ok(Declarator::Function {
+        pos,
+        inner,
+        params: Params::from_vec(params),
+    })
+}
+
+// `void` alone.
+fn is_void(params: &[Param]) -> bool
+    ensures { result ≡ is_void_alone (params_from params.now) }
+{
+    match params {
+        [param] => is_bare_void(param),
+        _ => false,
+    }
+}
+
+fn is_bare_void(param: &Param) -> bool
+    ensures { result ≡ is_bare_void (param_tree param.now) }
+{
+    match param {
+        Param::Abstract {
+            specs,
+            declarator,
+            ..
+        } => {
+            if is_given(declarator) {
+                return false;
+            }
+            is_void_word(specs.as_slice())
+        }
+        Param::Named { .. } => false,
+    }
+}
+
+fn is_void_word(specs: &[Spec]) -> bool
+    ensures { result ≡ is_void_word (specs_from specs.now) }
+{
+    match specs {
+        [spec] => is_void_spec(spec),
+        _ => false,
+    }
+}
+
+fn is_void_spec(spec: &Spec) -> bool
+    ensures { result ≡ is_void_spec (spec_tree spec.now) }
+{
+    match spec {
+        Spec::Basic { word, .. } => matches!(word, TypeWord::Void),
+        Spec::Storage { .. }
+        | Spec::Const { .. }
+        | Spec::TypedefName { .. }
+        | Spec::Struct { .. }
+        | Spec::StructBody { .. }
+        | Spec::Enum { .. }
+        | Spec::EnumBody { .. } => false,
+    }
+}
+
+/// No parameters behind a declarator.
+pub fn empty_declarator(
+    alloc: Global,
+    pos: Pos,
+    inner: Declarator,
+) -> Result<Declarator, AllocError>
+    ensures { IfOk result (λ d. declarator_tree d ≡ Function pos (declarator_tree inner) no_params) }
+{
+    Ok(Declarator::Function {
+        pos,
+        inner: Box::new(alloc, inner)?,
+        params: Params::new(alloc),
+    })
+}
+
+/// A constant of an enumeration with its value.
+pub fn valued_enumerator(
+    alloc: Global,
+    pos: Pos,
+    name: Name,
+    value: Expr,
+) -> Result<Enumerator, AllocError>
+    ensures { IfOk result (λ e. enumerator_tree e ≡ Valued pos name (expr_tree value)) }
+{
+    Ok(Enumerator::Valued {
+        pos,
+        name,
+        value: Box::new(alloc, value)?,
+    })
+}
+
+/// Whether the declarator has a token.
+pub fn is_given(declarator: &Declarator) -> bool
+    ensures { result ≡ is_given (declarator_tree declarator.now) }
+{
+    match declarator {
+        Declarator::Absent => false,
+        Declarator::Name { .. }
+        | Declarator::Grouped { .. }
+        | Declarator::Pointer { .. }
+        | Declarator::Array { .. }
+        | Declarator::OpenArray { .. }
+        | Declarator::Function { .. }
+        | Declarator::VoidFunction { .. } => true,
+    }
+}
+
+/// Whether the spec tells a type.
+pub fn is_type(spec: &Spec) -> bool
+    ensures { result ≡ is_type (spec_tree spec.now) }
+{
+    match spec {
+        Spec::Storage { .. } | Spec::Const { .. } => false,
+        Spec::Basic { .. }
+        | Spec::TypedefName { .. }
+        | Spec::Struct { .. }
+        | Spec::StructBody { .. }
+        | Spec::Enum { .. }
+        | Spec::EnumBody { .. } => true,
+    }
+}
+
+/// The place of the first spec.
+pub fn specs_pos(specs: &Specs) -> Pos
+    ensures { result ≡ specs_pos (specs_tree specs.now) }
+{
+    match specs.as_slice() {
+        [first, ..] => first.pos(),
+        [] => Pos {
+            file: 0,
+            line: 0,
+            col: 0,
+        },
+    }
+}
+
+/// The word that a declarator declares.
+#[tactic(auto, using(c_syntax::proofs::Trees::the_trees), unfolding(c_grammar::specs::Made::declared_word))]
+pub fn declared_word(declarator: &Declarator) -> Option<&Name>
+    ensures { option_map (λ n. n.now) result ≡ declared_word (declarator_tree declarator.now) }
+{
+    match declarator {
+        Declarator::Absent => None,
+        Declarator::Name { name, .. } => Some(name),
+        Declarator::Grouped { inner, .. }
+        | Declarator::Pointer { inner, .. }
+        | Declarator::Array { inner, .. }
+        | Declarator::OpenArray { inner, .. }
+        | Declarator::Function { inner, .. }
+        | Declarator::VoidFunction { inner, .. } => declared_word(inner),
+    }
+}
+
+/// A parameter, named or not.
+pub fn param_of(specs: Specs, declarator: Declarator) -> Param
+    ensures { param_tree result ≡ param_of (specs_tree specs) (declarator_tree declarator) }
+{
+    let pos = specs_pos(&specs);
+    if declared_word(&declarator).is_some() {
+        Param::Named {
+            pos,
+            specs,
+            declarator,
+        }
+    } else {
+        Param::Abstract {
+            pos,
+            specs,
+            declarator,
+        }
+    }
+}
+
+/// The list of this one.
+pub fn one_spec(alloc: Global, first: Spec) -> Result<Vec<Spec>, AllocError>
+    ensures { IfOk result (λ v. specs_from v.items ≡ more_specs (spec_tree first) no_specs) }
+{
+    let mut items = Vec::new(alloc);
+    items.push(first)?;
+    Ok(items)
+}
+
+/// One more at the end.
+pub fn push_spec(items: &mut Vec<Spec>, next: Spec) -> Result<(), AllocError>
+    ensures { IfOk result (λ _. specs_from items.new.items ≡ specs_then (specs_from items.old.items) (spec_tree next)) }
+{
+    items.push(next)?;
+    Ok(())
+}
+
+/// The list of this one.
+pub fn one_member(alloc: Global, first: MemberDecl) -> Result<Vec<MemberDecl>, AllocError>
+    ensures { IfOk result (λ v. memberdecls_from v.items ≡ more_members (memberdecl_tree first) no_members) }
+{
+    let mut items = Vec::new(alloc);
+    items.push(first)?;
+    Ok(items)
+}
+
+/// One more at the end.
+pub fn push_member(items: &mut Vec<MemberDecl>, next: MemberDecl) -> Result<(), AllocError>
+    ensures { IfOk result (λ _. memberdecls_from items.new.items ≡ memberdecls_then (memberdecls_from items.old.items) (memberdecl_tree next)) }
+{
+    items.push(next)?;
+    Ok(())
+}
+
+/// The list of this one.
+pub fn one_enumerator(alloc: Global, first: Enumerator) -> Result<Vec<Enumerator>, AllocError>
+    ensures { IfOk result (λ v. enumerators_from v.items ≡ more_enumerators (enumerator_tree first) no_enumerators) }
+{
+    let mut items = Vec::new(alloc);
+    items.push(first)?;
+    Ok(items)
+}
+
+/// One more at the end.
+pub fn push_enumerator(items: &mut Vec<Enumerator>, next: Enumerator) -> Result<(), AllocError>
+    ensures { IfOk result (λ _. enumerators_from items.new.items ≡ enumerators_then (enumerators_from items.old.items) (enumerator_tree next)) }
+{
+    items.push(next)?;
+    Ok(())
+}
+
+/// The list of this one.
+pub fn one_declarator(alloc: Global, first: Declarator) -> Result<Vec<Declarator>, AllocError>
+    ensures { IfOk result (λ v. declarators_from v.items ≡ more_declarators (declarator_tree first) no_declarators) }
+{
+    let mut items = Vec::new(alloc);
+    items.push(first)?;
+    Ok(items)
+}
+
+/// One more at the end.
+pub fn push_declarator(items: &mut Vec<Declarator>, next: Declarator) -> Result<(), AllocError>
+    ensures { IfOk result (λ _. declarators_from items.new.items ≡ declarators_then (declarators_from items.old.items) (declarator_tree next)) }
+{
+    items.push(next)?;
+    Ok(())
+}
+
+/// The list of this one.
+pub fn one_param(alloc: Global, first: Param) -> Result<Vec<Param>, AllocError>
+    ensures { IfOk result (λ v. params_from v.items ≡ more_params (param_tree first) no_params) }
+{
+    let mut items = Vec::new(alloc);
+    items.push(first)?;
+    Ok(items)
+}
+
+/// One more at the end.
+pub fn push_param(items: &mut Vec<Param>, next: Param) -> Result<(), AllocError>
+    ensures { IfOk result (λ _. params_from items.new.items ≡ params_then (params_from items.old.items) (param_tree next)) }
+{
+    items.push(next)?;
+    Ok(())
+}

@@ -1,0 +1,11 @@
+//! The tokens of a C file into a tree, or the first of them that is refused.
+#![tactic(auto, using(c_syntax::proofs::Trees::the_trees))]
+
+mod outer;
+mod parsing;
+#[cfg(test)]
+mod shape;
+#[cfg(test)]
+mod tests;
+
+pub use parsing::{ParseError, parse};

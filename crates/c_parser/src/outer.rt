@@ -1,0 +1,149 @@
+// The declarations of a file.
+
+ghost use Rattle.std.specs.Prelude.{◌≡◌, ℕ, ◌+◌, ◌<◌, ◌≤◌, ◌++◌, true, List, length, map, IfOk};
+ghost use Rattle.c_syntax.specs.Written.{declarator_tree, spec_tree, specs_from, specs_tree};
+ghost use Rattle.c_syntax.specs.WrittenDecl.{initdeclarator_tree};
+ghost use Rattle.c_syntax.specs.WrittenFile.{outer_tree};
+ghost use Rattle.c_grammar.specs.Made.{declared_words, has_typedef, is_typedef, new_types};
+ghost use Rattle.c_grammar.specs.Parts as part;
+ghost use Rattle.c_grammar.specs.Refused.{first_is, is_brace};
+ghost use Rattle.c_descent.specs.Answers.{Answers};
+ghost use Rattle.c_descent.specs.Views.{scene_of};
+
+use c_descent::{Class, Context, Fault, Mark, Role, comes, declared_word, specs_pos, taken};
+use c_exprs::{declarator, specs};
+use c_stmts::{block_items, initial, no_declarators};
+use c_syntax::{
+    Declarator, InitDeclarator, Name, Outer, Placed, Punctuator, Spec, Specs, StorageWord,
+};
+use std::alloc::{AllocError, Global};
+
+/// A declaration of a file, or a function with its body.
+pub fn outer<'a>(
+    context: &Context<'_>,
+    count: u32,
+    tokens: &'a [Placed],
+) -> Result<(Outer, &'a [Placed]), Fault<'a>>
+    ensures goes { Answers count (scene_of context.now) (part.AnOuter part.Outer) tokens.now (λ o. outer_tree o) result }
+    ensures shorter { IfOk result (λ x. length x.1.now < length tokens.now) }
+{
+    let (words, rest) = specs(context, count, tokens)?;
+    let (whole, rest) = outer_declared(context, count, words, rest)?;
+    Ok((whole, rest))
+}
+
+/// What follows its specs.
+fn outer_declared<'a>(
+    context: &Context<'_>,
+    count: u32,
+    specs: Specs,
+    tokens: &'a [Placed],
+) -> Result<(Outer, &'a [Placed]), Fault<'a>>
+    ensures goes { Answers count (scene_of context.now) (part.AnOuter (part.OuterDeclared (specs_tree specs))) tokens.now (λ o. outer_tree o) result }
+    ensures shorter { IfOk result (λ x. length x.1.now < length tokens.now) }
+{
+    if comes(Mark::Semicolon, tokens) {
+        let semicolon = Class::Sign(Punctuator::Semicolon);
+        let (_end, rest) = taken(context, count, 0, semicolon, tokens)?;
+        let decl = no_declarators(context.alloc, specs);
+        return Ok((Outer::Declared(decl), rest));
+    }
+    let (first, rest) = declarator(context, Role::Naming, count, tokens)?;
+    let (whole, rest) = outer_initial(context, count, specs, first, rest)?;
+    Ok((whole, rest))
+}
+
+/// What follows its first declarator.
+fn outer_initial<'a>(
+    context: &Context<'_>,
+    count: u32,
+    specs: Specs,
+    first: Declarator,
+    tokens: &'a [Placed],
+) -> Result<(Outer, &'a [Placed]), Fault<'a>>
+    ensures goes { Answers count (scene_of context.now) (part.AnOuter (part.OuterInitial (specs_tree specs) (declarator_tree first))) tokens.now (λ o. outer_tree o) result }
+    ensures shorter { IfOk result (λ x. length x.1.now < length tokens.now) }
+{
+    if comes(Mark::Brace, tokens) {
+        return function(context, count, specs, first, tokens);
+    }
+    let (decl, rest) = initial(context, count, specs, first, tokens)?;
+    Ok((Outer::Declared(decl), rest))
+}
+
+/// The body of a function.
+fn function<'a>(
+    context: &Context<'_>,
+    count: u32,
+    specs: Specs,
+    declarator: Declarator,
+    tokens: &'a [Placed],
+) -> Result<(Outer, &'a [Placed]), Fault<'a>>
+    requires { first_is is_brace tokens.now ≡ true }
+    ensures goes { Answers count (scene_of context.now) (part.AnOuter (part.OuterInitial (specs_tree specs) (declarator_tree declarator))) tokens.now (λ o. outer_tree o) result }
+    ensures shorter { IfOk result (λ x. length x.1.now < length tokens.now) }
+{
+    let brace = Class::Sign(Punctuator::LeftBrace);
+    let (opening, behind) = taken(context, count, 1, brace, tokens)?;
+    let (body, rest) = block_items(context, false, count + 1, behind)?;
+    Ok((
+        Outer::Function {
+            pos: specs_pos(&specs),
+            specs,
+            declarator,
+            brace: opening.pos,
+            body,
+        },
+        rest,
+    ))
+}
+
+/// The typedef names that a declaration of the file adds, put behind those that there are.
+pub fn push_types(alloc: Global, types: &mut Vec<Name>, outer: &Outer) -> Result<(), AllocError>
+    ensures { IfOk result (λ _. types.new.items ≡ types.old.items ++ new_types (outer_tree outer.now)) }
+{
+    match outer {
+        Outer::Declared(decl) => {
+            if !has_typedef(decl.specs.as_slice()) {
+                return Ok(());
+            }
+            push_words(alloc, types, decl.inits.as_slice())
+        }
+        Outer::Function { .. } => Ok(()),
+    }
+}
+
+fn has_typedef(specs: &[Spec]) -> bool
+    ensures { result ≡ has_typedef (specs_from specs.now) }
+{
+    for spec in specs {
+        if is_typedef(spec) {
+            return true;
+        }
+    }
+    false
+}
+
+fn is_typedef(spec: &Spec) -> bool
+    ensures { result ≡ is_typedef (spec_tree spec.now) }
+{
+    match spec {
+        Spec::Storage { word, .. } => matches!(word, StorageWord::Typedef),
+        _ => false,
+    }
+}
+
+fn push_words(
+    alloc: Global,
+    types: &mut Vec<Name>,
+    inits: &[InitDeclarator],
+) -> Result<(), AllocError>
+    ensures { IfOk result (λ _. types.new.items ≡ types.old.items ++ declared_words (map initdeclarator_tree inits.now)) }
+{
+    for item in inits {
+        if let Some(name) = declared_word(&item.declarator) {
+            types.push(Name::from_vec(name.as_slice().to_vec(alloc)?))?;
+        }
+    }
+    Ok(())
+}

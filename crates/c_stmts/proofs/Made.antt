@@ -1,0 +1,23 @@
+-- Trees of declarations that the code makes.
+use Rattle.std.proofs.Common.{◌≡◌, ap, ◌∙◌}
+use Rattle.c_syntax.specs.declared.place.Pos.{Pos}
+use Rattle.c_syntax.specs.declared.written.Specs.{Specs}
+use Rattle.c_syntax.specs.declared.written.Declarator.{Declarator}
+use Rattle.c_syntax.specs.declared.file.BlockItems.{BlockItems}
+use Rattle.c_syntax.specs.declared.file.Outer.TheVariants as outers
+use Rattle.std.specs.Prelude.{List}
+use Rattle.c_syntax.specs.Written.{SpecTrees, specs_tree, declarator_tree}
+use Rattle.c_syntax.specs.WrittenDecl.{DeclTree, InitDeclaratorTree}
+use Rattle.c_syntax.specs.WrittenFile.{blockitems_tree, outer_tree}
+use Rattle.c_syntax.specs.WrittenFile as trees
+use Rattle.c_syntax.proofs.WrittenFileTrees.{outer_function}
+use Rattle.c_grammar.specs.Made.{specs_pos}
+
+abbrev decl_of : Pos → SpecTrees → List InitDeclaratorTree → DeclTree
+decl_of p s i = record { pos = p; specs = s; inits = i }
+
+pub same_decl : {p q : Pos} {s : SpecTrees} {i j : List InitDeclaratorTree} → p ≡ q → i ≡ j → decl_of p s i ≡ decl_of q s j
+same_decl {p} {q} {s} {i} {j} e f = ap (λ (v : Pos). decl_of v s i) e ∙ ap (λ (v : List InitDeclaratorTree). decl_of q s v) f
+
+pub function_made : (at : Pos) (specs : Specs) (declarator : Declarator) (brace : Pos) (body : BlockItems) → at ≡ specs_pos (specs_tree specs) → outer_tree (outers.Function at specs declarator brace body) ≡ trees.Function (specs_pos (specs_tree specs)) (specs_tree specs) (declarator_tree declarator) brace (blockitems_tree body)
+function_made at specs declarator brace body e = outer_function at specs declarator brace body ∙ ap (λ (v : Pos). trees.Function v (specs_tree specs) (declarator_tree declarator) brace (blockitems_tree body)) e

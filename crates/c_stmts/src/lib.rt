@@ -1,0 +1,12 @@
+//! The descent through declarations and statements.
+#![tactic(auto, using(c_syntax::proofs::Trees::the_trees))]
+
+mod decl;
+mod init;
+mod stmt;
+mod stmt_kind;
+mod stmt_leaf;
+mod stmt_node;
+
+pub use decl::{initial, no_declarators};
+pub use stmt::block_items;
