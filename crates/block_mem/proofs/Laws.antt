@@ -9,8 +9,8 @@ use Rattle.std.proofs.lemmas.Nat.{mod-pow-add, shr-shr}
 use Rattle.std.proofs.lemmas.List.{get_or-take, get_or-drop, length-take-le, ext_get_or}
 use Rattle.std.proofs.lemmas.Bool.Decides.{Decides-int_eq}
 use mir.Val.{bits}
-use Rattle.c_syntax.specs.declared.types.IntType.{IntType}
-use Rattle.c_syntax.specs.declared.types.IntType.TheVariants.{Char, SChar, UChar, Short, UShort, Int, UInt, Long, ULong, LLong, ULLong}
+use Rattle.c_written.specs.declared.int_type.IntType.{IntType}
+use Rattle.c_written.specs.declared.int_type.IntType.TheVariants.{Char, SChar, UChar, Short, UShort, Int, UInt, Long, ULong, LLong, ULLong}
 use Rattle.block_mem.specs.declared.types.Byte.{Byte}
 use Rattle.block_mem.specs.declared.types.Byte.TheVariants.{Undef, Num, Frag}
 use Rattle.block_mem.specs.declared.types.Pointer.{Pointer}
@@ -18,7 +18,8 @@ use Rattle.block_mem.specs.declared.types.Value.{Value}
 use Rattle.block_mem.specs.declared.types.Value.TheVariants as values
 use Rattle.block_mem.specs.declared.types.Scalar.{Scalar}
 use Rattle.block_mem.specs.declared.types.Scalar.TheVariants as scalars
-use Rattle.block_mem.specs.Numbers.{width_of, is_signed, Fits, bits_in, number_in, low_bytes, low_first, number_of}
+use Rattle.c_written.specs.Integer.{std_width, is_signed, HasNumber}
+use Rattle.block_mem.specs.Numbers.{bits_in, number_in, low_bytes, low_first, number_of}
 use Rattle.block_mem.specs.Pieces.{pieces, is_piece, are_pieces, by_place, is_cut, cut_byte, cut, get_bytes, put_bytes, stored}
 use Rattle.block_mem.specs.Bytes.{size_of, IsOf, bytes_of, has_undef, value_of, pointer_of}
 use Rattle.block_mem.proofs.Puts.{length-put, get-put_low, get-put_high, length-by_place, get-by_place, length-get}
@@ -82,7 +83,7 @@ length-low_bytes zero m = refl
 length-low_bytes (suc k) m = ap suc (length-low_bytes k (m / 256))
 
 -- a width has eight bits in each byte
-eight_bits : (t : IntType) → bits (width_of t) ≡ 8 * byte_len (width_of t)
+eight_bits : (t : IntType) → bits (std_width t) ≡ 8 * byte_len (std_width t)
 eight_bits Char = refl
 eight_bits SChar = refl
 eight_bits UChar = refl
@@ -101,8 +102,8 @@ signed_back true w n h = to_z-of_z w n h
 signed_back false w (pos n) h = refl
 signed_back false w (negsuc n) h = absurd (let positive = h.0 in omega (arith, ints))
 
-pub number-bits : (t : IntType) (n : ℤ) → Fits t n → number_in t (bits_in t n) ≡ n
-number-bits t n h = signed_back (is_signed t) (width_of t) n h
+pub number-bits : (t : IntType) (n : ℤ) → HasNumber t n → number_in t (bits_in t n) ≡ n
+number-bits t n h = signed_back (is_signed t) (std_width t) n h
 
 bits_below : (s : Bool) (w : Width) (n : ℤ) → MatchBool s (FitsSigned w n) (FitsUnsigned w n) → cast_unsigned w n < 2 ^ bits w
 bits_below true w n h = Fits-lt-pow (Fits-of_z h)
@@ -146,9 +147,9 @@ null_bytes = refl
 pub value-bytes : (ty : Scalar) (v : Value) → IsOf ty v → value_of ty (bytes_of v) ≡ Some v
 value-bytes (scalars.Int t) (values.Int u n) h =
     let w : u ≡ t = h.0 in
-    let small : bits_in t n < 2 ^ (8 * byte_len (width_of t)) = subst (λ k. bits_in t n < 2 ^ k) (eight_bits t) (bits_below (is_signed t) (width_of t) n h.1) in
-    ap (λ x. option_map (λ m. values.Int t (number_in t m)) (number_of (low_bytes (byte_len (width_of x)) (bits_in x n)))) w
-    ∙ ap (option_map (λ m. values.Int t (number_in t m))) (number-low_bytes (byte_len (width_of t)) (bits_in t n) ∙ ap (λ m. Some m) (mod-eq_of_lt small))
+    let small : bits_in t n < 2 ^ (8 * byte_len (std_width t)) = subst (λ k. bits_in t n < 2 ^ k) (eight_bits t) (bits_below (is_signed t) (std_width t) n h.1) in
+    ap (λ x. option_map (λ m. values.Int t (number_in t m)) (number_of (low_bytes (byte_len (std_width x)) (bits_in x n)))) w
+    ∙ ap (option_map (λ m. values.Int t (number_in t m))) (number-low_bytes (byte_len (std_width t)) (bits_in t n) ∙ ap (λ m. Some m) (mod-eq_of_lt small))
     ∙ ap (λ m. Some (values.Int t m)) (number-bits t n h.1)
     ∙ ap (λ x. Some (values.Int x n)) (sym w)
 value-bytes (scalars.Int t) (values.Ptr p) h = absurd h
@@ -158,12 +159,12 @@ value-bytes scalars.Pointer (values.Ptr p) h = pointer-pieces p
 value-bytes scalars.Pointer values.Null h = null_bytes
 
 pub defined-value : (v : Value) → has_undef (bytes_of v) ≡ false
-defined-value (values.Int t n) = defined-low_bytes (byte_len (width_of t)) (bits_in t n)
+defined-value (values.Int t n) = defined-low_bytes (byte_len (std_width t)) (bits_in t n)
 defined-value (values.Ptr p) = defined-pieces p 0 8
 defined-value values.Null = defined-low_bytes 8 0
 
 pub length-value : (ty : Scalar) (v : Value) → IsOf ty v → length (bytes_of v) ≡ size_of ty
-length-value (scalars.Int t) (values.Int u n) h = length-low_bytes (byte_len (width_of u)) (bits_in u n) ∙ ap (λ x. byte_len (width_of x)) h.0
+length-value (scalars.Int t) (values.Int u n) h = length-low_bytes (byte_len (std_width u)) (bits_in u n) ∙ ap (λ x. byte_len (std_width x)) h.0
 length-value (scalars.Int t) (values.Ptr p) h = absurd h
 length-value (scalars.Int t) values.Null h = absurd h
 length-value scalars.Pointer (values.Int u n) h = absurd h

@@ -4,7 +4,7 @@ use Rattle.std.specs.Int.{byte_len}
 use Rattle.std.specs.Option.{ok_or}
 use Rattle.std.proofs.lemmas.Bool.{leb-true}
 use Rattle.std.proofs.lemmas.List.{drop-take, take-take, drop-drop}
-use Rattle.c_syntax.specs.declared.types.IntType.{IntType}
+use Rattle.c_written.specs.declared.int_type.IntType.{IntType}
 use Rattle.c_syntax.specs.declared.alarm.WrongKind.{WrongKind}
 use Rattle.c_syntax.specs.declared.alarm.WrongKind.TheVariants.{Dangling, Access, Alignment, ReadOnly, Fragment, Indeterminate}
 use Rattle.block_mem.specs.declared.types.Byte.{Byte}
@@ -14,7 +14,8 @@ use Rattle.block_mem.specs.declared.types.Value.{Value}
 use Rattle.block_mem.specs.declared.types.Value.TheVariants as values
 use Rattle.block_mem.specs.declared.types.Scalar.{Scalar}
 use Rattle.block_mem.specs.declared.types.Scalar.TheVariants as scalars
-use Rattle.block_mem.specs.Numbers.{width_of, bits_in, number_in, low_bytes, number_of}
+use Rattle.c_written.specs.Integer.{std_width}
+use Rattle.block_mem.specs.Numbers.{bits_in, number_in, low_bytes, number_of}
 use Rattle.block_mem.specs.Pieces.{get_bytes, stored, taken, cut_byte}
 use Rattle.block_mem.specs.Bytes.{size_of, IsOf, bytes_of, has_undef, value_of}
 use Rattle.block_mem.specs.Block.{BlockView, place_of, is_inside, is_aligned, wrong_in}
@@ -85,11 +86,11 @@ get-get bs p s i k h =
     ∙ take-take k (s - i) (drop i (drop p bs)) (omega arith)
     ∙ ap (take k) (drop-drop i p bs))
 
-part_of : (m : List BlockView) (at : Pointer) (t u : IntType) (n : ℤ) (i : ℕ) → bytes_at m at (byte_len (width_of t)) ≡ low_bytes (byte_len (width_of t)) (bits_in t n) → i + byte_len (width_of u) ≤ byte_len (width_of t)
-    → loaded (scalars.Int u) (get_bytes (block_at m at.block).bytes (place at + i) (byte_len (width_of u))) ≡ Ok (values.Int u (number_in u (bits_in t n / 2 ^ (8 * i) % 2 ^ (8 * byte_len (width_of u)))))
+part_of : (m : List BlockView) (at : Pointer) (t u : IntType) (n : ℤ) (i : ℕ) → bytes_at m at (byte_len (std_width t)) ≡ low_bytes (byte_len (std_width t)) (bits_in t n) → i + byte_len (std_width u) ≤ byte_len (std_width t)
+    → loaded (scalars.Int u) (get_bytes (block_at m at.block).bytes (place at + i) (byte_len (std_width u))) ≡ Ok (values.Int u (number_in u (bits_in t n / 2 ^ (8 * i) % 2 ^ (8 * byte_len (std_width u)))))
 part_of m at t u n i whole h =
-    let s = byte_len (width_of t) in
-    let k = byte_len (width_of u) in
+    let s = byte_len (std_width t) in
+    let k = byte_len (std_width u) in
     let all = low_bytes s (bits_in t n) in
     ap (loaded (scalars.Int u)) (get-get (block_at m at.block).bytes (place at) s i k h ∙ ap (λ bs. get_bytes bs i k) whole)
     ∙ ap (λ d. cond d (Err Indeterminate) (ok_or (value_of (scalars.Int u) (get_bytes all i k)) Fragment)) (defined-part all i k (defined-low_bytes s (bits_in t n)))
@@ -99,8 +100,8 @@ part_of m at t u n i whole h =
 pub parts-store : (m : List BlockView) (at : Pointer) (ty : Scalar) (v : Value) → at.block < length m → IsOf ty v → wrong_access m at (size_of ty) (size_of ty) true ≡ None → ReadsParts (store m at v) at v
 parts-store m at (scalars.Int w) (values.Int t n) made of passes =
     λ u i h. part_of (store m at (values.Int t n)) at t u n i
-    (subst (λ s. bytes_at (store m at (values.Int t n)) at (byte_len (width_of s)) ≡ bytes_of (values.Int t n)) (sym of.0)
-    (stored_bytes m at (scalars.Int w) (values.Int t n) made of (inside_access (block_at m at.block) at.offset (byte_len (width_of w)) (byte_len (width_of w)) true passes)))
+    (subst (λ s. bytes_at (store m at (values.Int t n)) at (byte_len (std_width s)) ≡ bytes_of (values.Int t n)) (sym of.0)
+    (stored_bytes m at (scalars.Int w) (values.Int t n) made of (inside_access (block_at m at.block) at.offset (byte_len (std_width w)) (byte_len (std_width w)) true passes)))
     h
 parts-store m at scalars.Pointer (values.Int t n) made of passes = absurd of
 parts-store m at ty (values.Ptr p) made of passes = tt

@@ -1,13 +1,14 @@
 -- What holds of memory after bytes were written.
 use Rattle.std.specs.Prelude.{ℕ, ◌≡◌, ◌≢◌, ◌+◌, ◌*◌, ◌/◌, ◌%◌, ◌^◌, ◌<◌, ◌≤◌, ◌⊎◌, List, length, Ok, slice_index_or}
 use Rattle.std.specs.Int.{byte_len}
-use Rattle.c_syntax.specs.declared.types.IntType.{IntType}
+use Rattle.c_written.specs.declared.int_type.IntType.{IntType}
 use Rattle.block_mem.specs.declared.types.Byte.TheVariants.{Undef}
 use Rattle.block_mem.specs.declared.types.Pointer.{Pointer}
 use Rattle.block_mem.specs.declared.types.Value.{Value}
 use Rattle.block_mem.specs.declared.types.Value.TheVariants as values
 use Rattle.block_mem.specs.declared.types.Scalar.TheVariants as scalars
-use Rattle.block_mem.specs.Numbers.{width_of, bits_in, number_in}
+use Rattle.c_written.specs.Integer.{std_width}
+use Rattle.block_mem.specs.Numbers.{bits_in, number_in}
 use Rattle.block_mem.specs.Pieces.{get_bytes, cut_byte}
 use Rattle.block_mem.specs.Block.{BlockView}
 use Rattle.block_mem.specs.Blocks.{block_at, place, loaded}
@@ -15,8 +16,8 @@ use Rattle.block_mem.specs.Blocks.{block_at, place, loaded}
 -- every integer type that fits within a stored number reads the bits that stand there (this profile: integers may be read through any integer type by their bytes)
 abbrev pub ReadsParts : List BlockView → Pointer → Value → Type 0
 ReadsParts m at (values.Int t n) =
-    (u : IntType) (i : ℕ) → i + byte_len (width_of u) ≤ byte_len (width_of t)
-    → loaded (scalars.Int u) (get_bytes (block_at m at.block).bytes (place at + i) (byte_len (width_of u))) ≡ Ok (values.Int u (number_in u (bits_in t n / 2 ^ (8 * i) % 2 ^ (8 * byte_len (width_of u)))))
+    (u : IntType) (i : ℕ) → i + byte_len (std_width u) ≤ byte_len (std_width t)
+    → loaded (scalars.Int u) (get_bytes (block_at m at.block).bytes (place at + i) (byte_len (std_width u))) ≡ Ok (values.Int u (number_in u (bits_in t n / 2 ^ (8 * i) % 2 ^ (8 * byte_len (std_width u)))))
 ReadsParts m at (values.Ptr p) = Unit {0}
 ReadsParts m at values.Null = Unit {0}
 

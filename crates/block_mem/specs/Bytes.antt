@@ -9,17 +9,18 @@ use Rattle.block_mem.specs.declared.types.Value.{Value}
 use Rattle.block_mem.specs.declared.types.Value.TheVariants as values
 use Rattle.block_mem.specs.declared.types.Scalar.{Scalar}
 use Rattle.block_mem.specs.declared.types.Scalar.TheVariants as scalars
-use Rattle.block_mem.specs.Numbers.{width_of, Fits, bits_in, number_in, low_bytes, number_of}
+use Rattle.c_written.specs.Integer.{std_width, HasNumber}
+use Rattle.block_mem.specs.Numbers.{bits_in, number_in, low_bytes, number_of}
 use Rattle.block_mem.specs.Pieces.{pieces, are_pieces}
 
 -- a type's size in bytes, which is its alignment too (this profile)
 abbrev pub size_of : Scalar → ℕ
-size_of (scalars.Int t) = byte_len (width_of t)
+size_of (scalars.Int t) = byte_len (std_width t)
 size_of scalars.Pointer = 8
 
 -- a value is one of the type
 abbrev pub IsOf : Scalar → Value → Type 0
-IsOf (scalars.Int t) (values.Int u n) = (u ≡ t) × Fits t n
+IsOf (scalars.Int t) (values.Int u n) = (u ≡ t) × HasNumber t n
 IsOf (scalars.Int t) (values.Ptr p) = ⊥
 IsOf (scalars.Int t) values.Null = ⊥
 IsOf scalars.Pointer (values.Int u n) = ⊥
@@ -28,7 +29,7 @@ IsOf scalars.Pointer values.Null = Unit {0}
 
 -- the bytes of a value: a number from its lowest, a pointer as its pieces 0 to 7, and eight zeros for the null pointer
 abbrev pub bytes_of : Value → List Byte
-bytes_of (values.Int t n) = low_bytes (byte_len (width_of t)) (bits_in t n)
+bytes_of (values.Int t n) = low_bytes (byte_len (std_width t)) (bits_in t n)
 bytes_of (values.Ptr p) = pieces p 0 8
 bytes_of values.Null = low_bytes 8 0
 

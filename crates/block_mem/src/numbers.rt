@@ -1,14 +1,15 @@
 // Whole numbers as bytes.
 ghost use Rattle.std.specs.Prelude.{◌≡◌, ◌<◌, ◌≤◌, ◌+◌, ◌*◌, ◌^◌, pos, IsTrue, ◌↔◌, length, IfSome};
 ghost use Rattle.std.specs.Int.{byte_len};
-ghost use Rattle.block_mem.specs.Numbers.{width_of, is_signed, Fits, bits_in, number_in, low_bytes, number_of};
+ghost use Rattle.c_written.specs.Integer.{std_width, is_signed, HasNumber};
+ghost use Rattle.block_mem.specs.Numbers.{bits_in, number_in, low_bytes, number_of};
 
 use crate::types::Byte;
 use c_syntax::IntType;
 
 /// A type's size in bytes.
 pub fn size_of(ty: IntType) -> usize
-    ensures value { result ≡ byte_len (width_of ty) }
+    ensures value { result ≡ byte_len (std_width ty) }
     ensures bound { result ≤ 8 }
 {
     match ty {
@@ -21,7 +22,7 @@ pub fn size_of(ty: IntType) -> usize
 
 /// How many numbers a type has.
 fn count_of(ty: IntType) -> i128
-    ensures { result ≡ pos (256 ^ byte_len (width_of ty)) }
+    ensures { result ≡ pos (256 ^ byte_len (std_width ty)) }
 {
     match size_of(ty) {
         1 => 0x100,
@@ -48,7 +49,7 @@ fn has_sign(ty: IntType) -> bool
 
 /// The bits of a number of a type, read as a number without sign.
 pub fn bits_in(ty: IntType, number: i128) -> u64
-    requires { Fits ty number }
+    requires { HasNumber ty number }
     ensures { result ≡ bits_in ty number }
 {
     if number < 0 {
@@ -60,7 +61,7 @@ pub fn bits_in(ty: IntType, number: i128) -> u64
 
 /// The number of a type that has these bits.
 pub fn number_in(ty: IntType, bits: u64) -> i128
-    requires { bits < 256 ^ byte_len (width_of ty) }
+    requires { bits < 256 ^ byte_len (std_width ty) }
     ensures { result ≡ number_in ty bits }
 {
     let number = i128::from(bits);

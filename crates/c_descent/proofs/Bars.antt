@@ -2,9 +2,9 @@
 use Rattle.std.proofs.Common.{◌≡◌, refl, sym, subst, ap, ℕ, ◌+◌, ◌<◌, ◌≤◌, arith, nat_lt, Bool, true, false, List, [], ◌∷◌}
 use Rattle.std.proofs.lemmas.Bool.{ltb-true}
 use Rattle.std.specs.Prelude.{if◌then◌else◌}
-use Rattle.c_syntax.specs.declared.construct.Construct.{Construct}
-use Rattle.c_syntax.specs.declared.token.Placed.{Placed}
-use Rattle.c_syntax.specs.Written.{ExprTree}
+use Rattle.c_written.specs.declared.construct.Construct.{Construct}
+use Rattle.c_written.specs.declared.token.Placed.{Placed}
+use Rattle.c_written.specs.Written.{ExprTree}
 use Rattle.c_grammar.specs.Parts.{Initialiser, AnExpr, Suffixes}
 use Rattle.c_grammar.specs.Ahead.{is_open}
 use Rattle.c_grammar.specs.Refused.{Unsupported, TooDeep, is_bracket, forms_of_bracket, nesting_limit, first_is}

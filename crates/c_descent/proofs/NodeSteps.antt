@@ -1,9 +1,9 @@
 -- Specs and parameters that stand alone, and the first of specs.
 use Rattle.std.proofs.Common.{◌≡◌, ◌<◌, ◌≤◌, false, List, [], ◌∷◌, length, get_or, refl, sym, ap, arith}
-use Rattle.c_syntax.specs.declared.written.Param.{Param}
-use Rattle.c_syntax.specs.declared.written.Spec.{Spec}
-use Rattle.c_syntax.specs.Written.{spec_tree, specs_from, param_tree, params_from}
-use Rattle.c_syntax.specs.WrittenParts.{spec_pos}
+use Rattle.c_written.specs.declared.written.Param.{Param}
+use Rattle.c_written.specs.declared.written.Spec.{Spec}
+use Rattle.c_written.specs.Written.{spec_tree, specs_from, param_tree, params_from}
+use Rattle.c_written.specs.WrittenParts.{spec_pos}
 use Rattle.c_grammar.specs.Made.{is_bare_void, specs_pos}
 use Rattle.c_descent.specs.Kinds.{is_void_spec, is_void_word, is_void_alone}
 

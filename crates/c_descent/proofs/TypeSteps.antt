@@ -1,20 +1,20 @@
 -- Steps of the descent through specs, members and enumerators.
 use Rattle.std.proofs.Common.{◌≡◌, refl, sym, subst, ap, ◌∙◌, ℕ, Bool, true, false, ◌&&◌, ◌||◌, List, [], ◌∷◌, Bor}
 use Rattle.std.specs.Prelude.{Result, Ok, None}
-use Rattle.c_syntax.specs.declared.place.Pos.{Pos}
-use Rattle.c_syntax.specs.declared.token.Placed.{Placed}
-use Rattle.c_syntax.specs.declared.token.Keyword.{Keyword}
-use Rattle.c_syntax.specs.declared.token.Keyword.TheVariants as keywords
-use Rattle.c_syntax.specs.declared.token.Punctuator.TheVariants as signs
-use Rattle.c_syntax.specs.declared.token.Token.{Token}
-use Rattle.c_syntax.specs.declared.token.Token.TheVariants as kinds
-use Rattle.c_syntax.specs.declared.written.Specs.{Specs}
-use Rattle.c_syntax.specs.declared.written.Declarators.{Declarators}
-use Rattle.c_syntax.specs.declared.written.Spec.TheVariants as spec_nodes
-use Rattle.c_syntax.specs.declared.written.MemberDecl.TheVariants as lines
-use Rattle.c_syntax.proofs.WrittenTrees.{spec_typedef_name, memberdecl_members}
-use Rattle.c_syntax.specs.Written as trees
-use Rattle.c_syntax.specs.Written.{SpecTree, SpecTrees, no_specs, more_specs, specs_then, DeclaratorTree, DeclaratorTrees, declarators_then, MemberDeclTree, MemberDeclTrees, memberdecls_then, EnumeratorTree, EnumeratorTrees, enumerators_then, spec_tree, specs_tree, memberdecl_tree, declarators_tree}
+use Rattle.c_written.specs.declared.place.Pos.{Pos}
+use Rattle.c_written.specs.declared.token.Placed.{Placed}
+use Rattle.c_written.specs.declared.token.Keyword.{Keyword}
+use Rattle.c_written.specs.declared.token.Keyword.TheVariants as keywords
+use Rattle.c_written.specs.declared.token.Punctuator.TheVariants as signs
+use Rattle.c_written.specs.declared.token.Token.{Token}
+use Rattle.c_written.specs.declared.token.Token.TheVariants as kinds
+use Rattle.c_written.specs.declared.written.Specs.{Specs}
+use Rattle.c_written.specs.declared.written.Declarators.{Declarators}
+use Rattle.c_written.specs.declared.written.Spec.TheVariants as spec_nodes
+use Rattle.c_written.specs.declared.written.MemberDecl.TheVariants as lines
+use Rattle.c_written.proofs.WrittenTrees.{spec_typedef_name, memberdecl_members}
+use Rattle.c_written.specs.Written as trees
+use Rattle.c_written.specs.Written.{SpecTree, SpecTrees, no_specs, more_specs, specs_then, DeclaratorTree, DeclaratorTrees, declarators_then, MemberDeclTree, MemberDeclTrees, memberdecls_then, EnumeratorTree, EnumeratorTrees, enumerators_then, spec_tree, specs_tree, memberdecl_tree, declarators_tree}
 use Rattle.c_grammar.specs.Parts.{Scene, Spec, Structure, StructureTagged, Enumeration, EnumerationTagged, Declarator, OfMember, ASpec, ADeclarator, MoreSpecs, MoreMembers, AMember, MoreDeclarators, MoreEnumerators, NextEnumerator, AnEnumerator, EnumeratorValue}
 use Rattle.c_grammar.specs.Process.{give, part}
 use Rattle.c_grammar.specs.Classes.{sign, names_type}

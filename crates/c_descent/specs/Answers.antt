@@ -1,9 +1,9 @@
 -- What a function of the descent returned, seen as an outcome of the descent.
 use Rattle.std.specs.Prelude.{◌≡◌, ℕ, Bool, true, false, ◌&&◌, List, None, Result, Ok, Err}
 use Rattle.std.proofs.Common.{Bor}
-use Rattle.c_syntax.specs.declared.construct.Construct.{Construct}
-use Rattle.c_syntax.specs.declared.place.Pos.{Pos}
-use Rattle.c_syntax.specs.declared.token.Placed.{Placed}
+use Rattle.c_written.specs.declared.construct.Construct.{Construct}
+use Rattle.c_written.specs.declared.place.Pos.{Pos}
+use Rattle.c_written.specs.declared.token.Placed.{Placed}
 use Rattle.c_grammar.specs.Parts.{Scene, Role, Pointed, Tails, ADeclarator, Part, Value}
 use Rattle.c_grammar.specs.Classes.{Class}
 use Rattle.c_grammar.specs.Process.{Process, token}
@@ -11,7 +11,7 @@ use Rattle.c_grammar.specs.Refused.{Why, Syntax, Unsupported, TooDeep, first_is,
 use Rattle.c_grammar.specs.Ahead.{params_ahead}
 use Rattle.c_grammar.specs.Made.{is_word}
 use Rattle.c_grammar.specs.Choice.{is_star}
-use Rattle.c_syntax.specs.Written.{ExprTree, DeclaratorTree, declarator_tree}
+use Rattle.c_written.specs.Written.{ExprTree, DeclaratorTree, declarator_tree}
 use Rattle.c_grammar.specs.Descent.{Outcome, Done, Stop, Goes, Follows}
 use Rattle.c_descent.specs.declared.fault.Fault.{Fault}
 use Rattle.c_descent.specs.declared.fault.Fault.TheVariants as faults
@@ -21,7 +21,7 @@ use Rattle.c_descent.specs.declared.type_kind.DirectKind.{DirectKind}
 use Rattle.c_descent.specs.declared.type_kind.TailKind.{TailKind}
 use Rattle.c_descent.specs.declared.type_kind.TailKind.TheVariants as tails
 use Rattle.c_descent.specs.Kinds.{suffix_at, direct_at, tail_at}
-use Rattle.c_syntax.specs.declared.written.Declarator.{Declarator}
+use Rattle.c_written.specs.declared.written.Declarator.{Declarator}
 
 -- Memory aside, the fault is a stop of this kind.
 pub data Halts (stops : Why → List Placed → Type 0) : Fault → Type 0 where

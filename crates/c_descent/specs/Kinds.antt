@@ -1,18 +1,18 @@
 -- What kind of token comes, as far as the descent must know.
 use Rattle.std.specs.Prelude.{◌≡◌, Bool, true, false, List, [], ◌∷◌, Option, Some, None}
-use Rattle.c_syntax.specs.declared.operator.StepWay.TheVariants as ways
-use Rattle.c_syntax.specs.declared.token.Keyword.{Keyword}
-use Rattle.c_syntax.specs.declared.token.Keyword.TheVariants as keywords
-use Rattle.c_syntax.specs.declared.token.Punctuator.{Punctuator}
-use Rattle.c_syntax.specs.declared.token.Punctuator.TheVariants as signs
-use Rattle.c_syntax.specs.declared.token.Placed.{Placed}
-use Rattle.c_syntax.specs.declared.token.Token.{Token}
-use Rattle.c_syntax.specs.declared.token.Token.TheVariants as kinds
-use Rattle.c_syntax.specs.declared.written.AssignOp.{AssignOp}
-use Rattle.c_syntax.specs.declared.written.StorageWord.TheVariants as storages
-use Rattle.c_syntax.specs.declared.written.TypeWord.TheVariants as type_words
-use Rattle.c_syntax.specs.declared.written.UnaryOp.TheVariants as unaries
-use Rattle.c_syntax.specs.Written.{SpecTree, Basic, SpecTrees, no_specs, more_specs, ParamTrees, no_params, more_params}
+use Rattle.c_written.specs.declared.step.StepWay.TheVariants as ways
+use Rattle.c_written.specs.declared.token.Keyword.{Keyword}
+use Rattle.c_written.specs.declared.token.Keyword.TheVariants as keywords
+use Rattle.c_written.specs.declared.token.Punctuator.{Punctuator}
+use Rattle.c_written.specs.declared.token.Punctuator.TheVariants as signs
+use Rattle.c_written.specs.declared.token.Placed.{Placed}
+use Rattle.c_written.specs.declared.token.Token.{Token}
+use Rattle.c_written.specs.declared.token.Token.TheVariants as kinds
+use Rattle.c_written.specs.declared.written.AssignOp.{AssignOp}
+use Rattle.c_written.specs.declared.written.StorageWord.TheVariants as storages
+use Rattle.c_written.specs.declared.written.TypeWord.TheVariants as type_words
+use Rattle.c_written.specs.declared.written.UnaryOp.TheVariants as unaries
+use Rattle.c_written.specs.Written.{SpecTree, Basic, SpecTrees, no_specs, more_specs, ParamTrees, no_params, more_params}
 use Rattle.c_grammar.specs.Parts.{Scene, Level, Joint, Role, Naming, OfMember, OfParameter, OfTypeName}
 use Rattle.c_grammar.specs.Classes.{names_type, level_of}
 use Rattle.c_grammar.specs.Made.{is_bare_void}

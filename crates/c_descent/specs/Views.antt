@@ -1,8 +1,8 @@
 -- What the grammar sees of what the descent knows.
 use Rattle.std.specs.Prelude.{Bool, true, false}
-use Rattle.c_syntax.specs.declared.token.Punctuator.TheVariants as signs
-use Rattle.c_syntax.specs.declared.token.Token.{Token}
-use Rattle.c_syntax.specs.declared.token.Token.TheVariants as kinds
+use Rattle.c_written.specs.declared.token.Punctuator.TheVariants as signs
+use Rattle.c_written.specs.declared.token.Token.{Token}
+use Rattle.c_written.specs.declared.token.Token.TheVariants as kinds
 use Rattle.c_grammar.specs.Parts as parts
 use Rattle.c_grammar.specs.Classes as classes
 use Rattle.c_grammar.specs.Ahead.{is_open, is_close, is_colon}

@@ -5,7 +5,7 @@ ghost use Rattle.c_grammar.specs.Classes.{Fits};
 ghost use Rattle.c_descent.specs.Views.{scene_of, class_of};
 
 use crate::context::Context;
-use c_syntax::{Keyword, Punctuator, Token};
+use c_written::{Keyword, Punctuator, Token};
 
 /// What a production asks of a token.
 #[derive(Clone, Copy, Debug, PartialEq, Eq)]

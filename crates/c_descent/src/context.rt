@@ -4,7 +4,7 @@ ghost use Rattle.std.specs.Prelude.{◌≡◌};
 ghost use Rattle.c_grammar.specs.Classes.{names_type};
 ghost use Rattle.c_descent.specs.Views.{scene_of};
 
-use c_syntax::Name;
+use c_written::Name;
 use std::alloc::Global;
 
 /// Where tokens stand.

@@ -3,7 +3,7 @@
 ghost use Rattle.std.specs.Prelude.{◌≡◌, ◌++◌, IfOk};
 ghost use Rattle.c_grammar.specs.Classes.{byte_of, bytes_of, constant_of, low_byte, name_of};
 
-use c_syntax::{Constant, Name, Token};
+use c_written::{Constant, Name, Token};
 use std::alloc::{AllocError, Global};
 
 /// The name of a word.

@@ -1,12 +1,12 @@
 // Nodes of expressions.
 
 ghost use Rattle.std.specs.Prelude.{◌≡◌, IfOk};
-ghost use Rattle.c_syntax.specs.Written.{exprs_from, exprs_tree, declarator_tree, specs_tree, expr_tree, exprs_then, more_exprs, no_exprs, Assign, Binary, Cast, Comma, Compound, Cond, Dot, Arrow, Enclosed, Index, PostStep, PreStep, SizeofExpr, SizeofType, Unary};
+ghost use Rattle.c_written.specs.Written.{exprs_from, exprs_tree, declarator_tree, specs_tree, expr_tree, exprs_then, more_exprs, no_exprs, Assign, Binary, Cast, Comma, Compound, Cond, Dot, Arrow, Enclosed, Index, PostStep, PreStep, SizeofExpr, SizeofType, Unary};
 ghost use Rattle.c_grammar.specs.Made.{is_word, joined};
 ghost use Rattle.c_descent.specs.Views.{joint_view};
 
 use crate::level::Joint;
-use c_syntax::{AssignOp, Declarator, Expr, Exprs, Name, Pos, Specs, StepWay, UnaryOp};
+use c_written::{AssignOp, Declarator, Expr, Exprs, Name, Pos, Specs, StepWay, UnaryOp};
 use std::alloc::{AllocError, Global};
 
 pub fn enclosed_expr(alloc: Global, pos: Pos, inner: Expr) -> Result<Expr, AllocError>

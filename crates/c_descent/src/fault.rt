@@ -3,7 +3,7 @@
 ghost use Rattle.std.specs.Prelude.{◌≡◌};
 ghost use Rattle.c_descent.specs.declared.fault.Fault.TheVariants.{NoMemory};
 
-use c_syntax::{Construct, Placed};
+use c_written::{Construct, Placed};
 use std::alloc::{AllocError, AllocFailed};
 
 /// Why there is no tree. The first of the tokens is refused, or the end where there is none.

@@ -7,7 +7,7 @@ ghost use Rattle.c_descent.specs.Kinds.{assign_at, assign_of_sign, prefix_at, pr
 
 use crate::context::Context;
 use crate::token::{first, sign_at};
-use c_syntax::{AssignOp, Keyword, Placed, Punctuator, StepWay, Token, UnaryOp};
+use c_written::{AssignOp, Keyword, Placed, Punctuator, StepWay, Token, UnaryOp};
 
 /// What makes an assignment of what stands before it.
 #[derive(Clone, Copy, Debug, PartialEq, Eq)]

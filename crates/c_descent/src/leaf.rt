@@ -1,7 +1,7 @@
 // What one kind of token makes alone.
 
 ghost use Rattle.std.specs.Prelude.{◌≡◌, ℕ, ◌+◌, ◌<◌, ◌≤◌, List, length, IfOk};
-ghost use Rattle.c_syntax.specs.Written.{expr_tree, spec_tree};
+ghost use Rattle.c_written.specs.Written.{expr_tree, spec_tree};
 ghost use Rattle.c_grammar.specs.Parts as part;
 ghost use Rattle.c_descent.specs.Views.{scene_of};
 ghost use Rattle.c_descent.specs.Kinds.{primary_at, spec_at};
@@ -15,7 +15,7 @@ use crate::kind::PrimaryKind;
 use crate::look::{Mark, comes};
 use crate::token::taken;
 use crate::type_kind::{SpecKind, storage_word, type_word};
-use c_syntax::{Bytes, Expr, Keyword, Placed, Pos, Spec, StorageWord, TypeWord};
+use c_written::{Bytes, Expr, Keyword, Placed, Pos, Spec, StorageWord, TypeWord};
 
 /// A word.
 pub fn word<'a>(

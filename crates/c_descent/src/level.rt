@@ -8,7 +8,7 @@ ghost use Rattle.c_grammar.specs.Classes.{joint_sign};
 ghost use Rattle.c_grammar.specs.Parts as part;
 
 use crate::token::sign_at;
-use c_syntax::{BinaryOp, Placed, Punctuator};
+use c_written::{BinaryOp, Placed, Punctuator};
 
 /// The operators of one rank, which lean to the left.
 #[derive(Clone, Copy, Debug, PartialEq, Eq)]

@@ -1,6 +1,6 @@
 //! The single steps of the parser's descent: a token taken or refused, what comes next, and the
 //! nodes that are made.
-#![tactic(auto, using(c_syntax::proofs::Trees::the_trees))]
+#![tactic(auto, using(c_written::proofs::Trees::the_written_trees))]
 
 mod class;
 mod context;

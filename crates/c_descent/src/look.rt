@@ -7,7 +7,7 @@ ghost use Rattle.c_descent.specs.Views.{mark_test, scene_of};
 
 use crate::context::Context;
 use crate::token::first;
-use c_syntax::{Keyword, Placed, Punctuator, Token};
+use c_written::{Keyword, Placed, Punctuator, Token};
 
 /// Tokens that tell which production goes on.
 #[derive(Clone, Copy, Debug, PartialEq, Eq)]

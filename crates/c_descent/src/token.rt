@@ -4,7 +4,7 @@ ghost use Rattle.std.specs.Prelude.{◌≡◌, ℕ, ◌+◌, ◌≤◌, ◌&&◌
 ghost use Rattle.c_grammar.specs.Refused.{first_is, forms_of_bracket, inner_typedef, is_bracket, keyword_construct, nested_case, nesting_limit, token_construct};
 ghost use Rattle.c_grammar.specs.Parts as part;
 ghost use Rattle.c_grammar.specs.Ahead.{is_open};
-ghost use Rattle.c_syntax.specs.Written.{ExprTree};
+ghost use Rattle.c_written.specs.Written.{ExprTree};
 ghost use Rattle.c_grammar.specs.Descent.{barred, refusal};
 ghost use Rattle.c_descent.specs.Views.{scene_of, setting_of, class_of};
 ghost use Rattle.c_descent.specs.Answers.{IsStop, Takes};
@@ -13,7 +13,7 @@ ghost use Rattle.c_descent.specs.Kinds.{keyword_at, keyword_of, opens, sign_at, 
 use crate::class::Class;
 use crate::context::{Context, Setting};
 use crate::fault::Fault;
-use c_syntax::{Construct, Keyword, Placed, Punctuator, Token};
+use c_written::{Construct, Keyword, Placed, Punctuator, Token};
 
 // As many forms may be unfinished.
 const NESTING_LIMIT: u32 = 200;

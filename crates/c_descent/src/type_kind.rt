@@ -8,7 +8,7 @@ ghost use Rattle.c_descent.specs.Kinds.{direct_at, direct_of, direct_of_word, na
 
 use crate::context::Context;
 use crate::token::{first, sign_at};
-use c_syntax::{Keyword, Placed, Punctuator, StorageWord, Token, TypeWord};
+use c_written::{Keyword, Placed, Punctuator, StorageWord, Token, TypeWord};
 
 /// Whose declarator it is.
 #[derive(Clone, Copy, Debug, PartialEq, Eq)]

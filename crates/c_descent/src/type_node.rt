@@ -1,11 +1,11 @@
 // Nodes of types and declarators.
 
 ghost use Rattle.std.specs.Prelude.{◌≡◌, IfOk, option_map};
-ghost use Rattle.c_syntax.specs.Written.{declarator_tree, declarators_from, declarators_then, enumerator_tree, enumerators_from, enumerators_then, expr_tree, memberdecl_tree, memberdecls_from, memberdecls_then, more_declarators, more_enumerators, more_members, more_params, more_specs, no_declarators, no_enumerators, no_members, no_params, no_specs, param_tree, params_from, params_then, spec_tree, specs_from, specs_then, specs_tree, Array, Grouped, OpenArray, Pointer, Valued, Function, Members};
+ghost use Rattle.c_written.specs.Written.{declarator_tree, declarators_from, declarators_then, enumerator_tree, enumerators_from, enumerators_then, expr_tree, memberdecl_tree, memberdecls_from, memberdecls_then, more_declarators, more_enumerators, more_members, more_params, more_specs, no_declarators, no_enumerators, no_members, no_params, no_specs, param_tree, params_from, params_then, spec_tree, specs_from, specs_then, specs_tree, Array, Grouped, OpenArray, Pointer, Valued, Function, Members};
 ghost use Rattle.c_grammar.specs.Made.{declared_word, function_of, is_bare_void, is_given, is_type, param_of, specs_pos};
 ghost use Rattle.c_descent.specs.Kinds.{is_void_alone, is_void_spec, is_void_word};
 
-use c_syntax::{
+use c_written::{
     Declarator, Enumerator, Expr, MemberDecl, Name, Param, Params, Pos, Spec, Specs, TypeWord,
 };
 use std::alloc::{AllocError, Global};
@@ -215,7 +215,7 @@ pub fn specs_pos(specs: &Specs) -> Pos
 }
 
 /// The word that a declarator declares.
-#[tactic(auto, using(c_syntax::proofs::Trees::the_trees), unfolding(c_grammar::specs::Made::declared_word))]
+#[tactic(auto, using(c_written::proofs::Trees::the_written_trees), unfolding(c_grammar::specs::Made::declared_word))]
 pub fn declared_word(declarator: &Declarator) -> Option<&Name>
     ensures { option_map (λ n. n.now) result ≡ declared_word (declarator_tree declarator.now) }
 {

@@ -1,15 +1,15 @@
 -- Steps of the descent through declarators and parameters.
 use Rattle.std.proofs.Common.{◌≡◌, refl, sym, subst, ap, ◌∙◌, ℕ, Bool, true, false, ◌&&◌, List, [], ◌∷◌, Bor}
 use Rattle.std.specs.Prelude.{Ok, None}
-use Rattle.c_syntax.specs.declared.place.Pos.{Pos}
-use Rattle.c_syntax.specs.declared.token.Placed.{Placed}
-use Rattle.c_syntax.specs.declared.token.Keyword.TheVariants as keywords
-use Rattle.c_syntax.specs.declared.token.Punctuator.TheVariants as signs
-use Rattle.c_syntax.specs.declared.token.Token.{Token}
-use Rattle.c_syntax.specs.declared.token.Token.TheVariants as kinds
-use Rattle.c_syntax.specs.declared.written.Declarator.TheVariants as declarators
-use Rattle.c_syntax.proofs.WrittenTrees.{declarator_absent, declarator_name}
-use Rattle.c_syntax.specs.Written.{DeclaratorTree, Absent, Name, declarator_tree, ParamTree, ParamTrees, params_then}
+use Rattle.c_written.specs.declared.place.Pos.{Pos}
+use Rattle.c_written.specs.declared.token.Placed.{Placed}
+use Rattle.c_written.specs.declared.token.Keyword.TheVariants as keywords
+use Rattle.c_written.specs.declared.token.Punctuator.TheVariants as signs
+use Rattle.c_written.specs.declared.token.Token.{Token}
+use Rattle.c_written.specs.declared.token.Token.TheVariants as kinds
+use Rattle.c_written.specs.declared.written.Declarator.TheVariants as declarators
+use Rattle.c_written.proofs.WrittenTrees.{declarator_absent, declarator_name}
+use Rattle.c_written.specs.Written.{DeclaratorTree, Absent, Name, declarator_tree, ParamTree, ParamTrees, params_then}
 use Rattle.c_grammar.specs.Parts.{Scene, Role, Naming, OfMember, OfParameter, OfTypeName, Pointed, Direct, Tails, MoreParameters, ADeclarator, DeclaratorPart, Parameter}
 use Rattle.c_grammar.specs.Process.{give, part}
 use Rattle.c_grammar.specs.Classes.{sign, keyword, names_type}

@@ -1,15 +1,15 @@
 -- Steps of the descent through expressions.
 use Rattle.std.proofs.Common.{◌≡◌, refl, sym, subst, ap, ℕ, ◌+◌, Bool, true, false, not, ◌&&◌, List, [], ◌∷◌, Bor}
 use Rattle.std.specs.Prelude.{Result, Ok, Option, Some, None, option_map}
-use Rattle.c_syntax.specs.declared.place.Pos.{Pos}
-use Rattle.c_syntax.specs.declared.construct.Construct.TheVariants as constructs
-use Rattle.c_syntax.specs.declared.token.Placed.{Placed}
-use Rattle.c_syntax.specs.declared.token.Punctuator.TheVariants as signs
-use Rattle.c_syntax.specs.declared.token.Token.{Token}
-use Rattle.c_syntax.specs.declared.token.Token.TheVariants as kinds
-use Rattle.c_syntax.specs.declared.written.Expr.{Expr}
-use Rattle.c_syntax.specs.declared.written.Expr.TheVariants as variants
-use Rattle.c_syntax.specs.Written.{expr_tree, ExprTree, ExprTrees, exprs_then, Word, Call}
+use Rattle.c_written.specs.declared.place.Pos.{Pos}
+use Rattle.c_written.specs.declared.construct.Construct.TheVariants as constructs
+use Rattle.c_written.specs.declared.token.Placed.{Placed}
+use Rattle.c_written.specs.declared.token.Punctuator.TheVariants as signs
+use Rattle.c_written.specs.declared.token.Token.{Token}
+use Rattle.c_written.specs.declared.token.Token.TheVariants as kinds
+use Rattle.c_written.specs.declared.written.Expr.{Expr}
+use Rattle.c_written.specs.declared.written.Expr.TheVariants as variants
+use Rattle.c_written.specs.Written.{expr_tree, ExprTree, ExprTrees, exprs_then, Word, Call}
 use Rattle.c_grammar.specs.Parts.{Scene, Part, Value, ExprPart, More, Assignment, Suffixes, AnExpr, Arguments, MoreArguments}
 use Rattle.c_grammar.specs.Parts as parts
 use Rattle.c_grammar.specs.Process.{give, token, part}

@@ -1,7 +1,7 @@
 // Declarators and parameters.
 
 ghost use Rattle.std.specs.Prelude.{◌≡◌, ℕ, ◌+◌, ◌<◌, ◌≤◌, Bool, true, false, not, ◌&&◌, List, length, IfOk};
-ghost use Rattle.c_syntax.specs.Written.{declarator_tree, param_tree, params_from};
+ghost use Rattle.c_written.specs.Written.{declarator_tree, param_tree, params_from};
 ghost use Rattle.c_grammar.specs.Ahead.{is_close, is_open, params_ahead};
 ghost use Rattle.c_grammar.specs.Parts as part;
 ghost use Rattle.c_grammar.specs.Made.{is_given};
@@ -14,7 +14,7 @@ ghost use Rattle.c_descent.specs.Views.{role_view, scene_of};
 use crate::exprs::conditional;
 use crate::types::specs;
 use c_descent::{Class, Context, DirectKind, Fault, Mark, Role, TailKind, array_declarator, barred, comes, direct_at, empty_declarator, function_declarator, grouped_declarator, is_given, name_of, one_param, open_array_declarator, param_of, params_ahead, plain_word_ahead, pointer_declarator, push_param, refused, tail_at, taken, type_name_ahead};
-use c_syntax::{Construct, Declarator, Keyword, Param, Placed, Pos, Punctuator};
+use c_written::{Construct, Declarator, Keyword, Param, Placed, Pos, Punctuator};
 
 /// A declarator, or an abstract one.
 #[cycle(descent)]

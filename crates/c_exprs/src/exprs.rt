@@ -1,7 +1,7 @@
 // Expressions.
 
 ghost use Rattle.std.specs.Prelude.{◌≡◌, ℕ, ◌+◌, ◌<◌, ◌≤◌, Bool, true, not, ◌&&◌, List, length, IfOk};
-ghost use Rattle.c_syntax.specs.Written.{expr_tree, exprs_from, exprs_tree};
+ghost use Rattle.c_written.specs.Written.{expr_tree, exprs_from, exprs_tree};
 ghost use Rattle.c_grammar.specs.Ahead.{is_close, is_open, type_ahead};
 ghost use Rattle.c_grammar.specs.Made.{is_word};
 ghost use Rattle.c_grammar.specs.ExprRules.{operand};
@@ -15,7 +15,7 @@ ghost use Rattle.c_descent.specs.Views.{level_view, scene_of};
 use crate::declarators::declarator;
 use crate::types::specs;
 use c_descent::{AssignKind, Class, Context, Fault, Level, Mark, PrefixKind, PrimaryKind, Role, SuffixKind, arrow_expr, assign_at, assign_expr, assign_sign, barred, barred_call, cast_expr, character, comes, compound_expr, cond_expr, dot_expr, enclosed_expr, index_expr, is_word, joined, joint_at, joint_sign, name_of, number, one_expr, post_step_expr, pre_step_expr, prefix_at, primary_at, push_expr, refused, sizeof_expr, sizeof_type, step_sign, strings, suffix_at, taken, type_ahead, unary_expr, unary_sign, word};
-use c_syntax::{
+use c_written::{
     AssignOp, Construct, Expr, Exprs, Keyword, Placed, Pos, Punctuator, StepWay, UnaryOp,
 };
 

@@ -1,7 +1,7 @@
 // Specs: the words and types that begin a declaration.
 
 ghost use Rattle.std.specs.Prelude.{◌≡◌, ℕ, ◌+◌, ◌<◌, ◌≤◌, Bool, true, ◌&&◌, ◌||◌, List, length, IfOk, option_map};
-ghost use Rattle.c_syntax.specs.Written.{enumerator_tree, enumerators_from, enumerators_tree, declarators_from, memberdecl_tree, memberdecls_from, memberdecls_tree, spec_tree, specs_from, specs_tree};
+ghost use Rattle.c_written.specs.Written.{enumerator_tree, enumerators_from, enumerators_tree, declarators_from, memberdecl_tree, memberdecls_from, memberdecls_tree, spec_tree, specs_from, specs_tree};
 ghost use Rattle.c_grammar.specs.Choice.{is_right_brace, is_semicolon};
 ghost use Rattle.c_grammar.specs.Made.{has_type, is_type};
 ghost use Rattle.c_grammar.specs.Parts as part;
@@ -13,7 +13,7 @@ ghost use Rattle.c_descent.specs.Views.{scene_of};
 use crate::declarators::declarator;
 use crate::exprs::conditional;
 use c_descent::{Class, Context, Fault, Mark, Role, SpecKind, TagKind, barred, basic, comes, constant, is_type, name_of, one_declarator, one_enumerator, one_member, one_spec, push_declarator, push_enumerator, push_member, push_spec, refused, spec_ahead, spec_at, specs_pos, storage, tag_at, taken, type_name_ahead, typedef_name, valued_enumerator};
-use c_syntax::{
+use c_written::{
     Construct, Declarator, Declarators, Enumerator, Enumerators, Keyword, MemberDecl, MemberDecls,
     Name, Placed, Pos, Punctuator, Spec, Specs, Tag,
 };

@@ -1,10 +1,10 @@
 -- Constructs of a part that reads nothing, of the end, and of a part that comes first in another.
 use Rattle.std.proofs.Common.{◌≡◌, refl, sym, ◌∙◌, ap, Bool, true, false, not, ◌&&◌, ◌||◌, List, [], ◌∷◌, Some, None, true≢false}
-use Rattle.c_syntax.specs.declared.construct.Construct.{Construct}
-use Rattle.c_syntax.specs.declared.construct.Construct.TheVariants as constructs
-use Rattle.c_syntax.specs.declared.token.Placed.{Placed}
-use Rattle.c_syntax.specs.declared.token.Token.{Token}
-use Rattle.c_syntax.specs.declared.token.Token.TheVariants as kinds
+use Rattle.c_written.specs.declared.construct.Construct.{Construct}
+use Rattle.c_written.specs.declared.construct.Construct.TheVariants as constructs
+use Rattle.c_written.specs.declared.token.Placed.{Placed}
+use Rattle.c_written.specs.declared.token.Token.{Token}
+use Rattle.c_written.specs.declared.token.Token.TheVariants as kinds
 use Rattle.c_grammar.specs.Parts.{Scene, Role, Naming, OfParameter, Level, Commas, Operand, Suffixes, Declarator, Pointed, Direct, Tails, Size, Parameters, Declared, OuterDeclared, Part, AnExpr, ADeclarator, ADecl, AnOuter, AfterType, MoreSpecs, MoreDeclarators, Parameter, Initialiser, Initialisers, NextInitialiser, Value}
 use Rattle.c_grammar.specs.Classes.{Class}
 use Rattle.c_grammar.specs.Process.{Process}

@@ -1,10 +1,10 @@
 -- Tokens that bear a construct of a part begin it, and none bears one of itself; nor does one that continues a part.
 use Rattle.std.proofs.Common.{◌≡◌, refl, sym, subst, Bool, true, false, not, ◌&&◌, ◌||◌, List, ◌∷◌, Option, Some, None}
-use Rattle.c_syntax.specs.declared.construct.Construct.{Construct}
-use Rattle.c_syntax.specs.declared.token.Keyword.{Keyword}
-use Rattle.c_syntax.specs.declared.token.Placed.{Placed}
-use Rattle.c_syntax.specs.declared.token.Token.{Token}
-use Rattle.c_syntax.specs.declared.token.Token.TheVariants as kinds
+use Rattle.c_written.specs.declared.construct.Construct.{Construct}
+use Rattle.c_written.specs.declared.token.Keyword.{Keyword}
+use Rattle.c_written.specs.declared.token.Placed.{Placed}
+use Rattle.c_written.specs.declared.token.Token.{Token}
+use Rattle.c_written.specs.declared.token.Token.TheVariants as kinds
 use Rattle.c_grammar.specs.Parts.{Setting, AtFile, InBlock, InSwitch, Scene, Level, Commas, ExprPart, Run, More, Operand, Unary, Suffixes, DeclaratorPart, Declarator, Direct, Tails, Size, Part, AnExpr, ASpec, ADeclarator, AStmt, AfterType, Specs, MoreSpecs, MoreDeclarators, AnEnumerator, EnumeratorValue, Parameter, Initialiser, Item, Value}
 use Rattle.c_grammar.specs.Classes.{Class, keyword, sign, names_type}
 use Rattle.c_grammar.specs.Made.{is_word, has_type, is_given, ends_open}

@@ -1,6 +1,6 @@
 -- What a production begins with, its part begins with.
 use Rattle.std.proofs.Common.{◌≡◌, refl, sym, ◌∙◌, subst, Bool, true, List, [], ◌∷◌}
-use Rattle.c_syntax.specs.declared.token.Placed.{Placed}
+use Rattle.c_written.specs.declared.token.Placed.{Placed}
 use Rattle.c_grammar.specs.Parts.{Scene, Part, Level, Commas, AnExpr, Value}
 use Rattle.c_grammar.specs.Classes.{Class}
 use Rattle.c_grammar.specs.Process.{Process, give, token, part, only}

@@ -1,6 +1,6 @@
 -- What follows the parts of the productions of expressions.
 use Rattle.std.proofs.Common.{◌≡◌, refl, true, not, lit≤}
-use Rattle.c_syntax.specs.Written.{ExprTree}
+use Rattle.c_written.specs.Written.{ExprTree}
 use Rattle.c_grammar.specs.Parts.{Scene, Part, Closing, by_semicolon, by_parenthesis, Level, Commas, Ors, More, AnExpr, Value}
 use Rattle.c_grammar.specs.Classes.{sign, closing_sign}
 use Rattle.c_grammar.specs.Process.{Process}

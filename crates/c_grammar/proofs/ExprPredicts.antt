@@ -1,16 +1,16 @@
 -- The descent takes the production of expressions whose first token comes.
 use Rattle.std.proofs.Common.{◌≡◌, refl, ◌∙◌, ap, subst, true, false, List, ◌∷◌, Some}
-use Rattle.c_syntax.specs.declared.operator.StepWay.{StepWay}
-use Rattle.c_syntax.specs.declared.operator.StepWay.TheVariants as ways
-use Rattle.c_syntax.specs.declared.token.Placed.{Placed}
-use Rattle.c_syntax.specs.declared.token.Punctuator.TheVariants as signs
-use Rattle.c_syntax.specs.declared.token.Token.{Token}
-use Rattle.c_syntax.specs.declared.token.Token.TheVariants as kinds
-use Rattle.c_syntax.specs.declared.written.AssignOp.{AssignOp}
-use Rattle.c_syntax.specs.declared.written.AssignOp.TheVariants as assigns
-use Rattle.c_syntax.specs.declared.written.UnaryOp.{UnaryOp}
-use Rattle.c_syntax.specs.declared.written.UnaryOp.TheVariants as unaries
-use Rattle.c_syntax.specs.Written.{ExprTree}
+use Rattle.c_written.specs.declared.step.StepWay.{StepWay}
+use Rattle.c_written.specs.declared.step.StepWay.TheVariants as ways
+use Rattle.c_written.specs.declared.token.Placed.{Placed}
+use Rattle.c_written.specs.declared.token.Punctuator.TheVariants as signs
+use Rattle.c_written.specs.declared.token.Token.{Token}
+use Rattle.c_written.specs.declared.token.Token.TheVariants as kinds
+use Rattle.c_written.specs.declared.written.AssignOp.{AssignOp}
+use Rattle.c_written.specs.declared.written.AssignOp.TheVariants as assigns
+use Rattle.c_written.specs.declared.written.UnaryOp.{UnaryOp}
+use Rattle.c_written.specs.declared.written.UnaryOp.TheVariants as unaries
+use Rattle.c_written.specs.Written.{ExprTree}
 use Rattle.c_grammar.specs.Parts.{Scene, Closing, by_semicolon, by_parenthesis, Part, Level, Commas, AnExpr, More, Assigned, Suffixes, Unary, Run, Assignment, Optionally, Value}
 use Rattle.c_grammar.specs.Classes.{Fits, word, number, character, text, unary_sign, step_sign, closing_sign, level_of, assign_sign}
 use Rattle.c_grammar.specs.Process.{Process}

@@ -1,21 +1,21 @@
 -- How many forms a token begins at most as the first of a part; the one production of a part that may be empty.
 use Rattle.std.proofs.Common.{◌≡◌, refl, sym, ◌∙◌, subst, ℕ, ◌≤◌, Bool, true, false, List, ◌∷◌, Some, lit≤, le_refl, zero-le}
-use Rattle.c_syntax.specs.declared.construct.Construct.{Construct}
-use Rattle.c_syntax.specs.declared.operator.StepWay.{StepWay}
-use Rattle.c_syntax.specs.declared.operator.StepWay.TheVariants as ways
-use Rattle.c_syntax.specs.declared.token.Placed.{Placed}
-use Rattle.c_syntax.specs.declared.token.Punctuator.{Punctuator}
-use Rattle.c_syntax.specs.declared.token.Punctuator.TheVariants as signs
-use Rattle.c_syntax.specs.declared.token.Token.{Token}
-use Rattle.c_syntax.specs.declared.token.Token.TheVariants as kinds
-use Rattle.c_syntax.specs.declared.written.AssignOp.{AssignOp}
-use Rattle.c_syntax.specs.declared.written.AssignOp.TheVariants as assigns
-use Rattle.c_syntax.specs.declared.written.BinaryOp.TheVariants as binaries
-use Rattle.c_syntax.specs.declared.written.UnaryOp.{UnaryOp}
-use Rattle.c_syntax.specs.declared.written.UnaryOp.TheVariants as unaries
-use Rattle.c_syntax.specs.Written as written
-use Rattle.c_syntax.specs.WrittenFile as trees
-use Rattle.c_syntax.specs.WrittenFile.{OuterTree}
+use Rattle.c_written.specs.declared.construct.Construct.{Construct}
+use Rattle.c_written.specs.declared.step.StepWay.{StepWay}
+use Rattle.c_written.specs.declared.step.StepWay.TheVariants as ways
+use Rattle.c_written.specs.declared.token.Placed.{Placed}
+use Rattle.c_written.specs.declared.token.Punctuator.{Punctuator}
+use Rattle.c_written.specs.declared.token.Punctuator.TheVariants as signs
+use Rattle.c_written.specs.declared.token.Token.{Token}
+use Rattle.c_written.specs.declared.token.Token.TheVariants as kinds
+use Rattle.c_written.specs.declared.written.AssignOp.{AssignOp}
+use Rattle.c_written.specs.declared.written.AssignOp.TheVariants as assigns
+use Rattle.c_written.specs.declared.written.BinaryOp.TheVariants as binaries
+use Rattle.c_written.specs.declared.written.UnaryOp.{UnaryOp}
+use Rattle.c_written.specs.declared.written.UnaryOp.TheVariants as unaries
+use Rattle.c_written.specs.Written as written
+use Rattle.c_written.specs.WrittenFile as trees
+use Rattle.c_written.specs.WrittenFile.{OuterTree}
 use Rattle.c_grammar.specs.Parts.{Scene, Level, Commas, Joint, comma, binary, ExprPart, Run, More, Assigned, Chosen, Operand, Suffixes, Texts, StructureTagged, EnumerationTagged, DeclaratorPart, Declarator, Pointed, Direct, Tails, Else, Part, AnExpr, ASpec, ADeclarator, AStmt, AfterType, MoreSpecs, MoreDeclarators, EnumeratorValue, Parameter, Initialiser, Outers, Value}
 use Rattle.c_grammar.specs.Classes.{Class, sign, word, type_name, joint_sign, assign_sign, unary_sign, step_sign}
 use Rattle.c_grammar.specs.Process.{Process, give, part, only}

@@ -1,7 +1,7 @@
 -- A place at which nothing of its part is read: it is what comes first in the part, or in the first of its parts.
 use Rattle.std.proofs.Common.{◌≡◌, ℕ, ◌≤◌, Bool, true, false, List, refl, sym, ◌∙◌, subst, arith}
-use Rattle.c_syntax.specs.declared.token.Placed.{Placed}
-use Rattle.c_syntax.specs.declared.token.Token.{Token}
+use Rattle.c_written.specs.declared.token.Placed.{Placed}
+use Rattle.c_written.specs.declared.token.Token.{Token}
 use Rattle.c_grammar.specs.Parts.{Scene, Part, Value}
 use Rattle.c_grammar.specs.Classes.{Class, Fits}
 use Rattle.c_grammar.specs.Process.{Process, give, token, part, only}

@@ -1,7 +1,7 @@
 -- Sets of tokens, which see a token by its class alone; one set held against another by going through all classes.
 use Rattle.std.proofs.Common.{◌≡◌, refl, sym, subst, ap, ◌∙◌, Bool, true, false, not, ◌&&◌, ◌||◌, List, [], ◌∷◌, true≢false}
-use Rattle.c_syntax.specs.declared.token.Token.{Token}
-use Rattle.c_syntax.specs.declared.token.Token.TheVariants as kinds
+use Rattle.c_written.specs.declared.token.Token.{Token}
+use Rattle.c_written.specs.declared.token.Token.TheVariants as kinds
 use Rattle.c_grammar.specs.Parts.{Scene}
 use Rattle.c_grammar.specs.Classes.{Class, keyword, sign, word, any_word, type_name, number, character, text, Fits, names_type}
 use Rattle.c_grammar.proofs.Sweep.{and_left, and_right, every, every_nth, keyword_list, sign_list, keyword_sweep, sign_sweep}

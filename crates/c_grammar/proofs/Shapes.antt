@@ -1,6 +1,6 @@
 -- How each production begins.
 use Rattle.std.proofs.Common.{◌≡◌, refl, false}
-use Rattle.c_syntax.specs.Written as trees
+use Rattle.c_written.specs.Written as trees
 use Rattle.c_grammar.specs.Parts.{Scene, Part, Level, Commas, AnExpr, Value}
 use Rattle.c_grammar.specs.Process.{Process}
 use Rattle.c_grammar.specs.ExprRules.{ExprRule, operand}

@@ -1,13 +1,13 @@
 -- The descent has a production for a part that may be empty, and that production does not fail at its first token.
 use Rattle.std.proofs.Common.{◌≡◌, refl, sym, ◌∙◌, ap, subst, Bool, true, false, not, ◌&&◌, ◌||◌, if◌then◌else◌, List, [], ◌∷◌, Option, Some, None}
-use Rattle.c_syntax.specs.declared.token.Keyword.TheVariants as keywords
-use Rattle.c_syntax.specs.declared.token.Placed.{Placed}
-use Rattle.c_syntax.specs.declared.token.Punctuator.{Punctuator}
-use Rattle.c_syntax.specs.declared.token.Punctuator.TheVariants as signs
-use Rattle.c_syntax.specs.declared.token.Token.{Token}
-use Rattle.c_syntax.specs.declared.token.Token.TheVariants as kinds
-use Rattle.c_syntax.specs.Written.{ExprTree, DeclaratorTree, SpecTrees}
-use Rattle.c_syntax.specs.Written as trees
+use Rattle.c_written.specs.declared.token.Keyword.TheVariants as keywords
+use Rattle.c_written.specs.declared.token.Placed.{Placed}
+use Rattle.c_written.specs.declared.token.Punctuator.{Punctuator}
+use Rattle.c_written.specs.declared.token.Punctuator.TheVariants as signs
+use Rattle.c_written.specs.declared.token.Token.{Token}
+use Rattle.c_written.specs.declared.token.Token.TheVariants as kinds
+use Rattle.c_written.specs.Written.{ExprTree, DeclaratorTree, SpecTrees}
+use Rattle.c_written.specs.Written as trees
 use Rattle.c_grammar.specs.Parts.{Scene, Level, Joint, Role, OfParameter, OfTypeName, ExprPart, More, Assigned, Chosen, Suffixes, Texts, Part, AnExpr, ASpec, ADeclarator, AStmt, Spec, StructureTagged, EnumerationTagged, DeclaratorPart, Declarator, Pointed, Direct, Tails, Else, AfterType, MoreSpecs, EnumeratorValue, Value}
 use Rattle.c_grammar.specs.Classes.{Fits, word, type_name, text, joint_sign, level_of, names_type}
 use Rattle.c_grammar.specs.Process.{Process}

@@ -1,13 +1,13 @@
 -- The productions of expressions (C11 6.5).
 use Rattle.std.specs.Prelude.{◌≡◌, ℕ, List, ◌++◌, Some, None}
-use Rattle.c_syntax.specs.declared.operator.StepWay.{StepWay}
-use Rattle.c_syntax.specs.declared.place.Pos.{Pos}
-use Rattle.c_syntax.specs.declared.token.Keyword.TheVariants as keywords
-use Rattle.c_syntax.specs.declared.token.Punctuator.TheVariants as signs
-use Rattle.c_syntax.specs.declared.written.AssignOp.{AssignOp}
-use Rattle.c_syntax.specs.declared.written.UnaryOp.{UnaryOp}
-use Rattle.c_syntax.specs.Written.{ExprTree, ExprTrees, no_exprs, more_exprs, exprs_then}
-use Rattle.c_syntax.specs.Written as trees
+use Rattle.c_written.specs.declared.step.StepWay.{StepWay}
+use Rattle.c_written.specs.declared.place.Pos.{Pos}
+use Rattle.c_written.specs.declared.token.Keyword.TheVariants as keywords
+use Rattle.c_written.specs.declared.token.Punctuator.TheVariants as signs
+use Rattle.c_written.specs.declared.written.AssignOp.{AssignOp}
+use Rattle.c_written.specs.declared.written.UnaryOp.{UnaryOp}
+use Rattle.c_written.specs.Written.{ExprTree, ExprTrees, no_exprs, more_exprs, exprs_then}
+use Rattle.c_written.specs.Written as trees
 use Rattle.c_grammar.specs.Parts.{Scene, Closing, Level, Commas, Ors, Ands, BitOrs, BitXors, BitAnds, Equalities, Relations, Shifts, Sums, Products, Joint, OfTypeName, ExprPart, Run, More, Assignment, Assigned, Conditional, Chosen, Cast, Operand, Unary, Sized, Postfix, Suffixes, Primary, Texts, Declarator, Part, AnExpr, ADeclarator, AfterType, Arguments, MoreArguments, Specs, Optionally, Value}
 use Rattle.c_grammar.specs.Classes.{keyword, sign, word, any_word, number, character, text, name_of, constant_of, byte_of, bytes_of, unary_sign, step_sign, joint_sign, closing_sign, level_of, assign_sign}
 use Rattle.c_grammar.specs.Process.{Process, give, token, part, only}

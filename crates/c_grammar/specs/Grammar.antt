@@ -1,7 +1,7 @@
 -- Which tokens are a file, and with which tree; which tokens begin one (C11 6.5 to 6.9).
 use Rattle.std.specs.Prelude.{◌≡◌, ℕ, Bool, true, List, [], ◌∷◌}
-use Rattle.c_syntax.specs.declared.token.Placed.{Placed}
-use Rattle.c_syntax.specs.WrittenFile.{FileTree}
+use Rattle.c_written.specs.declared.token.Placed.{Placed}
+use Rattle.c_written.specs.WrittenFile.{FileTree}
 use Rattle.c_grammar.specs.Parts.{AtFile, Scene, Part, Outers, Value}
 use Rattle.c_grammar.specs.Classes.{Class, Fits}
 use Rattle.c_grammar.specs.Process.{Process, give, token, part, only}

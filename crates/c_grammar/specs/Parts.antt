@@ -1,12 +1,12 @@
 -- The parts of a file: the nonterminals of the grammar (C11 6.5 to 6.9), and what each stands for.
 -- A repetition is a part of its own, with what was read before it.
 use Rattle.std.specs.Prelude.{ℕ, Bool, List, Option}
-use Rattle.c_syntax.specs.declared.place.Pos.{Pos}
-use Rattle.c_syntax.specs.declared.written.BinaryOp.{BinaryOp}
-use Rattle.c_syntax.specs.declared.written.Tag.{Tag}
-use Rattle.c_syntax.specs.Written.{ExprTree, ExprTrees, SpecTree, SpecTrees, DeclaratorTree, DeclaratorTrees, MemberDeclTree, MemberDeclTrees, EnumeratorTree, EnumeratorTrees, ParamTree, ParamTrees}
-use Rattle.c_syntax.specs.WrittenDecl.{InitTree, InitTrees, InitDeclaratorTree, DeclTree}
-use Rattle.c_syntax.specs.WrittenFile.{StmtTree, BlockItemTree, BlockItemTrees, ForStartTree, OuterTree}
+use Rattle.c_written.specs.declared.place.Pos.{Pos}
+use Rattle.c_written.specs.declared.written.BinaryOp.{BinaryOp}
+use Rattle.c_written.specs.declared.written.Tag.{Tag}
+use Rattle.c_written.specs.Written.{ExprTree, ExprTrees, SpecTree, SpecTrees, DeclaratorTree, DeclaratorTrees, MemberDeclTree, MemberDeclTrees, EnumeratorTree, EnumeratorTrees, ParamTree, ParamTrees}
+use Rattle.c_written.specs.WrittenDecl.{InitTree, InitTrees, InitDeclaratorTree, DeclTree}
+use Rattle.c_written.specs.WrittenFile.{StmtTree, BlockItemTree, BlockItemTrees, ForStartTree, OuterTree}
 
 -- where a token stands
 pub data Setting : Type 0 where

@@ -3,8 +3,8 @@
 #![tactic(auto)]
 
 ghost use Rattle.std.specs.Prelude.{◌≡◌, ◌⊎◌, List};
-ghost use Rattle.c_syntax.specs.declared.token.Placed.{Placed};
-ghost use Rattle.c_syntax.specs.WrittenFile.{FileTree};
+ghost use Rattle.c_written.specs.declared.token.Placed.{Placed};
+ghost use Rattle.c_written.specs.WrittenFile.{FileTree};
 ghost use Rattle.c_grammar.specs.Refused.{IsFile, IsRefused, Why};
 
 /// Tokens of which none is refused are one file at most.

@@ -2,8 +2,8 @@
 use Rattle.std.specs.Prelude.{◌-◌, ℕ, ℤ, pos, Bool, true, false, ◌&&◌, not, if◌then◌else◌, Option, Some, None, option_and_then, option_map, unwrap_or, List, [], ◌∷◌, ◌++◌, map, Contains, slice_get, codes}
 use Rattle.std.specs.List.{flat_map}
 use Rattle.std.specs.Str.{bytes_eq}
-use Rattle.c_syntax.specs.declared.place.Pos.{Pos}
-use Rattle.c_syntax.specs.declared.types.IntType.{IntType}
+use Rattle.c_written.specs.declared.place.Pos.{Pos}
+use Rattle.c_written.specs.declared.int_type.IntType.{IntType}
 use Rattle.c_syntax.specs.declared.alarm.Check.{Check}
 use Rattle.c_syntax.specs.declared.alarm.WrongKind.{WrongKind}
 use Rattle.c_syntax.specs.declared.alarm.WrongKind.TheVariants.{Overflow, DivideByZero, Quotient, ShiftAmount, ShiftResult, Indeterminate, Fragment, NullUse, Dangling, Bounds, Access, Alignment, ReadOnly, Unrelated, NoValue, AssertFailed}
@@ -26,7 +26,7 @@ use Rattle.c_syntax.specs.TypedExpr as exprs
 use Rattle.c_syntax.specs.TypedStmt.{TInitTree, Store, Copy, TStmtTree, Empty, Expr, Block, Declare, Static, If, While, DoWhile, For, Switch, Break, Continue, Goto, Return, Label, Case, Default, TStmtTrees, none, more}
 use Rattle.c_syntax.specs.TypedParts.{texpr_type, tlvalue_pos, tlvalue_type}
 use Rattle.c_syntax.specs.Program.{TFunctionTree, TProgramTree}
-use Rattle.c_layout.specs.Integer.{width, bytes, is_signed, least, greatest}
+use Rattle.c_written.specs.Integer.{width, bytes, is_signed, least, greatest}
 
 -- a check that uses no field but its kind
 abbrev pub plain_check : WrongKind → Check

@@ -1,4 +1,3 @@
-pub mod Integer
 pub mod Conversion
 pub mod Layout
 pub mod Rank

@@ -1,6 +1,6 @@
 -- Which expressions and statements of a typed program have the types that C asks for, and name what is there.
 use Rattle.std.specs.Prelude.{◌≡◌, ◌≢◌, ◌⊎◌, ◌≤◌, ℕ, ℤ, Bool, true, false, IsTrue, Option, Some, None, option_map, unwrap_or, IfSome, IsSomeAnd, List, [], ◌∷◌, ◌++◌, map, All, AllPairs, Contains, slice_get}
-use Rattle.c_syntax.specs.declared.types.IntType.{IntType}
+use Rattle.c_written.specs.declared.int_type.IntType.{IntType}
 use Rattle.c_syntax.specs.Types.{CTypeTree, Void, Array, Struct}
 use Rattle.c_syntax.specs.Types as types
 use Rattle.c_syntax.specs.TypedExpr.{TExprTree, Const, Null, Load, AddressOf, Decay, Whole, Unary, Binary, Convert, Assign, AssignStruct, Compound, Step, And, Or, Cond, Comma, Call, Any, Assume, Assert, TLvalueTree, Var, Deref, Member, TExprTrees}
@@ -8,7 +8,7 @@ use Rattle.c_syntax.specs.TypedExpr as exprs
 use Rattle.c_syntax.specs.TypedStmt.{TInitTree, Store, Copy, TStmtTree, Empty, Expr, Block, Declare, Static, If, While, DoWhile, For, Switch, Break, Continue, Goto, Return, Label, Case, Default, TStmtTrees, none, more}
 use Rattle.c_syntax.specs.TypedParts.{texpr_type, tlvalue_type, tlvalue_is_const}
 use Rattle.c_syntax.specs.Program.{TFunctionTree, TProgramTree}
-use Rattle.c_layout.specs.Integer.{HasNumber}
+use Rattle.c_written.specs.Integer.{HasNumber}
 use Rattle.c_layout.specs.RowTypes.{IsScalar, IsPointer, IsPromoted, UnaryRow, LogicalRow, BinaryRow, CondRow, StoreRow, CopyRow, CompoundRow, StepRow, DerefRow, MemberRow, ConvertRow}
 use Rattle.c_layout.specs.ProperTypes.{IsProperType, PartAt}
 use Rattle.c_layout.specs.Jumps.{cases_among, defaults_among}

@@ -3,7 +3,7 @@
 ghost use Rattle.std.specs.Prelude.{◌≡◌, ℕ, ◌+◌, ◌*◌, ◌^◌, ◌<◌, ◌≤◌, map, length, option_map, IfSome};
 ghost use Rattle.c_syntax.specs.Types.{ctype_tree};
 ghost use Rattle.c_syntax.specs.Program.{member_tree, structdef_tree};
-ghost use Rattle.c_layout.specs.Integer as integer;
+ghost use Rattle.c_written.specs.Integer as integer;
 ghost use Rattle.c_layout.specs.Layout as layout;
 ghost use Rattle.c_layout.specs.Layout.{align_in, offset_named, padded, size_in, sized, space_by, spaces_by, strictest, struct_space, struct_within};
 ghost use Rattle.c_layout.specs.Kept.{IsKept, element, element_count, element_space, kept};

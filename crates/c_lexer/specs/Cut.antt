@@ -1,12 +1,12 @@
 -- The cut of a text into tokens (C11 5.1.1.2 phase 3, and 6.4), a relation on the whole text.
 use Rattle.std.specs.Prelude.{◌≡◌, ◌≢◌, ◌⊎◌, ℕ, ◌+◌, ◌-◌, ◌<◌, ◌≤◌, ◌==◌, if◌then◌else◌, List, [], ◌∷◌, ◌++◌, map, length, slice_index, codes, AllPairs, Option, Some}
-use Rattle.c_syntax.specs.declared.place.Pos.{Pos}
-use Rattle.c_syntax.specs.declared.token.Keyword.{Keyword}
-use Rattle.c_syntax.specs.declared.token.Punctuator.{Punctuator}
-use Rattle.c_syntax.specs.declared.token.Token.{Token}
-use Rattle.c_syntax.specs.declared.token.Token.TheVariants as kinds
-use Rattle.c_syntax.specs.declared.token.Placed.{Placed}
-use Rattle.c_syntax.specs.declared.token.Tokens.{Tokens}
+use Rattle.c_written.specs.declared.place.Pos.{Pos}
+use Rattle.c_written.specs.declared.token.Keyword.{Keyword}
+use Rattle.c_written.specs.declared.token.Punctuator.{Punctuator}
+use Rattle.c_written.specs.declared.token.Token.{Token}
+use Rattle.c_written.specs.declared.token.Token.TheVariants as kinds
+use Rattle.c_written.specs.declared.token.Placed.{Placed}
+use Rattle.c_written.specs.declared.token.Tokens.{Tokens}
 use Rattle.c_lexer.specs.Spelling.{keyword_text, punctuator_text, IsConstant, IsLiteral, IsOneCharacter, char_value}
 
 -- a letter or the underscore (C11 6.4.2.1)

@@ -1,10 +1,10 @@
 // Keywords.
 
 ghost use Rattle.std.specs.Prelude.{◌≡◌, ◌≢◌, MatchOption};
-ghost use Rattle.c_syntax.specs.declared.token.Keyword.{Keyword};
+ghost use Rattle.c_written.specs.declared.token.Keyword.{Keyword};
 ghost use Rattle.c_lexer.specs.Spelling.{keyword_text};
 
-use c_syntax::Keyword;
+use c_written::Keyword;
 
 /// The keyword that a word is, where it is one.
 pub fn keyword(spelling: &[u8]) -> Option<Keyword>

@@ -1,12 +1,12 @@
 -- What the descent's end tells of a file.
 use Rattle.std.proofs.Common.{◌≡◌, ℕ, List, [], ◌∷◌, ◌++◌, length, refl, sym, ap, ◌∙◌, subst, ◌⊎◌, inl, inr, Bor}
 use Rattle.std.specs.Prelude.{true, false, ◌==◌, map, Result, Ok, Err, MatchResult, IsErrAnd}
-use Rattle.c_syntax.specs.declared.construct.Construct.{Construct}
-use Rattle.c_syntax.specs.declared.file.Outer.{Outer}
-use Rattle.c_syntax.specs.declared.place.Pos.{Pos}
-use Rattle.c_syntax.specs.declared.token.Placed.{Placed}
-use Rattle.c_syntax.specs.declared.token.Tokens.{Tokens}
-use Rattle.c_syntax.specs.WrittenFile.{OuterTree, FileTree, outer_tree}
+use Rattle.c_written.specs.declared.construct.Construct.{Construct}
+use Rattle.c_written.specs.declared.file.Outer.{Outer}
+use Rattle.c_written.specs.declared.place.Pos.{Pos}
+use Rattle.c_written.specs.declared.token.Placed.{Placed}
+use Rattle.c_written.specs.declared.token.Tokens.{Tokens}
+use Rattle.c_written.specs.WrittenFile.{OuterTree, FileTree, outer_tree}
 use Rattle.c_grammar.specs.Parts as parts
 use Rattle.c_grammar.specs.Parts.{AtFile, Scene, AnOuter, Outers}
 use Rattle.c_grammar.specs.Process.{give, part}

@@ -1,9 +1,9 @@
 -- What an error tells of the tokens.
 use Rattle.std.specs.Prelude.{◌≡◌, List, [], ◌∷◌}
-use Rattle.c_syntax.specs.declared.place.Pos.{Pos}
-use Rattle.c_syntax.specs.declared.construct.Construct.{Construct}
-use Rattle.c_syntax.specs.declared.token.Placed.{Placed}
-use Rattle.c_syntax.specs.declared.token.Tokens.{Tokens}
+use Rattle.c_written.specs.declared.place.Pos.{Pos}
+use Rattle.c_written.specs.declared.construct.Construct.{Construct}
+use Rattle.c_written.specs.declared.token.Placed.{Placed}
+use Rattle.c_written.specs.declared.token.Tokens.{Tokens}
 use Rattle.c_grammar.specs.Refused.{Why, Syntax, Unsupported, TooDeep, IsRefused}
 use Rattle.c_descent.specs.declared.fault.Fault.{Fault}
 use Rattle.c_descent.specs.declared.fault.Fault.TheVariants as faults

@@ -1,5 +1,5 @@
 //! The tokens of a C file into a tree, or the first of them that is refused.
-#![tactic(auto, using(c_syntax::proofs::Trees::the_trees))]
+#![tactic(auto, using(c_written::proofs::Trees::the_written_trees))]
 
 mod outer;
 mod parsing;

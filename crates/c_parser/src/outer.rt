@@ -1,9 +1,9 @@
 // The declarations of a file.
 
 ghost use Rattle.std.specs.Prelude.{◌≡◌, ℕ, ◌+◌, ◌<◌, ◌≤◌, ◌++◌, true, List, length, map, IfOk};
-ghost use Rattle.c_syntax.specs.Written.{declarator_tree, spec_tree, specs_from, specs_tree};
-ghost use Rattle.c_syntax.specs.WrittenDecl.{initdeclarator_tree};
-ghost use Rattle.c_syntax.specs.WrittenFile.{outer_tree};
+ghost use Rattle.c_written.specs.Written.{declarator_tree, spec_tree, specs_from, specs_tree};
+ghost use Rattle.c_written.specs.WrittenDecl.{initdeclarator_tree};
+ghost use Rattle.c_written.specs.WrittenFile.{outer_tree};
 ghost use Rattle.c_grammar.specs.Made.{declared_words, has_typedef, is_typedef, new_types};
 ghost use Rattle.c_grammar.specs.Parts as part;
 ghost use Rattle.c_grammar.specs.Refused.{first_is, is_brace};
@@ -13,7 +13,7 @@ ghost use Rattle.c_descent.specs.Views.{scene_of};
 use c_descent::{Class, Context, Fault, Mark, Role, comes, declared_word, specs_pos, taken};
 use c_exprs::{declarator, specs};
 use c_stmts::{block_items, initial, no_declarators};
-use c_syntax::{
+use c_written::{
     Declarator, InitDeclarator, Name, Outer, Placed, Punctuator, Spec, Specs, StorageWord,
 };
 use std::alloc::{AllocError, Global};

@@ -1,8 +1,8 @@
 // The whole of a file.
 
 ghost use Rattle.std.specs.Prelude.{◌≡◌, ◌⊎◌, ℕ, ◌<◌, List, [], map, length, IfOk, IfErr, MatchResult};
-ghost use Rattle.c_syntax.specs.WrittenFile.{FileTree, file_tree, outer_tree};
-ghost use Rattle.c_syntax.specs.declared.token.Placed.{Placed};
+ghost use Rattle.c_written.specs.WrittenFile.{FileTree, file_tree, outer_tree};
+ghost use Rattle.c_written.specs.declared.token.Placed.{Placed};
 ghost use Rattle.c_grammar.specs.Refused.{IsFile, IsRefused, Why};
 ghost use Rattle.c_parser.specs.Refusals.{IsError, IsErrorOf, TellsRefused, place_of};
 ghost use Rattle.c_grammar.specs.Parts as part;
@@ -13,7 +13,7 @@ ghost use Rattle.c_parser.specs.declared.parsing.ParseError.TheVariants.{NoMemor
 
 use crate::outer::{outer, push_types};
 use c_descent::{Context, Fault, Setting};
-use c_syntax::{Construct, File, Name, Outer, Outers, Placed, Pos, Tokens};
+use c_written::{Construct, File, Name, Outer, Outers, Placed, Pos, Tokens};
 use std::alloc::Global;
 use thiserror::Error;
 

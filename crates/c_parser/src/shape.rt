@@ -1,6 +1,6 @@
 // The shapes of trees, as text. Each call counts its depth down, so that it ends.
 
-use c_syntax::{
+use c_written::{
     BlockItem, Decl, Declarator, Enumerator, Expr, File, ForStart, Init, MemberDecl, Name, Outer,
     Param, Spec, Stmt, StepWay, Tag,
 };

@@ -3,7 +3,7 @@
 use crate::shape;
 use crate::{ParseError, parse};
 use c_lexer::lex;
-use c_syntax::Pos;
+use c_written::Pos;
 use std::alloc::Global;
 use std::test::Fail;
 

@@ -1,16 +1,16 @@
 -- Trees of declarations that the code makes.
 use Rattle.std.proofs.Common.{◌≡◌, ap, ◌∙◌}
-use Rattle.c_syntax.specs.declared.place.Pos.{Pos}
-use Rattle.c_syntax.specs.declared.written.Specs.{Specs}
-use Rattle.c_syntax.specs.declared.written.Declarator.{Declarator}
-use Rattle.c_syntax.specs.declared.file.BlockItems.{BlockItems}
-use Rattle.c_syntax.specs.declared.file.Outer.TheVariants as outers
+use Rattle.c_written.specs.declared.place.Pos.{Pos}
+use Rattle.c_written.specs.declared.written.Specs.{Specs}
+use Rattle.c_written.specs.declared.written.Declarator.{Declarator}
+use Rattle.c_written.specs.declared.file.BlockItems.{BlockItems}
+use Rattle.c_written.specs.declared.file.Outer.TheVariants as outers
 use Rattle.std.specs.Prelude.{List}
-use Rattle.c_syntax.specs.Written.{SpecTrees, specs_tree, declarator_tree}
-use Rattle.c_syntax.specs.WrittenDecl.{DeclTree, InitDeclaratorTree}
-use Rattle.c_syntax.specs.WrittenFile.{blockitems_tree, outer_tree}
-use Rattle.c_syntax.specs.WrittenFile as trees
-use Rattle.c_syntax.proofs.WrittenFileTrees.{outer_function}
+use Rattle.c_written.specs.Written.{SpecTrees, specs_tree, declarator_tree}
+use Rattle.c_written.specs.WrittenDecl.{DeclTree, InitDeclaratorTree}
+use Rattle.c_written.specs.WrittenFile.{blockitems_tree, outer_tree}
+use Rattle.c_written.specs.WrittenFile as trees
+use Rattle.c_written.proofs.WrittenFileTrees.{outer_function}
 use Rattle.c_grammar.specs.Made.{specs_pos}
 
 abbrev decl_of : Pos → SpecTrees → List InitDeclaratorTree → DeclTree

@@ -1,14 +1,14 @@
 -- Which production the descent takes where the first token is known.
 use Rattle.std.proofs.Common.{◌≡◌, ℕ, Bool, true, false, List, [], ◌∷◌, refl, sym, ap, ◌∙◌, subst}
 use Rattle.std.specs.Prelude.{if◌then◌else◌, Option, Some, None}
-use Rattle.c_syntax.specs.declared.construct.Construct.{Construct}
-use Rattle.c_syntax.specs.declared.token.Placed.{Placed}
-use Rattle.c_syntax.specs.declared.token.Keyword.{Keyword}
-use Rattle.c_syntax.specs.declared.token.Keyword.TheVariants as keywords
-use Rattle.c_syntax.specs.declared.token.Punctuator.{Punctuator}
-use Rattle.c_syntax.specs.declared.token.Punctuator.TheVariants as signs
-use Rattle.c_syntax.specs.declared.token.Token.{Token}
-use Rattle.c_syntax.specs.declared.token.Token.TheVariants as kinds
+use Rattle.c_written.specs.declared.construct.Construct.{Construct}
+use Rattle.c_written.specs.declared.token.Placed.{Placed}
+use Rattle.c_written.specs.declared.token.Keyword.{Keyword}
+use Rattle.c_written.specs.declared.token.Keyword.TheVariants as keywords
+use Rattle.c_written.specs.declared.token.Punctuator.{Punctuator}
+use Rattle.c_written.specs.declared.token.Punctuator.TheVariants as signs
+use Rattle.c_written.specs.declared.token.Token.{Token}
+use Rattle.c_written.specs.declared.token.Token.TheVariants as kinds
 use Rattle.c_grammar.specs.Parts.{Scene, Part, AStmt, Statement, Value}
 use Rattle.c_grammar.specs.Process.{Process}
 use Rattle.c_grammar.specs.Grammar.{Produces, file_rule}

@@ -2,14 +2,14 @@
 -- by part.
 use Rattle.std.proofs.Common.{◌≡◌, ℕ, ◌+◌, List, [], ◌∷◌, ◌++◌, refl, sym, ap, ◌∙◌, subst, Bor, arith}
 use Rattle.std.specs.Prelude.{Bool, true, Option, Some, None, Result, Ok, Err, IsErrAnd, option_map}
-use Rattle.c_syntax.specs.declared.construct.Construct.{Construct}
-use Rattle.c_syntax.specs.declared.token.Placed.{Placed}
-use Rattle.c_syntax.specs.declared.written.Expr.{Expr}
-use Rattle.c_syntax.specs.declared.token.Punctuator.{Punctuator}
-use Rattle.c_syntax.specs.declared.declaration.Init.{Init}
-use Rattle.c_syntax.specs.Written.{ExprTree, expr_tree, SpecTrees, DeclaratorTree}
-use Rattle.c_syntax.specs.WrittenDecl.{InitTrees, InitDeclaratorTree, DeclTree, init_tree}
-use Rattle.c_syntax.specs.WrittenFile.{BlockItemTrees, OuterTree}
+use Rattle.c_written.specs.declared.construct.Construct.{Construct}
+use Rattle.c_written.specs.declared.token.Placed.{Placed}
+use Rattle.c_written.specs.declared.written.Expr.{Expr}
+use Rattle.c_written.specs.declared.token.Punctuator.{Punctuator}
+use Rattle.c_written.specs.declared.declaration.Init.{Init}
+use Rattle.c_written.specs.Written.{ExprTree, expr_tree, SpecTrees, DeclaratorTree}
+use Rattle.c_written.specs.WrittenDecl.{InitTrees, InitDeclaratorTree, DeclTree, init_tree}
+use Rattle.c_written.specs.WrittenFile.{BlockItemTrees, OuterTree}
 use Rattle.c_grammar.specs.Parts.{Scene, DeclPart, Initial, Ending, Part, ADecl, Items, MoreInitialisers, NextInitialiser, Outers, Value}
 use Rattle.c_grammar.specs.Classes.{Class, sign}
 use Rattle.c_grammar.specs.Process.{Process, give, token, part, only}

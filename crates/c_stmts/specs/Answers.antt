@@ -1,10 +1,10 @@
 -- What functions of the descent through declarations returned.
 use Rattle.std.specs.Prelude.{ℕ, List, [], ◌∷◌, ◌++◌, Option, option_map, Result}
 use Rattle.std.proofs.Common.{Bor}
-use Rattle.c_syntax.specs.declared.token.Placed.{Placed}
-use Rattle.c_syntax.specs.declared.declaration.Init.{Init}
-use Rattle.c_syntax.specs.Written.{SpecTrees, DeclaratorTree}
-use Rattle.c_syntax.specs.WrittenDecl.{InitDeclaratorTree, init_tree}
+use Rattle.c_written.specs.declared.token.Placed.{Placed}
+use Rattle.c_written.specs.declared.declaration.Init.{Init}
+use Rattle.c_written.specs.Written.{SpecTrees, DeclaratorTree}
+use Rattle.c_written.specs.WrittenDecl.{InitDeclaratorTree, init_tree}
 use Rattle.c_grammar.specs.Parts.{Scene, Initial, Ending, ADecl}
 use Rattle.c_grammar.specs.Descent.{Goes}
 use Rattle.c_descent.specs.declared.fault.Fault.{Fault}

@@ -1,14 +1,14 @@
 -- What kind of statement comes, and how its head is read.
 use Rattle.std.specs.Prelude.{◌≡◌, ℕ, Bool, true, false, List, [], ◌∷◌, Result, Ok, Err}
 use Rattle.std.proofs.Common.{Bor}
-use Rattle.c_syntax.specs.declared.token.Keyword.{Keyword}
-use Rattle.c_syntax.specs.declared.token.Keyword.TheVariants as keywords
-use Rattle.c_syntax.specs.declared.token.Placed.{Placed}
-use Rattle.c_syntax.specs.declared.token.Punctuator.TheVariants as signs
-use Rattle.c_syntax.specs.declared.token.Token.{Token}
-use Rattle.c_syntax.specs.declared.token.Token.TheVariants as kinds
-use Rattle.c_syntax.specs.declared.written.Expr.{Expr}
-use Rattle.c_syntax.specs.Written.{ExprTree, expr_tree}
+use Rattle.c_written.specs.declared.token.Keyword.{Keyword}
+use Rattle.c_written.specs.declared.token.Keyword.TheVariants as keywords
+use Rattle.c_written.specs.declared.token.Placed.{Placed}
+use Rattle.c_written.specs.declared.token.Punctuator.TheVariants as signs
+use Rattle.c_written.specs.declared.token.Token.{Token}
+use Rattle.c_written.specs.declared.token.Token.TheVariants as kinds
+use Rattle.c_written.specs.declared.written.Expr.{Expr}
+use Rattle.c_written.specs.Written.{ExprTree, expr_tree}
 use Rattle.c_grammar.specs.Parts.{Scene, Closing, by_semicolon, by_parenthesis, AnExpr, Part, Value}
 use Rattle.c_grammar.specs.Ahead.{label_ahead}
 use Rattle.c_grammar.specs.Classes.{sign}

@@ -1,8 +1,8 @@
 // Declarations.
 
 ghost use Rattle.std.specs.Prelude.{◌≡◌, ℕ, ◌+◌, ◌<◌, ◌≤◌, true, List, [], ◌∷◌, ◌++◌, length, map, IfOk};
-ghost use Rattle.c_syntax.specs.Written.{declarator_tree, specs_tree};
-ghost use Rattle.c_syntax.specs.WrittenDecl.{decl_tree, initdeclarator_tree};
+ghost use Rattle.c_written.specs.Written.{declarator_tree, specs_tree};
+ghost use Rattle.c_written.specs.WrittenDecl.{decl_tree, initdeclarator_tree};
 ghost use Rattle.c_grammar.specs.Choice.{is_semicolon};
 ghost use Rattle.c_grammar.specs.Made.{specs_pos};
 ghost use Rattle.c_grammar.specs.Parts as part;
@@ -14,7 +14,7 @@ ghost use Rattle.c_stmts.specs.Answers.{Initialised};
 use crate::init::initialiser;
 use c_descent::{Class, Context, Fault, Mark, Role, comes, specs_pos, taken};
 use c_exprs::{declarator, specs};
-use c_syntax::{Decl, Declarator, Init, InitDeclarator, InitDeclarators, Placed, Punctuator, Specs};
+use c_written::{Decl, Declarator, Init, InitDeclarator, InitDeclarators, Placed, Punctuator, Specs};
 use std::alloc::{AllocError, Global};
 
 /// A declaration in a block or a `for`.

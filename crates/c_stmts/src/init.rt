@@ -1,7 +1,7 @@
 // Initialisers.
 
 ghost use Rattle.std.specs.Prelude.{◌≡◌, ℕ, ◌+◌, ◌<◌, ◌≤◌, true, List, length, IfOk};
-ghost use Rattle.c_syntax.specs.WrittenDecl.{init_tree, inits_from, inits_then, inits_tree, more_inits, no_inits};
+ghost use Rattle.c_written.specs.WrittenDecl.{init_tree, inits_from, inits_then, inits_tree, more_inits, no_inits};
 ghost use Rattle.c_grammar.specs.Choice.{is_right_brace};
 ghost use Rattle.c_grammar.specs.Parts as part;
 ghost use Rattle.c_grammar.specs.Refused.{first_is, is_brace};
@@ -10,7 +10,7 @@ ghost use Rattle.c_descent.specs.Views.{scene_of};
 
 use c_descent::{Class, Context, Fault, Mark, barred, comes, designator_ahead, taken};
 use c_exprs::{assignment};
-use c_syntax::{Construct, Init, Inits, Placed, Punctuator};
+use c_written::{Construct, Init, Inits, Placed, Punctuator};
 use std::alloc::{AllocError, Global};
 
 /// An initialiser.

@@ -1,5 +1,5 @@
 //! The descent through declarations and statements.
-#![tactic(auto, using(c_syntax::proofs::Trees::the_trees))]
+#![tactic(auto, using(c_written::proofs::Trees::the_written_trees))]
 
 mod decl;
 mod init;

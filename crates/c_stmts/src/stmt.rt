@@ -1,8 +1,8 @@
 // Statements and blocks.
 
 ghost use Rattle.std.specs.Prelude.{◌≡◌, ℕ, ◌+◌, ◌<◌, ◌≤◌, Bool, true, not, ◌&&◌, List, length, IfOk};
-ghost use Rattle.c_syntax.specs.Written.{expr_tree};
-ghost use Rattle.c_syntax.specs.WrittenFile.{blockitem_tree, blockitems_from, blockitems_tree, none, stmt_tree};
+ghost use Rattle.c_written.specs.Written.{expr_tree};
+ghost use Rattle.c_written.specs.WrittenFile.{blockitem_tree, blockitems_from, blockitems_tree, none, stmt_tree};
 ghost use Rattle.c_grammar.specs.Ahead.{label_ahead};
 ghost use Rattle.c_grammar.specs.Choice.{is_else_word};
 ghost use Rattle.c_grammar.specs.FileRules.{block_scene};
@@ -25,7 +25,7 @@ use crate::stmt_leaf::{
 };
 use c_descent::{Class, Context, Fault, Mark, Setting, comes, label_ahead, name_of, spec_ahead, taken};
 use c_exprs::{conditional};
-use c_syntax::{BlockItem, BlockItems, Expr, Keyword, Placed, Pos, Punctuator, Stmt};
+use c_written::{BlockItem, BlockItems, Expr, Keyword, Placed, Pos, Punctuator, Stmt};
 
 /// A statement, which is that of a switch where `switched`.
 #[cycle(statements)]

@@ -1,12 +1,12 @@
 // What kind of statement comes.
 
 ghost use Rattle.std.specs.Prelude.{◌≡◌};
-ghost use Rattle.c_syntax.specs.WrittenFile.{stmt_tree};
+ghost use Rattle.c_written.specs.WrittenFile.{stmt_tree};
 ghost use Rattle.c_grammar.specs.Made.{ends_open};
 ghost use Rattle.c_stmts.specs.Kinds.{statement_at, statement_of, statement_of_word};
 
 use c_descent::{first};
-use c_syntax::{Keyword, Placed, Punctuator, Stmt, Token};
+use c_written::{Keyword, Placed, Punctuator, Stmt, Token};
 
 /// What a statement is by its first token, where it is no labelled one.
 #[derive(Clone, Copy, Debug, PartialEq, Eq)]
@@ -71,7 +71,7 @@ fn statement_of_word(keyword: Keyword) -> StatementKind
 }
 
 /// Whether an if without else ends the statement.
-#[tactic(auto, using(c_syntax::proofs::Trees::the_trees), unfolding(c_grammar::specs::Made::ends_open))]
+#[tactic(auto, using(c_written::proofs::Trees::the_written_trees), unfolding(c_grammar::specs::Made::ends_open))]
 pub fn ends_open(stmt: &Stmt) -> bool
     ensures { result ≡ ends_open (stmt_tree stmt.now) }
 {

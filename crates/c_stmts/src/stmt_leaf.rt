@@ -1,8 +1,8 @@
 // Statements that hold no other, and the heads of those that do.
 
 ghost use Rattle.std.specs.Prelude.{◌≡◌, ℕ, ◌+◌, ◌<◌, ◌≤◌, Bool, List, length, option_map, IfOk};
-ghost use Rattle.c_syntax.specs.Written.{expr_tree};
-ghost use Rattle.c_syntax.specs.WrittenFile.{forstart_tree, stmt_tree};
+ghost use Rattle.c_written.specs.Written.{expr_tree};
+ghost use Rattle.c_written.specs.WrittenFile.{forstart_tree, stmt_tree};
 ghost use Rattle.c_grammar.specs.Parts as part;
 ghost use Rattle.c_descent.specs.Answers.{Answers};
 ghost use Rattle.c_descent.specs.Views.{scene_of};
@@ -15,7 +15,7 @@ ghost use Rattle.c_descent.specs.Views.{mark_test};
 use crate::decl::declaration;
 use c_descent::{Class, Context, Fault, Level, Mark, comes, name_of, spec_ahead, taken};
 use c_exprs::{run};
-use c_syntax::{Expr, ForStart, Keyword, Placed, Punctuator, Stmt};
+use c_written::{Expr, ForStart, Keyword, Placed, Punctuator, Stmt};
 
 /// What ends an expression that may be missing.
 #[derive(Clone, Copy, Debug, PartialEq, Eq)]

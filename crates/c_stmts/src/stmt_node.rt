@@ -1,10 +1,10 @@
 // Nodes of statements.
 
 ghost use Rattle.std.specs.Prelude.{◌≡◌, option_map, IfOk};
-ghost use Rattle.c_syntax.specs.Written.{expr_tree};
-ghost use Rattle.c_syntax.specs.WrittenFile.{blockitem_tree, blockitems_from, blockitems_then, forstart_tree, stmt_tree, Case, Default, DoWhile, For, If, IfElse, Label, Switch, While};
+ghost use Rattle.c_written.specs.Written.{expr_tree};
+ghost use Rattle.c_written.specs.WrittenFile.{blockitem_tree, blockitems_from, blockitems_then, forstart_tree, stmt_tree, Case, Default, DoWhile, For, If, IfElse, Label, Switch, While};
 
-use c_syntax::{BlockItem, Expr, ForStart, Name, Pos, Stmt};
+use c_written::{BlockItem, Expr, ForStart, Name, Pos, Stmt};
 use std::alloc::{AllocError, Global};
 
 pub fn label_stmt(

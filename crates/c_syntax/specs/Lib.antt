@@ -3,11 +3,6 @@ pub mod TypedExpr
 pub mod TypedStmt
 pub mod TypedParts
 pub mod Program
-pub mod Written
-pub mod WrittenDecl
-pub mod WrittenFile
-pub mod WrittenParts
 pub mod Operand
 pub mod Admission
 pub mod Fact
-pub mod Constant

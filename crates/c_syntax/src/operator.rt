@@ -72,13 +72,6 @@ pub enum Stride {
     Element(u64),
 }
 
-/// The way of a step: `++` or `--`.
-#[derive(Clone, Copy, Debug, PartialEq, Eq)]
-pub enum StepWay {
-    Up,
-    Down,
-}
-
 /// Whether a step stands before its operand, and gives the new value, or after it, and gives the
 /// old one.
 #[derive(Clone, Copy, Debug, PartialEq, Eq)]

@@ -6,16 +6,16 @@ ghost use Rattle.c_syntax.specs.TypedExpr.{more, none, texpr_tree, texprs_from, 
 ghost use Rattle.c_syntax.specs.TypedExpr as typed;
 ghost use Rattle.c_syntax.specs.TypedStmt.{tinit_tree, tstmt_tree, tstmts_from, tstmts_tree};
 ghost use Rattle.c_syntax.specs.TypedStmt as stmts;
-ghost use Rattle.c_syntax.specs.Written.{declarator_tree, expr_tree, more_params, more_specs, no_params, no_specs, spec_tree, specs_tree};
-ghost use Rattle.c_syntax.specs.Written as written;
-ghost use Rattle.c_syntax.specs.WrittenDecl.{decl_tree};
-ghost use Rattle.c_syntax.specs.WrittenFile.{blockitems_tree, stmt_tree};
-ghost use Rattle.c_syntax.specs.WrittenFile as files;
+ghost use Rattle.c_written.specs.Written.{declarator_tree, expr_tree, more_params, more_specs, no_params, no_specs, spec_tree, specs_tree};
+ghost use Rattle.c_written.specs.Written as written;
+ghost use Rattle.c_written.specs.WrittenDecl.{decl_tree};
+ghost use Rattle.c_written.specs.WrittenFile.{blockitems_tree, stmt_tree};
+ghost use Rattle.c_written.specs.WrittenFile as files;
 ghost use Rattle.c_syntax.specs.declared.operator.Arithmetic.TheVariants as arithmetics;
 ghost use Rattle.c_syntax.specs.declared.operator.TBinaryOp.TheVariants as binaries;
 ghost use Rattle.c_syntax.specs.declared.statement.BlockKind.TheVariants as kinds;
-ghost use Rattle.c_syntax.specs.declared.types.IntType.TheVariants as ints;
-ghost use Rattle.c_syntax.specs.declared.written.TypeWord.TheVariants as words;
+ghost use Rattle.c_written.specs.declared.int_type.IntType.TheVariants as ints;
+ghost use Rattle.c_written.specs.declared.written.TypeWord.TheVariants as words;
 
 use crate::{
     Arithmetic, BlockItem, BlockItems, BlockKind, CType, Decl, Declarator, Expr, File, Init,
@@ -109,63 +109,6 @@ fn body(alloc: Global, pos: Pos, value: TExpr, other: TExpr) -> Result<TStmt, No
     })
 }
 
-/// `(int) operand`
-fn cast(alloc: Global, pos: Pos, operand: Box<Expr>) -> Result<Expr, NoMemory>
-    ensures { IfOk result (λ e. expr_tree e ≡
-        written.Cast pos (more_specs (written.Basic pos words.Int) no_specs) written.Absent (expr_tree operand.value)) }
-{
-    let mut items = Vec::new(alloc);
-    items.push(Spec::Basic {
-        pos,
-        word: TypeWord::Int,
-    })?;
-    let declarator = Box::new(alloc, Declarator::Absent)?;
-    Ok(Expr::Cast {
-        pos,
-        specs: Specs::from_vec(items),
-        declarator,
-        operand,
-    })
-}
-
-/// A declarator of a function with one parameter.
-fn taking(
-    alloc: Global,
-    pos: Pos,
-    inner: Box<Declarator>,
-    specs: Specs,
-    declarator: Declarator,
-) -> Result<Declarator, NoMemory>
-    ensures { IfOk result (λ d. declarator_tree d ≡ written.Function pos (declarator_tree inner.value)
-        (more_params (written.Named pos (specs_tree specs) (declarator_tree declarator)) no_params)) }
-{
-    let mut items = Vec::new(alloc);
-    items.push(Param::Named {
-        pos,
-        specs,
-        declarator,
-    })?;
-    Ok(Declarator::Function {
-        pos,
-        inner,
-        params: Params::from_vec(items),
-    })
-}
-
-/// A block of a declaration and a statement.
-fn block(alloc: Global, pos: Pos, decl: Decl, stmt: Stmt) -> Result<Stmt, NoMemory>
-    ensures { IfOk result (λ s. stmt_tree s ≡
-        files.Block pos (files.more (files.Declaration (decl_tree decl)) (files.more (files.Statement (stmt_tree stmt)) files.none))) }
-{
-    let mut items = Vec::new(alloc);
-    items.push(BlockItem::Declaration(decl))?;
-    items.push(BlockItem::Statement(stmt))?;
-    Ok(Stmt::Block {
-        pos,
-        items: BlockItems::from_vec(items),
-    })
-}
-
 fn at(col: u32) -> Pos {
     Pos {
         file: 0,
@@ -229,46 +172,5 @@ fn a_program_is_built(rt: HostRuntime) -> Result<(), Fail> {
     assert_eq!(rt; program.functions.as_slice().len(), 1);
     let TProgram { functions, .. } = program;
     assert_eq!(rt; functions.into_vec().len(), 1);
-    Ok(())
-}
-
-#[test]
-fn a_file_is_built(rt: HostRuntime) -> Result<(), Fail> {
-    let alloc = rt.alloc();
-    let name = named(alloc)?;
-    let word = Box::new(alloc, Expr::Word { pos: at(9), name })?;
-    let value = cast(alloc, at(4), word)?;
-    assert_eq!(rt; value.pos(), at(4));
-    let init = Init::Value { value };
-    assert_eq!(rt; init.pos(), at(4));
-    let name = named(alloc)?;
-    let mut inits = Vec::new(alloc);
-    inits.push(InitDeclarator {
-        declarator: Declarator::Name { pos: at(2), name },
-        init: Some(init),
-    })?;
-    let decl = Decl {
-        pos: at(1),
-        specs: Specs::from_vec(Vec::new(alloc)),
-        inits: InitDeclarators::from_vec(inits),
-    };
-    let stmt = block(alloc, at(6), decl, Stmt::Empty { pos: at(7) })?;
-    assert_eq!(rt; stmt.pos(), at(6));
-    let mut items = Vec::new(alloc);
-    items.push(BlockItem::Statement(stmt))?;
-    let inner = Box::new(alloc, Declarator::Absent)?;
-    let specs = Specs::from_vec(Vec::new(alloc));
-    let mut outers = Vec::new(alloc);
-    outers.push(Outer::Function {
-        pos: at(1),
-        specs: Specs::from_vec(Vec::new(alloc)),
-        declarator: taking(alloc, at(8), inner, specs, Declarator::Absent)?,
-        brace: at(5),
-        body: BlockItems::from_vec(items),
-    })?;
-    let file = File {
-        outers: Outers::from_vec(outers),
-    };
-    assert_eq!(rt; file.outers.as_slice().len(), 1);
     Ok(())
 }

@@ -3,25 +3,8 @@
 ghost use Rattle.std.specs.Prelude.{◌≡◌, ◌↔◌, IfOk, IsTrue};
 ghost use Rattle.c_syntax.specs.Types.{ctype_tree};
 
-use crate::{Name, Pos};
+use crate::{IntType, Name, Pos};
 use std::alloc::{AllocError as NoMemory, Global};
-
-/// The integer types of this profile: char is signed and has 8 bits, short 16, int 32, long and
-/// long long 64.
-#[derive(Clone, Copy, Debug, PartialEq, Eq)]
-pub enum IntType {
-    Char,
-    SChar,
-    UChar,
-    Short,
-    UShort,
-    Int,
-    UInt,
-    Long,
-    ULong,
-    LLong,
-    ULLong,
-}
 
 /// A type. A struct and a function go by their numbers in the program.
 #[cycle(types)]

@@ -1,5 +1,5 @@
 use crate::*;
-use c_syntax::Numbers;
+use c_written::Numbers;
 use std::alloc::{AllocError, Global};
 use std::{fs, io};
 

@@ -5,7 +5,7 @@ use Rattle.std.specs.Ordering.{int_eq}
 use Rattle.std.proofs.lemmas.Int.{ints}
 use Rattle.std.proofs.lemmas.List.Quantifiers.{Any-push}
 use Rattle.std.proofs.lemmas.List.Elements.{All-push}
-use Rattle.c_syntax.specs.declared.place.Pos.{Pos}
+use Rattle.c_written.specs.declared.place.Pos.{Pos}
 use Rattle.c_syntax.specs.declared.alarm.WrongKind.{WrongKind}
 use Rattle.c_syntax.specs.declared.alarm.WrongKind.TheVariants.{Overflow, DivideByZero, Quotient}
 use Rattle.c_syntax.specs.declared.alarm.Check.{Check}

@@ -1,7 +1,7 @@
 -- From the cut and the file of its tokens to the program, and from the alarms to the report.
 use Rattle.std.proofs.Common.{arith, ◌≡◌, ◌≤◌, List, ℕ, [], length, Option, Some, None, refl, sym, ap, subst, ◌∙◌}
 use Rattle.std.specs.Prelude.{MatchOption, IfSome, All, AllPairs}
-use Rattle.c_syntax.specs.declared.token.Tokens.{Tokens}
+use Rattle.c_written.specs.declared.token.Tokens.{Tokens}
 use Rattle.c_syntax.specs.declared.alarm.Alarm.{Alarm}
 use Rattle.c_lexer.specs.Cut.{IsCut}
 use Rattle.intervals.specs.declared.Interval.{Interval}

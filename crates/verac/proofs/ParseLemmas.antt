@@ -1,11 +1,11 @@
 -- From the code's answers to the descent.
 use Rattle.std.proofs.Common.{◌≡◌, ◌<◌, List, length, sym, ap, ◌∙◌, subst, Bor, MatchOption, IfOk, IfSome}
 use Rattle.std.specs.Prelude.{ℕ, Option, Some, None, Result, Ok, Err}
-use Rattle.c_syntax.specs.declared.place.Pos.{Pos}
-use Rattle.c_syntax.specs.declared.token.Placed.{Placed}
-use Rattle.c_syntax.specs.declared.token.Token.TheVariants as tokens
-use Rattle.c_syntax.specs.declared.token.Punctuator.{Punctuator}
-use Rattle.c_syntax.specs.declared.token.Punctuator.TheVariants as marks
+use Rattle.c_written.specs.declared.place.Pos.{Pos}
+use Rattle.c_written.specs.declared.token.Placed.{Placed}
+use Rattle.c_written.specs.declared.token.Token.TheVariants as tokens
+use Rattle.c_written.specs.declared.token.Punctuator.{Punctuator}
+use Rattle.c_written.specs.declared.token.Punctuator.TheVariants as marks
 use Rattle.verac.specs.declared.tree.Operator.{Operator}
 use Rattle.verac.specs.declared.tree.Expr.{Expr}
 use Rattle.verac.specs.declared.parse.Level as code

@@ -1,10 +1,10 @@
 -- Where the tokens begin with a derived part, and what follows cannot go on with it, a descent ends with that part.
 use Rattle.std.proofs.Common.{◌≡◌, ◌≤◌, pos, List, [], ◌∷◌, ◌++◌, refl, sym, ap, ◌∙◌, subst, append_assoc}
-use Rattle.c_syntax.specs.declared.token.Placed.{Placed}
-use Rattle.c_syntax.specs.declared.token.Constant.{Constant}
-use Rattle.c_syntax.specs.declared.token.Token.TheVariants as tokens
-use Rattle.c_syntax.specs.declared.token.Punctuator.{Punctuator}
-use Rattle.c_syntax.specs.declared.token.Punctuator.TheVariants as marks
+use Rattle.c_written.specs.declared.token.Placed.{Placed}
+use Rattle.c_written.specs.declared.token.Constant.{Constant}
+use Rattle.c_written.specs.declared.token.Token.TheVariants as tokens
+use Rattle.c_written.specs.declared.token.Punctuator.{Punctuator}
+use Rattle.c_written.specs.declared.token.Punctuator.TheVariants as marks
 use Rattle.verac.specs.declared.tree.Operator.{Operator}
 use Rattle.verac.specs.Tree.{ExprTree, Negate, Binary}
 use Rattle.verac.specs.Tree as trees

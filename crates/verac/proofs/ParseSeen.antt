@@ -1,8 +1,8 @@
 -- What a descent has seen: where it ends with a tree, the tokens that it took are derived with that tree.
 use Rattle.std.proofs.Common.{◌≡◌, List, [], ◌∷◌, ◌++◌, refl, sym, ap, ◌∙◌, subst, append_assoc}
-use Rattle.c_syntax.specs.declared.token.Placed.{Placed}
-use Rattle.c_syntax.specs.declared.token.Token.TheVariants as tokens
-use Rattle.c_syntax.specs.declared.token.Punctuator.{Punctuator}
+use Rattle.c_written.specs.declared.token.Placed.{Placed}
+use Rattle.c_written.specs.declared.token.Token.TheVariants as tokens
+use Rattle.c_written.specs.declared.token.Punctuator.{Punctuator}
 use Rattle.verac.specs.declared.tree.Operator.{Operator}
 use Rattle.verac.specs.Tree.{ExprTree, Binary}
 use Rattle.verac.specs.Grammar.{Level, Part, Run, Rest, Unary, Primary, operand_of, IsOperator, Derives, run, rest_end, rest_more, negated, plain, constant, enclosed}

@@ -2,7 +2,7 @@
 use Rattle.std.proofs.Common.{zero-add, ◌≡◌, ◌+◌, ℕ, zero, suc, ℤ, List, [], ◌∷◌, refl, sym, ap, subst, ◌∙◌, None}
 use Rattle.std.specs.Prelude.{reverse}
 use Rattle.std.proofs.Math.Nat.{suc-add}
-use Rattle.c_syntax.specs.declared.place.Pos.{Pos}
+use Rattle.c_written.specs.declared.place.Pos.{Pos}
 use Rattle.c_syntax.specs.declared.alarm.WrongKind.{WrongKind}
 use Rattle.c_syntax.specs.Operand.{Operand}
 use Rattle.verac.specs.declared.tree.Operator.{Operator}

@@ -1,6 +1,6 @@
 -- Which alarms a program admits.
 use Rattle.std.specs.Prelude.{◌≡◌, ◌⊎◌, pos, List, [], ◌∷◌, Contains, Any}
-use Rattle.c_syntax.specs.declared.place.Pos.{Pos}
+use Rattle.c_written.specs.declared.place.Pos.{Pos}
 use Rattle.c_syntax.specs.declared.alarm.WrongKind.{WrongKind}
 use Rattle.c_syntax.specs.declared.alarm.WrongKind.TheVariants.{Overflow, DivideByZero, Quotient}
 use Rattle.c_syntax.specs.declared.alarm.Check.{Check}

@@ -1,9 +1,9 @@
 -- What the values of the descent's code stand for.
 use Rattle.std.specs.Prelude.{List, codes, Option, Some, None}
 use Rattle.std.specs.Borrow.{Bor}
-use Rattle.c_syntax.specs.declared.token.Placed.{Placed}
-use Rattle.c_syntax.specs.declared.token.Token.{Token}
-use Rattle.c_syntax.specs.declared.token.Token.TheVariants as tokens
+use Rattle.c_written.specs.declared.token.Placed.{Placed}
+use Rattle.c_written.specs.declared.token.Token.{Token}
+use Rattle.c_written.specs.declared.token.Token.TheVariants as tokens
 use Rattle.verac.specs.declared.tree.Expr.{Expr}
 use Rattle.verac.specs.declared.parse.Fixed.{Fixed}
 use Rattle.verac.specs.declared.parse.Fixed.TheVariants as fixed

@@ -5,13 +5,13 @@
 --   unary   = "-" unary | primary
 --   primary = constant | "(" sum ")"
 use Rattle.std.specs.Prelude.{◌≡◌, ◌≤◌, pos, false, List, [], ◌∷◌, ◌++◌, length, map, codes}
-use Rattle.c_syntax.specs.declared.token.Placed.{Placed}
-use Rattle.c_syntax.specs.declared.token.Constant.{Constant}
-use Rattle.c_syntax.specs.declared.token.Token.{Token}
-use Rattle.c_syntax.specs.declared.token.Token.TheVariants as tokens
-use Rattle.c_syntax.specs.declared.token.Keyword.TheVariants as keywords
-use Rattle.c_syntax.specs.declared.token.Punctuator.{Punctuator}
-use Rattle.c_syntax.specs.declared.token.Punctuator.TheVariants as marks
+use Rattle.c_written.specs.declared.token.Placed.{Placed}
+use Rattle.c_written.specs.declared.token.Constant.{Constant}
+use Rattle.c_written.specs.declared.token.Token.{Token}
+use Rattle.c_written.specs.declared.token.Token.TheVariants as tokens
+use Rattle.c_written.specs.declared.token.Keyword.TheVariants as keywords
+use Rattle.c_written.specs.declared.token.Punctuator.{Punctuator}
+use Rattle.c_written.specs.declared.token.Punctuator.TheVariants as marks
 use Rattle.verac.specs.declared.tree.Operator.{Operator}
 use Rattle.verac.specs.declared.tree.Operator.TheVariants.{Add, Subtract, Multiply, Divide}
 use Rattle.verac.specs.Tree.{ExprTree, Negate, Binary}

@@ -1,6 +1,6 @@
 -- The machine: it runs a program by work items, one at a time, and has no choice.
 use Rattle.std.specs.Prelude.{◌≡◌, ℕ, zero, suc, ℤ, pos, List, [], ◌∷◌, ◌++◌, map, reverse, Option, Some, None}
-use Rattle.c_syntax.specs.declared.place.Pos.{Pos}
+use Rattle.c_written.specs.declared.place.Pos.{Pos}
 use Rattle.c_syntax.specs.declared.alarm.WrongKind.{WrongKind}
 use Rattle.c_syntax.specs.declared.alarm.Cell.{Cell}
 use Rattle.c_syntax.specs.declared.alarm.Spot.{Spot}

@@ -1,6 +1,6 @@
 -- Which program the bytes are.
 use Rattle.std.specs.Prelude.{◌≡◌, ℕ, List}
-use Rattle.c_syntax.specs.declared.token.Tokens.{Tokens}
+use Rattle.c_written.specs.declared.token.Tokens.{Tokens}
 use Rattle.c_lexer.specs.Cut.{IsCut}
 use Rattle.verac.specs.Tree.{ExprTree, ProgramTree, returning}
 use Rattle.verac.specs.Grammar.{IsFile}

@@ -1,6 +1,6 @@
 -- Soundness: every execution that goes wrong is told of, with its operand and the facts of its state.
 use Rattle.std.specs.Prelude.{◌≡◌, ℤ, List, All, Any}
-use Rattle.c_syntax.specs.declared.place.Pos.{Pos}
+use Rattle.c_written.specs.declared.place.Pos.{Pos}
 use Rattle.c_syntax.specs.declared.alarm.WrongKind.{WrongKind}
 use Rattle.c_syntax.specs.declared.alarm.Alarm.{Alarm}
 use Rattle.c_syntax.specs.Operand.{Operand}

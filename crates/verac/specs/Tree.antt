@@ -1,6 +1,6 @@
 -- The trees of this form without pointers, so that a text has one.
 use Rattle.std.specs.Prelude.{ℤ, pos, ◌≤ℤ◌, List, [], ◌∷◌}
-use Rattle.c_syntax.specs.declared.place.Pos.{Pos}
+use Rattle.c_written.specs.declared.place.Pos.{Pos}
 use Rattle.c_syntax.specs.Types.{ObjectTree}
 use Rattle.verac.specs.declared.tree.Operator.{Operator}
 use Rattle.verac.specs.declared.tree.Expr.{Expr}

@@ -1,6 +1,6 @@
 -- Verdict: for what a file is refused, and the line that says so.
 use Rattle.std.specs.Prelude.{◌<◌, ◌≤◌, ℕ, List, ◌++◌, length, codes, decimal}
-use Rattle.c_syntax.specs.declared.place.Pos.{Pos}
+use Rattle.c_written.specs.declared.place.Pos.{Pos}
 use Rattle.c_lexer.specs.declared.reason.Reason.{Reason}
 use Rattle.c_lexer.specs.declared.reason.Reason.TheVariants as reasons
 use Rattle.c_lexer.specs.Uncut.{IsUncut}

@@ -1,8 +1,8 @@
 // The expression that the tokens of a file return, by a descent that looks one token ahead.
 
 ghost use Rattle.std.specs.Prelude.{◌≡◌, ◌≤◌, ◌<◌, ◌↔◌, List, [], ◌∷◌, length, map, codes, IsTrue, IfOk, IfSome, MatchOption};
-ghost use Rattle.c_syntax.specs.declared.token.Placed.{Placed};
-ghost use Rattle.c_syntax.specs.declared.token.Punctuator.{Punctuator};
+ghost use Rattle.c_written.specs.declared.token.Placed.{Placed};
+ghost use Rattle.c_written.specs.declared.token.Punctuator.{Punctuator};
 ghost use Rattle.verac.specs.declared.tree.Operator.{Operator};
 ghost use Rattle.verac.specs.Tree.{ExprTree, expr_tree, HasConstants};
 ghost use Rattle.verac.specs.Tree as trees;

@@ -1,8 +1,8 @@
 -- How the functions of the cycle read their parts.
 use Rattle.std.proofs.Common.{refl, sym, ap, ◌∙◌, not, arith}
-use Rattle.c_syntax.specs.Written as trees
-use Rattle.c_syntax.specs.Written.{expr_tree, exprs_from, exprs_tree}
-use Rattle.c_syntax.proofs.WrittenTrees.{expr_word, expr_call, spec_struct, spec_struct_body, spec_enum, spec_enum_body, enumerator_plain}
+use Rattle.c_written.specs.Written as trees
+use Rattle.c_written.specs.Written.{expr_tree, exprs_from, exprs_tree}
+use Rattle.c_written.proofs.WrittenTrees.{expr_word, expr_call, spec_struct, spec_struct_body, spec_enum, spec_enum_body, enumerator_plain}
 use Rattle.c_grammar.specs.Parts as part
 use Rattle.c_grammar.specs.Grammar.{expr_rule, type_rule}
 use Rattle.c_grammar.specs.ExprRules as rule

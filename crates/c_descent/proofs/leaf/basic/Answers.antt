@@ -1,5 +1,5 @@
 use Rattle.std.proofs.Common.{refl}
-use Rattle.c_syntax.proofs.WrittenTrees.{spec_basic}
+use Rattle.c_written.proofs.WrittenTrees.{spec_basic}
 use Rattle.c_grammar.specs.Grammar.{type_rule}
 use Rattle.c_grammar.specs.TypeRules as kind
 use Rattle.c_descent.specs.Answers.{given}

@@ -1,6 +1,6 @@
 use Rattle.std.proofs.Common.{refl, sym, arith, ap, ◌∙◌}
-use Rattle.c_syntax.specs.Written as trees
-use Rattle.c_syntax.proofs.WrittenTrees.{expr_strings}
+use Rattle.c_written.specs.Written as trees
+use Rattle.c_written.proofs.WrittenTrees.{expr_strings}
 use Rattle.c_grammar.specs.Grammar.{expr_rule}
 use Rattle.c_grammar.specs.ExprRules as rule
 use Rattle.c_descent.specs.Answers.{given}

@@ -1,5 +1,5 @@
 use Rattle.std.proofs.Common.{◌≤◌, length}
-use Rattle.c_syntax.specs.Written.{ExprTree}
+use Rattle.c_written.specs.Written.{ExprTree}
 use Rattle.c_grammar.specs.Parts.{AnExpr, Texts}
 use Rattle.c_grammar.specs.Descent.{Outcome, Goes}
 use Rattle.c_descent.specs.Views.{scene_of}

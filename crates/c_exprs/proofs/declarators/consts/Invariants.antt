@@ -1,5 +1,5 @@
 use Rattle.std.proofs.Common.{◌≤◌, false, length}
-use Rattle.c_syntax.specs.Written.{DeclaratorTree}
+use Rattle.c_written.specs.Written.{DeclaratorTree}
 use Rattle.c_grammar.specs.Parts as part
 use Rattle.c_grammar.specs.Descent.{Outcome, Goes}
 use Rattle.c_descent.specs.Views.{role_view, scene_of}

@@ -1,6 +1,6 @@
 use Rattle.std.proofs.Common.{ap, ◌∙◌}
-use Rattle.c_syntax.specs.Written as trees
-use Rattle.c_syntax.specs.Written.{expr_tree}
+use Rattle.c_written.specs.Written as trees
+use Rattle.c_written.specs.Written.{expr_tree}
 use Rattle.c_grammar.specs.Grammar.{expr_rule}
 use Rattle.c_grammar.specs.ExprRules as rule
 use Rattle.c_descent.specs.Views.{scene_of}

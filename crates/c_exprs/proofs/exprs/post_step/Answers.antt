@@ -1,4 +1,4 @@
-use Rattle.c_syntax.specs.Written.{expr_tree}
+use Rattle.c_written.specs.Written.{expr_tree}
 use Rattle.c_grammar.specs.Grammar.{expr_rule}
 use Rattle.c_grammar.specs.ExprRules as rule
 use Rattle.c_descent.specs.Views.{scene_of}

@@ -1,4 +1,4 @@
-use Rattle.c_syntax.specs.Written.{specs_tree, declarator_tree}
+use Rattle.c_written.specs.Written.{specs_tree, declarator_tree}
 use Rattle.c_grammar.specs.Parts.{AnOuter, OuterInitial}
 use Rattle.std.proofs.Common.{refl}
 use Rattle.c_stmts.proofs.Starts.{if_true}

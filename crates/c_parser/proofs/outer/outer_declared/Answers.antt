@@ -1,8 +1,8 @@
-use Rattle.c_syntax.specs.Written.{specs_tree}
+use Rattle.c_written.specs.Written.{specs_tree}
 use Rattle.c_grammar.specs.Parts.{AnOuter, OuterDeclared}
 use Rattle.std.proofs.Common.{refl, sym, ap, ◌∙◌}
-use Rattle.c_syntax.specs.WrittenFile as trees
-use Rattle.c_syntax.proofs.WrittenFileTrees.{outer_declared}
+use Rattle.c_written.specs.WrittenFile as trees
+use Rattle.c_written.proofs.WrittenFileTrees.{outer_declared}
 use Rattle.c_stmts.proofs.Starts.{if_false, if_true}
 use Rattle.c_stmts.proofs.Steps.{after, begin, behind, ends, not_after, not_behind}
 use Rattle.c_parser.proofs.outer.outer_declared.Goals as goal

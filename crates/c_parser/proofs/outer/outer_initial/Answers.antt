@@ -1,7 +1,7 @@
-use Rattle.c_syntax.specs.Written.{specs_tree, declarator_tree}
+use Rattle.c_written.specs.Written.{specs_tree, declarator_tree}
 use Rattle.c_grammar.specs.Parts.{AnOuter, OuterInitial}
 use Rattle.std.proofs.Common.{refl, sym, ◌∙◌}
-use Rattle.c_syntax.proofs.WrittenFileTrees.{outer_declared}
+use Rattle.c_written.proofs.WrittenFileTrees.{outer_declared}
 use Rattle.c_stmts.proofs.Starts.{if_false}
 use Rattle.c_stmts.proofs.Steps.{begin, behind, ends, not_behind}
 use Rattle.c_parser.proofs.outer.outer_initial.Goals as goal

@@ -1,7 +1,7 @@
-use Rattle.c_syntax.specs.Written.{specs_tree}
+use Rattle.c_written.specs.Written.{specs_tree}
 use Rattle.c_grammar.specs.Parts.{ADecl, Ending}
 use Rattle.std.proofs.Common.{refl, ap}
-use Rattle.c_syntax.specs.WrittenDecl.{initdeclarator_tree}
+use Rattle.c_written.specs.WrittenDecl.{initdeclarator_tree}
 use Rattle.std.specs.Prelude.{map}
 use Rattle.c_stmts.proofs.Starts.{if_true}
 use Rattle.c_stmts.proofs.Made.{same_decl}

@@ -1,4 +1,4 @@
-use Rattle.c_syntax.specs.Written.{specs_tree}
+use Rattle.c_written.specs.Written.{specs_tree}
 use Rattle.c_grammar.specs.Parts.{ADecl, Declared}
 use Rattle.std.proofs.Common.{refl, sym, ◌∙◌}
 use Rattle.c_stmts.proofs.Starts.{if_false, if_true}

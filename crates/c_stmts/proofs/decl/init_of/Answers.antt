@@ -1,7 +1,7 @@
 use Rattle.c_grammar.specs.Parts.{ADecl, Initial}
 use Rattle.std.proofs.Common.{refl, sym, ◌∙◌}
 use Rattle.std.specs.Prelude.{Err}
-use Rattle.c_syntax.specs.WrittenDecl.{DeclTree}
+use Rattle.c_written.specs.WrittenDecl.{DeclTree}
 use Rattle.c_descent.specs.Answers.{stepped}
 use Rattle.c_stmts.proofs.Starts.{if_false, if_true}
 use Rattle.c_stmts.proofs.Steps.{after, begin, goes_so, halts_of, inside, last_decl, not_after, not_inside, stalled_at}

@@ -1,8 +1,8 @@
 use Rattle.std.proofs.Common.{List, [], ◌∷◌, ◌++◌, refl, sym, ap, ◌∙◌, arith}
 use Rattle.std.specs.Prelude.{map}
-use Rattle.c_syntax.specs.declared.declaration.InitDeclarator.{InitDeclarator}
-use Rattle.c_syntax.specs.Written.{specs_tree}
-use Rattle.c_syntax.specs.WrittenDecl.{initdeclarator_tree}
+use Rattle.c_written.specs.declared.declaration.InitDeclarator.{InitDeclarator}
+use Rattle.c_written.specs.Written.{specs_tree}
+use Rattle.c_written.specs.WrittenDecl.{initdeclarator_tree}
 use Rattle.c_grammar.specs.Parts.{ADecl, Ending}
 use Rattle.c_stmts.proofs.Starts.{if_false}
 use Rattle.c_stmts.proofs.Steps.{after, begin, behind, decides, goes_so, halts_for, initialised_at, last_decl, no_room, not_after, not_behind, not_initialised_at, passed_on, same_ending}

@@ -1,7 +1,7 @@
 use Rattle.std.proofs.Common.{◌≤◌, [], length}
 use Rattle.std.specs.Prelude.{map}
-use Rattle.c_syntax.specs.Written.{declarator_tree, specs_tree}
-use Rattle.c_syntax.specs.WrittenDecl.{DeclTree, initdeclarator_tree}
+use Rattle.c_written.specs.Written.{declarator_tree, specs_tree}
+use Rattle.c_written.specs.WrittenDecl.{DeclTree, initdeclarator_tree}
 use Rattle.c_grammar.specs.Parts.{ADecl, Ending, Initial}
 use Rattle.c_grammar.specs.Descent.{Outcome, Goes}
 use Rattle.c_descent.specs.Views.{scene_of}

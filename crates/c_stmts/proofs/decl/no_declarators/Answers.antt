@@ -1,6 +1,6 @@
 use Rattle.std.proofs.Common.{ap}
 use Rattle.std.specs.Prelude.{map}
-use Rattle.c_syntax.specs.WrittenDecl.{initdeclarator_tree}
+use Rattle.c_written.specs.WrittenDecl.{initdeclarator_tree}
 use Rattle.c_stmts.proofs.Made.{same_decl}
 use Rattle.c_stmts.proofs.decl.no_declarators.Goals as goal
 

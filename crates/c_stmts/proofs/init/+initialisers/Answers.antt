@@ -1,10 +1,10 @@
-use Rattle.c_syntax.specs.declared.declaration.Init.{Init}
+use Rattle.c_written.specs.declared.declaration.Init.{Init}
 use Rattle.c_descent.specs.Views.{scene_of}
-use Rattle.c_syntax.specs.WrittenDecl.{init_tree, inits_from}
+use Rattle.c_written.specs.WrittenDecl.{init_tree, inits_from}
 use Rattle.c_grammar.specs.Parts.{Initialiser, Initialisers, MoreInitialisers, NextInitialiser}
 use Rattle.std.proofs.Common.{refl, sym, ◌∙◌, arith}
 use Rattle.std.specs.Prelude.{Ok, Err}
-use Rattle.c_syntax.proofs.WrittenDeclTrees.{init_value, init_braces}
+use Rattle.c_written.proofs.WrittenDeclTrees.{init_value, init_braces}
 use Rattle.c_stmts.proofs.Starts.{brace_first, if_false, if_true, is_where, not_where}
 use Rattle.c_stmts.proofs.Steps.{after, barred_at, begin, behind, decides, ends, goes_so, inside, last_inits, next_inits, no_room, not_after, not_behind, not_inside, same_inits}
 use Rattle.c_stmts.proofs.init.+initialisers.Goals as goal

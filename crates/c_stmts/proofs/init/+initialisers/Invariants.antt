@@ -1,5 +1,5 @@
 use Rattle.std.proofs.Common.{ℕ, ◌+◌, ◌*◌, ◌≤◌, length}
-use Rattle.c_syntax.specs.WrittenDecl.{InitTrees, inits_from}
+use Rattle.c_written.specs.WrittenDecl.{InitTrees, inits_from}
 use Rattle.c_grammar.specs.Parts.{MoreInitialisers}
 use Rattle.c_grammar.specs.Descent.{Outcome, Goes}
 use Rattle.c_descent.specs.Views.{scene_of}

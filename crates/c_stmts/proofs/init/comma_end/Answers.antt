@@ -1,4 +1,4 @@
-use Rattle.c_syntax.specs.WrittenDecl.{inits_from}
+use Rattle.c_written.specs.WrittenDecl.{inits_from}
 use Rattle.c_grammar.specs.Parts.{NextInitialiser}
 use Rattle.std.proofs.Common.{refl}
 use Rattle.c_stmts.proofs.Starts.{if_true}

@@ -1,12 +1,12 @@
-use Rattle.c_syntax.specs.Written.{expr_tree}
+use Rattle.c_written.specs.Written.{expr_tree}
 use Rattle.c_grammar.specs.Parts.{AStmt, Statement, Else, Item, Items}
 use Rattle.std.proofs.Common.{refl, sym, ap, ◌∙◌, arith}
 use Rattle.std.specs.Prelude.{not}
-use Rattle.c_syntax.specs.WrittenFile as trees
-use Rattle.c_syntax.specs.WrittenFile.{stmt_tree, blockitems_from}
+use Rattle.c_written.specs.WrittenFile as trees
+use Rattle.c_written.specs.WrittenFile.{stmt_tree, blockitems_from}
 use Rattle.c_grammar.proofs.Sweep.{and_right}
 use Rattle.c_descent.specs.Views.{scene_of}
-use Rattle.c_syntax.proofs.WrittenFileTrees.{blockitems_nil, stmt_block, blockitem_declaration, blockitem_statement}
+use Rattle.c_written.proofs.WrittenFileTrees.{blockitems_nil, stmt_block, blockitem_declaration, blockitem_statement}
 use Rattle.c_stmts.specs.declared.stmt_kind.StatementKind.TheVariants as statements
 use Rattle.c_stmts.proofs.Starts.{statement_begins, label_rule, if_false, if_true}
 use Rattle.c_stmts.proofs.Steps.{after, begin, behind, decides, ends, goes_so, halts_for, halts_of, in_scene, inside, last_items, no_room, not_after, not_behind, not_inside, not_tried, passed_on, same_items, tried, where_so}

@@ -1,5 +1,5 @@
 use Rattle.std.proofs.Common.{ℕ, ◌+◌, ◌*◌, ◌≤◌, length}
-use Rattle.c_syntax.specs.WrittenFile.{BlockItemTrees, blockitems_from, none}
+use Rattle.c_written.specs.WrittenFile.{BlockItemTrees, blockitems_from, none}
 use Rattle.c_grammar.specs.Parts.{Items}
 use Rattle.c_grammar.specs.Descent.{Outcome, Goes}
 use Rattle.c_descent.specs.Views.{scene_of}

@@ -1,5 +1,5 @@
 use Rattle.std.proofs.Common.{refl}
-use Rattle.c_syntax.proofs.WrittenFileTrees.{stmt_empty}
+use Rattle.c_written.proofs.WrittenFileTrees.{stmt_empty}
 use Rattle.c_stmts.specs.declared.stmt_kind.StatementKind.TheVariants as statements
 use Rattle.c_stmts.proofs.Starts.{statement_begins}
 use Rattle.c_stmts.proofs.Steps.{after, ends, not_after}

@@ -1,8 +1,8 @@
 use Rattle.std.proofs.Common.{refl, ap, ◌∙◌}
 use Rattle.std.specs.Prelude.{not}
-use Rattle.c_syntax.specs.Written.{expr_tree}
-use Rattle.c_syntax.specs.WrittenFile as trees
-use Rattle.c_syntax.proofs.WrittenFileTrees.{stmt_expression}
+use Rattle.c_written.specs.Written.{expr_tree}
+use Rattle.c_written.specs.WrittenFile as trees
+use Rattle.c_written.proofs.WrittenFileTrees.{stmt_expression}
 use Rattle.c_stmts.specs.declared.stmt_kind.StatementKind.TheVariants as statements
 use Rattle.c_stmts.proofs.Starts.{statement_begins}
 use Rattle.c_stmts.proofs.Steps.{after, behind, ends, not_after, not_behind, where_so}

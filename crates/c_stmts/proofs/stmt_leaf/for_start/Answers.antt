@@ -1,7 +1,7 @@
 use Rattle.c_grammar.specs.Parts.{ForStart}
 use Rattle.std.proofs.Common.{refl, sym, ap, ◌∙◌}
 use Rattle.std.specs.Prelude.{not}
-use Rattle.c_syntax.proofs.WrittenFileTrees.{forstart_nothing, forstart_value, forstart_declares}
+use Rattle.c_written.proofs.WrittenFileTrees.{forstart_nothing, forstart_value, forstart_declares}
 use Rattle.c_stmts.proofs.Starts.{if_false, if_true}
 use Rattle.c_stmts.proofs.Steps.{after, begin, behind, ends, not_after, not_behind, where_so}
 use Rattle.c_stmts.proofs.stmt_leaf.for_start.Goals as goal

@@ -1,6 +1,6 @@
 use Rattle.std.proofs.Common.{refl, ap, ◌∙◌}
-use Rattle.c_syntax.specs.WrittenFile as trees
-use Rattle.c_syntax.proofs.WrittenFileTrees.{stmt_goto}
+use Rattle.c_written.specs.WrittenFile as trees
+use Rattle.c_written.proofs.WrittenFileTrees.{stmt_goto}
 use Rattle.c_stmts.specs.declared.stmt_kind.StatementKind.TheVariants as statements
 use Rattle.c_stmts.proofs.Starts.{statement_begins}
 use Rattle.c_stmts.proofs.Steps.{after, ends, no_room, not_after}

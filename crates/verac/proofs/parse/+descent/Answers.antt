@@ -1,5 +1,5 @@
 use Rattle.std.proofs.Common.{List, ◌∷◌, length, sym, ap, subst, arith}
-use Rattle.c_syntax.specs.declared.token.Placed.{Placed}
+use Rattle.c_written.specs.declared.token.Placed.{Placed}
 use Rattle.verac.specs.Tree.{ExprTree, expr_tree}
 use Rattle.verac.specs.Grammar.{Run, Rest, Unary, Sum}
 use Rattle.verac.specs.Descent.{Outcome, Done, Stop, Goes, run_stops, run_goes, rest_done, negated_stops, negated_done, plain_goes, enclosed_stops, enclosed_left, enclosed_done}

@@ -1,5 +1,5 @@
 use Rattle.std.proofs.Common.{List, map, drop}
-use Rattle.c_syntax.specs.declared.token.Placed.{Placed}
+use Rattle.c_written.specs.declared.token.Placed.{Placed}
 use Rattle.verac.specs.Descent.{Begins}
 use Rattle.verac.specs.Answers.{token_of}
 use Rattle.verac.proofs.parse.behind.Given as goal

@@ -1,32 +1,32 @@
 -- What is written, as trees without pointers: expressions, types and declarators. Each constructor has the fields of the code's variant, in their order.
 use Rattle.std.specs.Prelude.{ℕ, Bool, List, [], ◌∷◌, Option}
-use Rattle.c_syntax.specs.declared.place.Pos.{Pos}
-use Rattle.c_syntax.specs.declared.token.Constant.{Constant}
-use Rattle.c_syntax.specs.declared.operator.StepWay.{StepWay}
-use Rattle.c_syntax.specs.declared.written.UnaryOp.{UnaryOp}
-use Rattle.c_syntax.specs.declared.written.BinaryOp.{BinaryOp}
-use Rattle.c_syntax.specs.declared.written.AssignOp.{AssignOp}
-use Rattle.c_syntax.specs.declared.written.StorageWord.{StorageWord}
-use Rattle.c_syntax.specs.declared.written.TypeWord.{TypeWord}
-use Rattle.c_syntax.specs.declared.written.Tag.{Tag}
-use Rattle.c_syntax.specs.declared.written.Expr.{Expr}
-use Rattle.c_syntax.specs.declared.written.Expr.TheVariants as exprs
-use Rattle.c_syntax.specs.declared.written.Exprs.{Exprs, Row_of-Expr, end_of-Expr, more_of-Expr}
-use Rattle.c_syntax.specs.declared.written.Spec.{Spec}
-use Rattle.c_syntax.specs.declared.written.Spec.TheVariants as specs
-use Rattle.c_syntax.specs.declared.written.Specs.{Specs, Row_of-Spec, end_of-Spec, more_of-Spec}
-use Rattle.c_syntax.specs.declared.written.MemberDecl.{MemberDecl}
-use Rattle.c_syntax.specs.declared.written.MemberDecl.TheVariants as lines
-use Rattle.c_syntax.specs.declared.written.MemberDecls.{MemberDecls, Row_of-MemberDecl, end_of-MemberDecl, more_of-MemberDecl}
-use Rattle.c_syntax.specs.declared.written.Enumerator.{Enumerator}
-use Rattle.c_syntax.specs.declared.written.Enumerator.TheVariants as enumerators
-use Rattle.c_syntax.specs.declared.written.Enumerators.{Enumerators, Row_of-Enumerator, end_of-Enumerator, more_of-Enumerator}
-use Rattle.c_syntax.specs.declared.written.Declarator.{Declarator}
-use Rattle.c_syntax.specs.declared.written.Declarator.TheVariants as declarators
-use Rattle.c_syntax.specs.declared.written.Declarators.{Declarators, Row_of-Declarator, end_of-Declarator, more_of-Declarator}
-use Rattle.c_syntax.specs.declared.written.Param.{Param}
-use Rattle.c_syntax.specs.declared.written.Param.TheVariants as params
-use Rattle.c_syntax.specs.declared.written.Params.{Params, Row_of-Param, end_of-Param, more_of-Param}
+use Rattle.c_written.specs.declared.place.Pos.{Pos}
+use Rattle.c_written.specs.declared.token.Constant.{Constant}
+use Rattle.c_written.specs.declared.step.StepWay.{StepWay}
+use Rattle.c_written.specs.declared.written.UnaryOp.{UnaryOp}
+use Rattle.c_written.specs.declared.written.BinaryOp.{BinaryOp}
+use Rattle.c_written.specs.declared.written.AssignOp.{AssignOp}
+use Rattle.c_written.specs.declared.written.StorageWord.{StorageWord}
+use Rattle.c_written.specs.declared.written.TypeWord.{TypeWord}
+use Rattle.c_written.specs.declared.written.Tag.{Tag}
+use Rattle.c_written.specs.declared.written.Expr.{Expr}
+use Rattle.c_written.specs.declared.written.Expr.TheVariants as exprs
+use Rattle.c_written.specs.declared.written.Exprs.{Exprs, Row_of-Expr, end_of-Expr, more_of-Expr}
+use Rattle.c_written.specs.declared.written.Spec.{Spec}
+use Rattle.c_written.specs.declared.written.Spec.TheVariants as specs
+use Rattle.c_written.specs.declared.written.Specs.{Specs, Row_of-Spec, end_of-Spec, more_of-Spec}
+use Rattle.c_written.specs.declared.written.MemberDecl.{MemberDecl}
+use Rattle.c_written.specs.declared.written.MemberDecl.TheVariants as lines
+use Rattle.c_written.specs.declared.written.MemberDecls.{MemberDecls, Row_of-MemberDecl, end_of-MemberDecl, more_of-MemberDecl}
+use Rattle.c_written.specs.declared.written.Enumerator.{Enumerator}
+use Rattle.c_written.specs.declared.written.Enumerator.TheVariants as enumerators
+use Rattle.c_written.specs.declared.written.Enumerators.{Enumerators, Row_of-Enumerator, end_of-Enumerator, more_of-Enumerator}
+use Rattle.c_written.specs.declared.written.Declarator.{Declarator}
+use Rattle.c_written.specs.declared.written.Declarator.TheVariants as declarators
+use Rattle.c_written.specs.declared.written.Declarators.{Declarators, Row_of-Declarator, end_of-Declarator, more_of-Declarator}
+use Rattle.c_written.specs.declared.written.Param.{Param}
+use Rattle.c_written.specs.declared.written.Param.TheVariants as params
+use Rattle.c_written.specs.declared.written.Params.{Params, Row_of-Param, end_of-Param, more_of-Param}
 
 mutual
   pub data ExprTree : Type 0 where

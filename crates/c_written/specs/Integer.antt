@@ -1,8 +1,8 @@
 -- The integer types of this profile: their widths and signs, and the numbers that they have.
-use Rattle.std.specs.Prelude.{ℕ, ◌-◌, ◌^◌, ℤ, pos, neg_ℤ, ◌≤ℤ◌, Bool, true, false, if◌then◌else◌}
-use Rattle.std.specs.Int.{Width, w8, w16, w32, w64, int_wrap, int_rem_euclid}
-use Rattle.c_syntax.specs.declared.types.IntType.{IntType}
-use Rattle.c_syntax.specs.declared.types.IntType.TheVariants.{Char, SChar, UChar, Short, UShort, Int, UInt, Long, ULong, LLong, ULLong}
+use Rattle.std.specs.Prelude.{ℕ, ◌-◌, ◌^◌, ℤ, pos, neg_ℤ, Bool, true, false, if◌then◌else◌, FitsSigned, MatchBool}
+use Rattle.std.specs.Int.{Width, w8, w16, w32, w64, int_wrap, int_rem_euclid, FitsUnsigned}
+use Rattle.c_written.specs.declared.int_type.IntType.{IntType}
+use Rattle.c_written.specs.declared.int_type.IntType.TheVariants.{Char, SChar, UChar, Short, UShort, Int, UInt, Long, ULong, LLong, ULLong}
 
 -- in bits (this profile)
 abbrev pub width : IntType → ℕ
@@ -54,10 +54,6 @@ least t = if is_signed t then neg_ℤ (pos (2 ^ (width t - 1))) else pos 0
 abbrev pub greatest : IntType → ℕ
 greatest t = if is_signed t then 2 ^ (width t - 1) - 1 else 2 ^ width t - 1
 
--- the type has this number
-abbrev pub HasNumber : IntType → ℤ → Type 0
-HasNumber t n = (least t ≤ℤ n) × (n ≤ℤ pos (greatest t))
-
 -- the width as std names it
 abbrev pub std_width : IntType → Width
 std_width Char = w8
@@ -71,6 +67,10 @@ std_width Long = w64
 std_width ULong = w64
 std_width LLong = w64
 std_width ULLong = w64
+
+-- the type has this number (C11 6.2.6.2)
+abbrev pub HasNumber : IntType → ℤ → Type 0
+HasNumber t n = MatchBool (is_signed t) (FitsSigned (std_width t) n) (FitsUnsigned (std_width t) n)
 
 -- the number of the type that is n modulo 2 to the width (C11 6.3.1.3p2, and p3 in this profile)
 abbrev pub wrapped : IntType → ℤ → ℤ

@@ -150,7 +150,7 @@ pub struct PlacedList {
 
 impl Model for PlacedList {
     ghost use Rattle.std.specs.Prelude.{List};
-    ghost use Rattle.c_syntax.specs.declared.token.Placed.{Placed};
+    ghost use Rattle.c_written.specs.declared.token.Placed.{Placed};
 
     ghost Value = { List Placed };
 
@@ -199,7 +199,7 @@ pub struct Marks {
 
 impl Model for Marks {
     ghost use Rattle.std.specs.Prelude.{List};
-    ghost use Rattle.c_syntax.specs.declared.token.Mark.{Mark};
+    ghost use Rattle.c_written.specs.declared.token.Mark.{Mark};
 
     ghost Value = { List Mark };
 

@@ -1,18 +1,18 @@
 -- Statements and files as trees without pointers. Each constructor has the fields of the code's variant, in their order.
 use Rattle.std.specs.Prelude.{ℕ, List, [], ◌∷◌, map, Option, option_map}
-use Rattle.c_syntax.specs.declared.place.Pos.{Pos}
-use Rattle.c_syntax.specs.declared.file.ForStart.{ForStart}
-use Rattle.c_syntax.specs.declared.file.ForStart.TheVariants as starts
-use Rattle.c_syntax.specs.declared.file.Stmt.{Stmt}
-use Rattle.c_syntax.specs.declared.file.Stmt.TheVariants as stmts
-use Rattle.c_syntax.specs.declared.file.BlockItem.{BlockItem}
-use Rattle.c_syntax.specs.declared.file.BlockItem.TheVariants as items
-use Rattle.c_syntax.specs.declared.file.BlockItems.{BlockItems, Row_of-BlockItem, end_of-BlockItem, more_of-BlockItem}
-use Rattle.c_syntax.specs.declared.file.Outer.{Outer}
-use Rattle.c_syntax.specs.declared.file.Outer.TheVariants as outers
-use Rattle.c_syntax.specs.declared.file.File.{File}
-use Rattle.c_syntax.specs.Written.{ExprTree, expr_tree, DeclaratorTree, declarator_tree, SpecTrees, specs_tree}
-use Rattle.c_syntax.specs.WrittenDecl.{DeclTree, decl_tree}
+use Rattle.c_written.specs.declared.place.Pos.{Pos}
+use Rattle.c_written.specs.declared.file.ForStart.{ForStart}
+use Rattle.c_written.specs.declared.file.ForStart.TheVariants as starts
+use Rattle.c_written.specs.declared.file.Stmt.{Stmt}
+use Rattle.c_written.specs.declared.file.Stmt.TheVariants as stmts
+use Rattle.c_written.specs.declared.file.BlockItem.{BlockItem}
+use Rattle.c_written.specs.declared.file.BlockItem.TheVariants as items
+use Rattle.c_written.specs.declared.file.BlockItems.{BlockItems, Row_of-BlockItem, end_of-BlockItem, more_of-BlockItem}
+use Rattle.c_written.specs.declared.file.Outer.{Outer}
+use Rattle.c_written.specs.declared.file.Outer.TheVariants as outers
+use Rattle.c_written.specs.declared.file.File.{File}
+use Rattle.c_written.specs.Written.{ExprTree, expr_tree, DeclaratorTree, declarator_tree, SpecTrees, specs_tree}
+use Rattle.c_written.specs.WrittenDecl.{DeclTree, decl_tree}
 
 -- how a for begins: with nothing, an expression, or a declaration
 pub data ForStartTree : Type 0 where

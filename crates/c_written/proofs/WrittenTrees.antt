@@ -3,36 +3,36 @@ use Rattle.std.proofs.Common.{◌≡◌, ℕ, Bool, List, [], ◌∷◌, ◌++�
 use Rattle.std.specs.Prelude.{Option}
 use Rattle.std.specs.declared.boxed.Box.{Box}
 use Rattle.std.specs.declared.alloc.Global.{Global}
-use Rattle.c_syntax.specs.declared.place.Pos.{Pos}
-use Rattle.c_syntax.specs.declared.token.Constant.{Constant}
-use Rattle.c_syntax.specs.declared.operator.StepWay.{StepWay}
-use Rattle.c_syntax.specs.declared.written.UnaryOp.{UnaryOp}
-use Rattle.c_syntax.specs.declared.written.BinaryOp.{BinaryOp}
-use Rattle.c_syntax.specs.declared.written.AssignOp.{AssignOp}
-use Rattle.c_syntax.specs.declared.written.StorageWord.{StorageWord}
-use Rattle.c_syntax.specs.declared.written.TypeWord.{TypeWord}
-use Rattle.c_syntax.specs.declared.written.Tag.{Tag}
-use Rattle.c_syntax.specs.declared.written.Expr.{Expr}
-use Rattle.c_syntax.specs.declared.written.Expr.TheVariants as exprs
-use Rattle.c_syntax.specs.declared.written.Exprs.{Exprs, Row_of-Expr, end_of-Expr, more_of-Expr, items-the_row-Expr, items_hidden-the_row-Expr-1}
-use Rattle.c_syntax.specs.declared.written.Spec.{Spec}
-use Rattle.c_syntax.specs.declared.written.Spec.TheVariants as specs
-use Rattle.c_syntax.specs.declared.written.Specs.{Specs, Row_of-Spec, end_of-Spec, more_of-Spec, items-the_row-Spec, items_hidden-the_row-Spec-2}
-use Rattle.c_syntax.specs.declared.written.MemberDecl.{MemberDecl}
-use Rattle.c_syntax.specs.declared.written.MemberDecl.TheVariants as lines
-use Rattle.c_syntax.specs.declared.written.MemberDecls.{MemberDecls, Row_of-MemberDecl, end_of-MemberDecl, more_of-MemberDecl, items-the_row-MemberDecl, items_hidden-the_row-MemberDecl-4}
-use Rattle.c_syntax.specs.declared.written.Enumerator.{Enumerator}
-use Rattle.c_syntax.specs.declared.written.Enumerator.TheVariants as enumerators
-use Rattle.c_syntax.specs.declared.written.Enumerators.{Enumerators, Row_of-Enumerator, end_of-Enumerator, more_of-Enumerator, items-the_row-Enumerator, items_hidden-the_row-Enumerator-5}
-use Rattle.c_syntax.specs.declared.written.Declarator.{Declarator}
-use Rattle.c_syntax.specs.declared.written.Declarator.TheVariants as declarators
-use Rattle.c_syntax.specs.declared.written.Declarators.{Declarators, Row_of-Declarator, end_of-Declarator, more_of-Declarator, items-the_row-Declarator, items_hidden-the_row-Declarator-3}
-use Rattle.c_syntax.specs.declared.written.Param.{Param}
-use Rattle.c_syntax.specs.declared.written.Param.TheVariants as params
-use Rattle.c_syntax.specs.declared.written.Params.{Params, Row_of-Param, end_of-Param, more_of-Param, items-the_row-Param, items_hidden-the_row-Param-0}
-use Rattle.c_syntax.specs.declared.written.Declarator.TheBlock.{hidden-the_row-Param-0, hidden-the_row-Expr-1, hidden-the_row-Spec-2, hidden-the_row-Declarator-3, hidden-the_row-MemberDecl-4, hidden-the_row-Enumerator-5}
-use Rattle.c_syntax.specs.Written.{expr_tree, spec_tree, memberdecl_tree, enumerator_tree, declarator_tree, param_tree, expr_rows, exprs_from, exprs_tree, exprs_then, spec_rows, specs_from, specs_tree, specs_then, memberdecl_rows, memberdecls_from, memberdecls_tree, memberdecls_then, enumerator_rows, enumerators_from, enumerators_tree, enumerators_then, declarator_rows, declarators_from, declarators_tree, declarators_then, param_rows, params_from, params_tree, params_then, ExprTrees, SpecTrees, MemberDeclTrees, EnumeratorTrees, DeclaratorTrees, ParamTrees}
-use Rattle.c_syntax.specs.Written as trees
+use Rattle.c_written.specs.declared.place.Pos.{Pos}
+use Rattle.c_written.specs.declared.token.Constant.{Constant}
+use Rattle.c_written.specs.declared.step.StepWay.{StepWay}
+use Rattle.c_written.specs.declared.written.UnaryOp.{UnaryOp}
+use Rattle.c_written.specs.declared.written.BinaryOp.{BinaryOp}
+use Rattle.c_written.specs.declared.written.AssignOp.{AssignOp}
+use Rattle.c_written.specs.declared.written.StorageWord.{StorageWord}
+use Rattle.c_written.specs.declared.written.TypeWord.{TypeWord}
+use Rattle.c_written.specs.declared.written.Tag.{Tag}
+use Rattle.c_written.specs.declared.written.Expr.{Expr}
+use Rattle.c_written.specs.declared.written.Expr.TheVariants as exprs
+use Rattle.c_written.specs.declared.written.Exprs.{Exprs, Row_of-Expr, end_of-Expr, more_of-Expr, items-the_row-Expr, items_hidden-the_row-Expr-1}
+use Rattle.c_written.specs.declared.written.Spec.{Spec}
+use Rattle.c_written.specs.declared.written.Spec.TheVariants as specs
+use Rattle.c_written.specs.declared.written.Specs.{Specs, Row_of-Spec, end_of-Spec, more_of-Spec, items-the_row-Spec, items_hidden-the_row-Spec-2}
+use Rattle.c_written.specs.declared.written.MemberDecl.{MemberDecl}
+use Rattle.c_written.specs.declared.written.MemberDecl.TheVariants as lines
+use Rattle.c_written.specs.declared.written.MemberDecls.{MemberDecls, Row_of-MemberDecl, end_of-MemberDecl, more_of-MemberDecl, items-the_row-MemberDecl, items_hidden-the_row-MemberDecl-4}
+use Rattle.c_written.specs.declared.written.Enumerator.{Enumerator}
+use Rattle.c_written.specs.declared.written.Enumerator.TheVariants as enumerators
+use Rattle.c_written.specs.declared.written.Enumerators.{Enumerators, Row_of-Enumerator, end_of-Enumerator, more_of-Enumerator, items-the_row-Enumerator, items_hidden-the_row-Enumerator-5}
+use Rattle.c_written.specs.declared.written.Declarator.{Declarator}
+use Rattle.c_written.specs.declared.written.Declarator.TheVariants as declarators
+use Rattle.c_written.specs.declared.written.Declarators.{Declarators, Row_of-Declarator, end_of-Declarator, more_of-Declarator, items-the_row-Declarator, items_hidden-the_row-Declarator-3}
+use Rattle.c_written.specs.declared.written.Param.{Param}
+use Rattle.c_written.specs.declared.written.Param.TheVariants as params
+use Rattle.c_written.specs.declared.written.Params.{Params, Row_of-Param, end_of-Param, more_of-Param, items-the_row-Param, items_hidden-the_row-Param-0}
+use Rattle.c_written.specs.declared.written.Declarator.TheBlock.{hidden-the_row-Param-0, hidden-the_row-Expr-1, hidden-the_row-Spec-2, hidden-the_row-Declarator-3, hidden-the_row-MemberDecl-4, hidden-the_row-Enumerator-5}
+use Rattle.c_written.specs.Written.{expr_tree, spec_tree, memberdecl_tree, enumerator_tree, declarator_tree, param_tree, expr_rows, exprs_from, exprs_tree, exprs_then, spec_rows, specs_from, specs_tree, specs_then, memberdecl_rows, memberdecls_from, memberdecls_tree, memberdecls_then, enumerator_rows, enumerators_from, enumerators_tree, enumerators_then, declarator_rows, declarators_from, declarators_tree, declarators_then, param_rows, params_from, params_tree, params_then, ExprTrees, SpecTrees, MemberDeclTrees, EnumeratorTrees, DeclaratorTrees, ParamTrees}
+use Rattle.c_written.specs.Written as trees
 
 exprs_rows : {m : _} (row : Row_of-Expr m) → expr_rows row ≡ exprs_from (items-the_row-Expr m row)
 unfolding expr_rows exprs_from

@@ -2,8 +2,8 @@
 // expression types, so all of these hold each other.
 
 ghost use Rattle.std.specs.Prelude.{◌≡◌};
-ghost use Rattle.c_syntax.specs.Written.{expr_tree, spec_tree, declarators_from, declarators_tree, enumerators_from, enumerators_tree, exprs_from, exprs_tree, memberdecls_from, memberdecls_tree, no_exprs, no_params, params_from, params_tree, specs_from, specs_tree};
-ghost use Rattle.c_syntax.specs.WrittenParts.{expr_pos, spec_pos};
+ghost use Rattle.c_written.specs.Written.{expr_tree, spec_tree, declarators_from, declarators_tree, enumerators_from, enumerators_tree, exprs_from, exprs_tree, memberdecls_from, memberdecls_tree, no_exprs, no_params, params_from, params_tree, specs_from, specs_tree};
+ghost use Rattle.c_written.specs.WrittenParts.{expr_pos, spec_pos};
 
 use crate::{Bytes, Constant, Name, Pos, StepWay};
 use std::alloc::Global;

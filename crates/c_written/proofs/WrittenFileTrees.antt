@@ -3,24 +3,24 @@ use Rattle.std.proofs.Common.{◌≡◌, ℕ, List, [], ◌∷◌, ◌++◌, ref
 use Rattle.std.specs.Prelude.{Option, option_map}
 use Rattle.std.specs.declared.boxed.Box.{Box}
 use Rattle.std.specs.declared.alloc.Global.{Global}
-use Rattle.c_syntax.specs.declared.place.Pos.{Pos}
-use Rattle.c_syntax.specs.declared.written.Expr.{Expr}
-use Rattle.c_syntax.specs.declared.written.Specs.{Specs}
-use Rattle.c_syntax.specs.declared.written.Declarator.{Declarator}
-use Rattle.c_syntax.specs.declared.declaration.Decl.{Decl}
-use Rattle.c_syntax.specs.declared.file.ForStart.{ForStart}
-use Rattle.c_syntax.specs.declared.file.ForStart.TheVariants as starts
-use Rattle.c_syntax.specs.declared.file.Stmt.{Stmt}
-use Rattle.c_syntax.specs.declared.file.Stmt.TheVariants as stmts
-use Rattle.c_syntax.specs.declared.file.BlockItem.{BlockItem}
-use Rattle.c_syntax.specs.declared.file.BlockItem.TheVariants as items
-use Rattle.c_syntax.specs.declared.file.BlockItems.{BlockItems, Row_of-BlockItem, end_of-BlockItem, more_of-BlockItem, items-the_row-BlockItem, items_hidden-the_row-BlockItem-0}
-use Rattle.c_syntax.specs.declared.file.BlockItem.TheBlock.{hidden-the_row-BlockItem-0}
-use Rattle.c_syntax.specs.declared.file.Outer.TheVariants as outers
-use Rattle.c_syntax.specs.Written.{expr_tree, specs_tree, declarator_tree}
-use Rattle.c_syntax.specs.WrittenDecl.{decl_tree}
-use Rattle.c_syntax.specs.WrittenFile.{BlockItemTrees, forstart_tree, stmt_tree, blockitem_tree, blockitem_rows, blockitems_from, blockitems_tree, blockitems_then, outer_tree}
-use Rattle.c_syntax.specs.WrittenFile as trees
+use Rattle.c_written.specs.declared.place.Pos.{Pos}
+use Rattle.c_written.specs.declared.written.Expr.{Expr}
+use Rattle.c_written.specs.declared.written.Specs.{Specs}
+use Rattle.c_written.specs.declared.written.Declarator.{Declarator}
+use Rattle.c_written.specs.declared.declaration.Decl.{Decl}
+use Rattle.c_written.specs.declared.file.ForStart.{ForStart}
+use Rattle.c_written.specs.declared.file.ForStart.TheVariants as starts
+use Rattle.c_written.specs.declared.file.Stmt.{Stmt}
+use Rattle.c_written.specs.declared.file.Stmt.TheVariants as stmts
+use Rattle.c_written.specs.declared.file.BlockItem.{BlockItem}
+use Rattle.c_written.specs.declared.file.BlockItem.TheVariants as items
+use Rattle.c_written.specs.declared.file.BlockItems.{BlockItems, Row_of-BlockItem, end_of-BlockItem, more_of-BlockItem, items-the_row-BlockItem, items_hidden-the_row-BlockItem-0}
+use Rattle.c_written.specs.declared.file.BlockItem.TheBlock.{hidden-the_row-BlockItem-0}
+use Rattle.c_written.specs.declared.file.Outer.TheVariants as outers
+use Rattle.c_written.specs.Written.{expr_tree, specs_tree, declarator_tree}
+use Rattle.c_written.specs.WrittenDecl.{decl_tree}
+use Rattle.c_written.specs.WrittenFile.{BlockItemTrees, forstart_tree, stmt_tree, blockitem_tree, blockitem_rows, blockitems_from, blockitems_tree, blockitems_then, outer_tree}
+use Rattle.c_written.specs.WrittenFile as trees
 
 pub forstart_nothing : forstart_tree starts.Nothing ≡ trees.Nothing
 unfolding forstart_tree

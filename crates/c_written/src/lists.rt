@@ -156,7 +156,7 @@ pub struct Places {
 
 impl Model for Places {
     ghost use Rattle.std.specs.Prelude.{List};
-    ghost use Rattle.c_syntax.specs.declared.place.Pos.{Pos};
+    ghost use Rattle.c_written.specs.declared.place.Pos.{Pos};
 
     ghost Value = { List Pos };
 

@@ -1,8 +1,8 @@
 // Declarations as they are written.
 
 ghost use Rattle.std.specs.Prelude.{◌≡◌};
-ghost use Rattle.c_syntax.specs.WrittenDecl.{init_tree, inits_from, inits_tree};
-ghost use Rattle.c_syntax.specs.WrittenParts.{init_pos};
+ghost use Rattle.c_written.specs.WrittenDecl.{init_tree, inits_from, inits_tree};
+ghost use Rattle.c_written.specs.WrittenParts.{init_pos};
 
 use crate::{Declarator, Expr, Pos, Specs};
 use std::alloc::Global;
@@ -81,9 +81,9 @@ pub struct InitDeclarators {
 
 impl Model for InitDeclarators {
     ghost use Rattle.std.specs.Prelude.{List};
-    ghost use Rattle.c_syntax.specs.declared.declaration.InitDeclarator.{InitDeclarator};
-    ghost use Rattle.c_syntax.specs.contracts.written.Declarator as declarator;
-    ghost use Rattle.c_syntax.specs.contracts.declaration.Init as init;
+    ghost use Rattle.c_written.specs.declared.declaration.InitDeclarator.{InitDeclarator};
+    ghost use Rattle.c_written.specs.contracts.written.Declarator as declarator;
+    ghost use Rattle.c_written.specs.contracts.declaration.Init as init;
     ghost use Rattle.std.specs.Coded.{codes};
 
     ghost Value = { List InitDeclarator };

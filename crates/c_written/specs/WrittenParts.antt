@@ -1,10 +1,10 @@
 -- Where what is written stands.
-use Rattle.c_syntax.specs.declared.place.Pos.{Pos}
-use Rattle.c_syntax.specs.Written.{ExprTree, SpecTree}
-use Rattle.c_syntax.specs.Written as written
-use Rattle.c_syntax.specs.WrittenDecl.{InitTree, Value, Braces}
-use Rattle.c_syntax.specs.WrittenFile.{StmtTree}
-use Rattle.c_syntax.specs.WrittenFile as stmts
+use Rattle.c_written.specs.declared.place.Pos.{Pos}
+use Rattle.c_written.specs.Written.{ExprTree, SpecTree}
+use Rattle.c_written.specs.Written as written
+use Rattle.c_written.specs.WrittenDecl.{InitTree, Value, Braces}
+use Rattle.c_written.specs.WrittenFile.{StmtTree}
+use Rattle.c_written.specs.WrittenFile as stmts
 
 abbrev pub expr_pos : ExprTree → Pos
 expr_pos (written.Word at name) = at

@@ -1,8 +1,8 @@
 // Statements and files as they are written.
 
 ghost use Rattle.std.specs.Prelude.{◌≡◌};
-ghost use Rattle.c_syntax.specs.WrittenFile.{blockitems_from, blockitems_tree, none, stmt_tree};
-ghost use Rattle.c_syntax.specs.WrittenParts.{stmt_pos};
+ghost use Rattle.c_written.specs.WrittenFile.{blockitems_from, blockitems_tree, none, stmt_tree};
+ghost use Rattle.c_written.specs.WrittenParts.{stmt_pos};
 
 use crate::{Decl, Declarator, Expr, Name, Pos, Specs};
 use std::alloc::Global;
@@ -196,11 +196,11 @@ pub struct Outers {
 
 impl Model for Outers {
     ghost use Rattle.std.specs.Prelude.{List};
-    ghost use Rattle.c_syntax.specs.declared.file.Outer.{Outer};
-    ghost use Rattle.c_syntax.specs.contracts.written.Specs as specs;
-    ghost use Rattle.c_syntax.specs.contracts.written.Declarator as declarator;
-    ghost use Rattle.c_syntax.specs.contracts.declaration.Init as init;
-    ghost use Rattle.c_syntax.specs.contracts.file.BlockItem as block_item;
+    ghost use Rattle.c_written.specs.declared.file.Outer.{Outer};
+    ghost use Rattle.c_written.specs.contracts.written.Specs as specs;
+    ghost use Rattle.c_written.specs.contracts.written.Declarator as declarator;
+    ghost use Rattle.c_written.specs.contracts.declaration.Init as init;
+    ghost use Rattle.c_written.specs.contracts.file.BlockItem as block_item;
     ghost use Rattle.std.specs.Coded.{codes};
 
     ghost Value = { List Outer };

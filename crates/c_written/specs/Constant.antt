@@ -1,22 +1,9 @@
 -- The type of an integer constant (C11 6.4.4.1 paragraph 5).
-use Rattle.std.specs.Prelude.{ℕ, ◌-◌, ◌^◌, List, [], ◌∷◌, ◌++◌, nat_eq, nat_le, if◌then◌else◌, Option, Some, None}
-use Rattle.c_syntax.specs.declared.types.IntType.{IntType}
-use Rattle.c_syntax.specs.declared.types.IntType.TheVariants as types
-use Rattle.c_syntax.specs.declared.token.Constant.{Constant}
-
--- the greatest value of a type (C11 6.2.5, at this profile's widths)
-abbrev pub greatest : IntType → ℕ
-greatest types.Char = 2 ^ 7 - 1
-greatest types.SChar = 2 ^ 7 - 1
-greatest types.UChar = 2 ^ 8 - 1
-greatest types.Short = 2 ^ 15 - 1
-greatest types.UShort = 2 ^ 16 - 1
-greatest types.Int = 2 ^ 31 - 1
-greatest types.UInt = 2 ^ 32 - 1
-greatest types.Long = 2 ^ 63 - 1
-greatest types.ULong = 2 ^ 64 - 1
-greatest types.LLong = 2 ^ 63 - 1
-greatest types.ULLong = 2 ^ 64 - 1
+use Rattle.std.specs.Prelude.{ℕ, List, [], ◌∷◌, ◌++◌, nat_eq, nat_le, if◌then◌else◌, Option, Some, None}
+use Rattle.c_written.specs.declared.int_type.IntType.{IntType}
+use Rattle.c_written.specs.declared.int_type.IntType.TheVariants as types
+use Rattle.c_written.specs.declared.token.Constant.{Constant}
+use Rattle.c_written.specs.Integer.{greatest}
 
 -- of a signed type and its unsigned one, those that a constant may have: the unsigned one with the suffix u, the signed one without it, and both without it where the base is 8 or 16
 abbrev pub signed_or_not : Constant → IntType → IntType → List IntType

@@ -1,14 +1,14 @@
 -- The trees of initialisers, by the constructors that the code has.
 use Rattle.std.proofs.Common.{◌≡◌, List, [], ◌∷◌, ◌++◌, refl, ap, ◌∙◌}
-use Rattle.c_syntax.specs.declared.place.Pos.{Pos}
-use Rattle.c_syntax.specs.declared.written.Expr.{Expr}
-use Rattle.c_syntax.specs.declared.declaration.Init.{Init}
-use Rattle.c_syntax.specs.declared.declaration.Init.TheVariants as inits
-use Rattle.c_syntax.specs.declared.declaration.Init.TheBlock.{hidden-the_row-Init-0}
-use Rattle.c_syntax.specs.declared.declaration.Inits.{Inits, Row_of-Init, end_of-Init, more_of-Init, items-the_row-Init, items_hidden-the_row-Init-0}
-use Rattle.c_syntax.specs.Written.{expr_tree}
-use Rattle.c_syntax.specs.WrittenDecl.{InitTrees, init_tree, init_rows, inits_from, inits_tree, inits_then}
-use Rattle.c_syntax.specs.WrittenDecl as trees
+use Rattle.c_written.specs.declared.place.Pos.{Pos}
+use Rattle.c_written.specs.declared.written.Expr.{Expr}
+use Rattle.c_written.specs.declared.declaration.Init.{Init}
+use Rattle.c_written.specs.declared.declaration.Init.TheVariants as inits
+use Rattle.c_written.specs.declared.declaration.Init.TheBlock.{hidden-the_row-Init-0}
+use Rattle.c_written.specs.declared.declaration.Inits.{Inits, Row_of-Init, end_of-Init, more_of-Init, items-the_row-Init, items_hidden-the_row-Init-0}
+use Rattle.c_written.specs.Written.{expr_tree}
+use Rattle.c_written.specs.WrittenDecl.{InitTrees, init_tree, init_rows, inits_from, inits_tree, inits_then}
+use Rattle.c_written.specs.WrittenDecl as trees
 
 inits_rows : {m : _} (row : Row_of-Init m) → init_rows row ≡ inits_from (items-the_row-Init m row)
 unfolding init_rows inits_from

@@ -1,12 +1,12 @@
 -- Declarations as trees without pointers. Each constructor has the fields of the code's variant, in their order.
 use Rattle.std.specs.Prelude.{List, [], ◌∷◌, map, Option, option_map}
-use Rattle.c_syntax.specs.declared.place.Pos.{Pos}
-use Rattle.c_syntax.specs.declared.declaration.Init.{Init}
-use Rattle.c_syntax.specs.declared.declaration.Init.TheVariants as inits
-use Rattle.c_syntax.specs.declared.declaration.Inits.{Inits, Row_of-Init, end_of-Init, more_of-Init}
-use Rattle.c_syntax.specs.declared.declaration.InitDeclarator.{InitDeclarator}
-use Rattle.c_syntax.specs.declared.declaration.Decl.{Decl}
-use Rattle.c_syntax.specs.Written.{ExprTree, expr_tree, DeclaratorTree, declarator_tree, SpecTrees, specs_tree}
+use Rattle.c_written.specs.declared.place.Pos.{Pos}
+use Rattle.c_written.specs.declared.declaration.Init.{Init}
+use Rattle.c_written.specs.declared.declaration.Init.TheVariants as inits
+use Rattle.c_written.specs.declared.declaration.Inits.{Inits, Row_of-Init, end_of-Init, more_of-Init}
+use Rattle.c_written.specs.declared.declaration.InitDeclarator.{InitDeclarator}
+use Rattle.c_written.specs.declared.declaration.Decl.{Decl}
+use Rattle.c_written.specs.Written.{ExprTree, expr_tree, DeclaratorTree, declarator_tree, SpecTrees, specs_tree}
 
 mutual
   pub data InitTree : Type 0 where

@@ -1,0 +1,4 @@
+pub mod WrittenTrees
+pub mod WrittenDeclTrees
+pub mod WrittenFileTrees
+pub mod Trees

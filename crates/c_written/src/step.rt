@@ -1,0 +1,8 @@
+// Steps up and down.
+
+/// The way of a step: `++` or `--`.
+#[derive(Clone, Copy, Debug, PartialEq, Eq)]
+pub enum StepWay {
+    Up,
+    Down,
+}
