@@ -1,21 +1,15 @@
--- From the cut and the file of its tokens to the program, and from the alarms to the report.
-use Rattle.std.proofs.Common.{arith, ◌≡◌, ◌≤◌, List, ℕ, [], length, Option, Some, None, refl, sym, ap, subst, ◌∙◌}
-use Rattle.std.specs.Prelude.{MatchOption, IfSome, All, AllPairs}
-use Rattle.c_written.specs.declared.token.Tokens.{Tokens}
+-- From the alarms of a walk to the report.
+use Rattle.std.proofs.Common.{◌≡◌, List, ℕ, [], Option, sym, ap, subst, ◌∙◌}
+use Rattle.std.specs.Prelude.{All, AllPairs}
 use Rattle.c_syntax.specs.declared.alarm.Alarm.{Alarm}
-use Rattle.c_lexer.specs.Cut.{IsCut}
 use Rattle.intervals.specs.declared.Interval.{Interval}
-use Rattle.verac.specs.declared.tree.Expr.{Expr}
-use Rattle.verac.specs.Tree.{ExprTree, ProgramTree, expr_tree, returning, HasConstants}
-use Rattle.verac.specs.Grammar.{IsFile}
-use Rattle.verac.specs.Program.{IsProgram}
+use Rattle.verac.specs.Tree.{ExprTree, ProgramTree, returning, HasConstants}
 use Rattle.verac.specs.Command.{IsCommand}
 use Rattle.verac.specs.Outcome.{Found, Value, Wrong, found_of}
 use Rattle.verac.specs.Walk.{Walks}
 use Rattle.verac.specs.Sound.{IsSound}
 use Rattle.verac.specs.Admission.{IsAdmitted}
 use Rattle.verac.specs.Report.{Precedes, IsPrintable, text_of}
-use Rattle.verac.specs.Verdict.{Refusal, FileTooLarge, Lexing, NotBuilt, HasNoUncut, IsRefused}
 use Rattle.verac.specs.Read.{IsOneProgram}
 use Rattle.verac.specs.Headline.{IsReport}
 use Rattle.verac.proofs.AlarmLemmas.{none_all, none_ordered, none_sound, one_sound, one_admitted, one_ordered, one_printable}
@@ -23,24 +17,6 @@ use Rattle.verac.proofs.AlarmLemmas.{none_all, none_ordered, none_sound, one_sou
 -- the words name one file
 pub same_name : (words : List (List ℕ)) (a b : List ℕ) → IsCommand words a → IsCommand words b → a ≡ b
 same_name words a b one two = let (p, e) = one.words_are in let (q, f) = two.words_are in cc
-
-abbrev IsOnlyCut : List ℕ → Tokens → Type 0
-IsOnlyCut bytes ts = (us : Tokens) → IsCut 0 bytes us → ts ≡ us
-
-pub program_read : (bytes : List ℕ) (ts : Tokens) (e : Expr) → IsCut 0 bytes ts → IsOnlyCut bytes ts → HasNoUncut bytes → IsFile ts.list (expr_tree e) → ((other : ExprTree) → IsFile ts.list other → other ≡ expr_tree e)
-    → IsOneProgram bytes (returning (expr_tree e))
-program_read bytes ts e cut only whole file one = record {
-  is = record { read = (ts, expr_tree e, cut, file, refl) };
-  only = λ other is.
-      let (us, d, cut', file', same) = is.read in
-      same ∙ ap returning (one d (subst (λ (v : Tokens). IsFile v.list d) (sym (only us cut')) file'));
-  cut = whole;
-}
-
-pub no_program : (bytes : List ℕ) (ts : Tokens) → IsOnlyCut bytes ts → ((e : ExprTree) → IsFile ts.list e → ⊥) → (program : ProgramTree) → IsProgram bytes program → ⊥
-no_program bytes ts only none program is =
-    let (us, e, other, file, same) = is.read in
-    none e (subst (λ (v : Tokens). IsFile v.list e) (sym (only us other)) file)
 
 -- what is found of the alarms of a walk
 pub walk_sound : (e : ExprTree) (f : Found) (value : Option Interval) (alarms : List Alarm) → found_of e ≡ f → Walks f value [] alarms → IsSound (returning e) alarms
@@ -63,19 +39,13 @@ pub walk_printable : (f : Found) (value : Option Interval) (alarms : List Alarm)
 walk_printable (Value n) value alarms (point, none) = subst (All IsPrintable) (sym none) (none_all IsPrintable)
 walk_printable (Wrong p kind operand) value alarms (none, (alarm, (n, is, tells), grown)) = subst (All IsPrintable) (sym grown) (one_printable p kind n alarm tells)
 
--- a small file that is a program is not refused
-accepted : (bytes : List ℕ) (program : ProgramTree) → length bytes ≤ 4194304 → IsOneProgram bytes program → (r : Refusal) → IsRefused bytes r → ⊥
-accepted bytes program small one FileTooLarge large = absurd (omega arith)
-accepted bytes program small one (Lexing reason at) (low, uncut) = one.cut reason at uncut
-accepted bytes program small one NotBuilt (low, cut, none) = none program one.is
-
-pub report : (name bytes : List ℕ) (program : ProgramTree) (alarms : List Alarm) (text : List ℕ) → length bytes ≤ 4194304 → IsOneProgram bytes program
+pub report : (name bytes : List ℕ) (program : ProgramTree) (alarms : List Alarm) (text : List ℕ) → IsOneProgram bytes program
     → IsSound program alarms → All (IsAdmitted program) alarms → AllPairs Precedes alarms → All IsPrintable alarms → text ≡ text_of name alarms → IsReport name bytes alarms text
-report name bytes program alarms text small one sound admitted ordered printable text_is = record {
+report name bytes program alarms text one sound admitted ordered printable text_is = record {
   program = program;
   read = one.is;
   only = one.only;
-  accepted = accepted bytes program small one;
+  accepted = one.accepted;
   sound = sound;
   admitted = admitted;
   ordered = ordered;

@@ -1,10 +1,9 @@
+pub mod Trees
 pub mod CommandLemmas
 pub mod RunLemmas
 pub mod SizeLemmas
 pub mod AlarmLemmas
 pub mod WalkLemmas
-pub mod ParseSeen
-pub mod ParseOnly
-pub mod ParseLemmas
-pub mod ParseExact
+pub mod FormLemmas
+pub mod VerdictLemmas
 pub mod HeadlineLemmas

@@ -8,7 +8,9 @@ use Rattle.verac.specs.Program.{IsProgram}
 use Rattle.verac.specs.Sound.{IsSound}
 use Rattle.verac.specs.Admission.{IsAdmitted}
 use Rattle.verac.specs.Report.{text_of, Precedes, IsPrintable}
-use Rattle.verac.specs.Verdict.{Refusal, IsRefused, line_of}
+use Rattle.verac.specs.declared.refusal.Refusal.{Refusal}
+use Rattle.verac.specs.RefusalText.{line_of}
+use Rattle.verac.specs.Verdict.{IsRefused}
 
 -- the text is the report of these alarms on the one program of the bytes, which are not refused
 pub record IsReport (name bytes : List ℕ) (alarms : List Alarm) (text : List ℕ) : Type 0 where

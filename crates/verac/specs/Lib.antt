@@ -1,5 +1,5 @@
 pub mod Tree
-pub mod Grammar
+pub mod Form
 pub mod Program
 pub mod Operators
 pub mod Machine
@@ -7,11 +7,10 @@ pub mod Sound
 pub mod Admission
 pub mod Report
 pub mod Command
+pub mod RefusalText
 pub mod Verdict
 pub mod Headline
 pub mod Outcome
 pub mod Walk
-pub mod Descent
-pub mod Answers
 pub mod Status
 pub mod Read

@@ -1,10 +1,16 @@
 -- Which program the bytes are.
-use Rattle.std.specs.Prelude.{◌≡◌, ℕ, List}
+use Rattle.std.specs.Prelude.{ℕ, List}
 use Rattle.c_written.specs.declared.token.Tokens.{Tokens}
+use Rattle.c_written.specs.WrittenFile.{FileTree}
 use Rattle.c_lexer.specs.Cut.{IsCut}
-use Rattle.verac.specs.Tree.{ExprTree, ProgramTree, returning}
-use Rattle.verac.specs.Grammar.{IsFile}
+use Rattle.c_grammar.specs.Refused.{IsFile}
+use Rattle.verac.specs.Tree.{ProgramTree}
+use Rattle.verac.specs.Form.{IsForm}
+
+-- the bytes are cut into the tokens of this file, of which none is refused
+abbrev pub IsSource : List ℕ → FileTree → Type 0
+IsSource bytes file = (ts : Tokens) × IsCut 0 bytes ts × IsFile ts.list file
 
 -- the bytes are this program
 pub record IsProgram (bytes : List ℕ) (program : ProgramTree) : Type 0 where
-  pub read : (ts : Tokens) × (e : ExprTree) × IsCut 0 bytes ts × IsFile ts.list e × (program ≡ returning e)
+  pub read : (file : FileTree) × IsSource bytes file × IsForm file program

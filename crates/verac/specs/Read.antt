@@ -1,19 +1,18 @@
 -- What is read of a file's bytes.
 use Rattle.std.specs.Prelude.{◌≡◌, ℕ, List}
-use Rattle.c_lexer.specs.Uncut.{IsUncut}
 use Rattle.verac.specs.declared.program.Read.{Read}
 use Rattle.verac.specs.declared.program.Read.TheVariants as reads
+use Rattle.verac.specs.declared.refusal.Refusal.{Refusal}
 use Rattle.verac.specs.Tree.{ProgramTree, expr_tree, returning, HasConstants}
 use Rattle.verac.specs.Program.{IsProgram}
-use Rattle.verac.specs.Verdict.{HasNoUncut}
+use Rattle.verac.specs.Verdict.{IsRefused}
 
--- the bytes are the program that returns this expression, and no other
+-- the bytes are this program, no other, and not refused
 pub record IsOneProgram (bytes : List ℕ) (program : ProgramTree) : Type 0 where
   pub is : IsProgram bytes program
   pub only : (other : ProgramTree) → IsProgram bytes other → other ≡ program
-  pub cut : HasNoUncut bytes
+  pub accepted : (r : Refusal) → IsRefused bytes r → ⊥
 
 abbrev pub Tells : List ℕ → Read → Type 0
 Tells bytes (reads.Program e) = IsOneProgram bytes (returning (expr_tree e)) × HasConstants (expr_tree e)
-Tells bytes (reads.Refused reason at) = IsUncut 0 bytes at reason
-Tells bytes reads.NotBuilt = HasNoUncut bytes × ((program : ProgramTree) → IsProgram bytes program → ⊥)
+Tells bytes (reads.Refused r) = IsRefused bytes r

@@ -1,40 +1,31 @@
--- Verdict: for what a file is refused, and the line that says so.
-use Rattle.std.specs.Prelude.{◌<◌, ◌≤◌, ℕ, List, ◌++◌, length, codes, decimal}
+-- Verdict: for what a file is refused.
+use Rattle.std.specs.Prelude.{◌<◌, ◌≤◌, ℕ, List, length}
 use Rattle.c_written.specs.declared.place.Pos.{Pos}
-use Rattle.c_lexer.specs.declared.reason.Reason.{Reason}
-use Rattle.c_lexer.specs.declared.reason.Reason.TheVariants as reasons
+use Rattle.c_written.specs.declared.token.Tokens.{Tokens}
+use Rattle.c_written.specs.WrittenFile.{FileTree}
+use Rattle.c_lexer.specs.Cut.{IsCut}
 use Rattle.c_lexer.specs.Uncut.{IsUncut}
+use Rattle.c_grammar.specs.Refused.{Why, Syntax, Unsupported, TooDeep}
+use Rattle.c_parser.specs.Refusals.{RefusedAt}
+use Rattle.verac.specs.declared.refusal.Refusal.{Refusal}
+use Rattle.verac.specs.declared.refusal.Refusal.TheVariants as refusals
 use Rattle.verac.specs.Tree.{ProgramTree}
-use Rattle.verac.specs.Program.{IsProgram}
+use Rattle.verac.specs.Form.{IsForm}
+use Rattle.verac.specs.Program.{IsSource}
 
-pub data Refusal : Type 0 where
-  FileTooLarge : Refusal
-  Lexing : Reason → Pos → Refusal
-  NotBuilt : Refusal
+-- the bytes are cut into tokens, of which the first that is refused stands at this place, for this reason; or it is their end
+abbrev pub IsUnparsed : List ℕ → Why → Pos → Type 0
+IsUnparsed bytes why at = (ts : Tokens) × IsCut 0 bytes ts × RefusedAt ts why at
 
--- no place of the bytes is refused by the cut into tokens
-abbrev pub HasNoUncut : List ℕ → Type 0
-HasNoUncut bytes = (reason : Reason) (at : Pos) → IsUncut 0 bytes at reason → ⊥
+-- the bytes are a file of C's grammar, of another form
+abbrev pub IsUnbuilt : List ℕ → Type 0
+IsUnbuilt bytes = (file : FileTree) × IsSource bytes file × ((program : ProgramTree) → IsForm file program → ⊥)
 
--- the first of these for which the bytes are refused: their number, a place that is not cut into tokens, and a form that is not built yet
+-- the first of these for which the bytes are refused: their number, a place that is not cut into tokens, a token, and a form that is not built yet
 abbrev pub IsRefused : List ℕ → Refusal → Type 0
-IsRefused bytes FileTooLarge = 4194304 < length bytes
-IsRefused bytes (Lexing reason at) = (length bytes ≤ 4194304) × IsUncut 0 bytes at reason
-IsRefused bytes NotBuilt = (length bytes ≤ 4194304) × HasNoUncut bytes × ((program : ProgramTree) → IsProgram bytes program → ⊥)
-
-abbrev pub reason_text : Reason → List ℕ
-reason_text reasons.BadByte = codes "byte not allowed"
-reason_text reasons.Unterminated = codes "unterminated comment or literal"
-reason_text reasons.BadNumber = codes "not an integer constant"
-reason_text reasons.TooWide = codes "integer constant too wide"
-reason_text reasons.BadEscape = codes "bad character or escape"
-reason_text reasons.Directive = codes "directive"
-
--- a refusal at a place
-abbrev pub place_line : List ℕ → Pos → List ℕ → List ℕ
-place_line name at text = name ++ (codes ":" ++ (decimal at.line ++ (codes ":" ++ (decimal at.col ++ (codes ": refused: " ++ (text ++ codes "\n"))))))
-
-abbrev pub line_of : List ℕ → Refusal → List ℕ
-line_of name FileTooLarge = name ++ codes ": refused: more than 4194304 bytes\n"
-line_of name (Lexing reason at) = place_line name at (reason_text reason)
-line_of name NotBuilt = name ++ codes ": refused: not built yet\n"
+IsRefused bytes refusals.FileTooLarge = 4194304 < length bytes
+IsRefused bytes (refusals.Lexing reason at) = (length bytes ≤ 4194304) × IsUncut 0 bytes at reason
+IsRefused bytes (refusals.Syntax at) = (length bytes ≤ 4194304) × IsUnparsed bytes Syntax at
+IsRefused bytes (refusals.Unsupported construct at) = (length bytes ≤ 4194304) × IsUnparsed bytes (Unsupported construct) at
+IsRefused bytes (refusals.TooDeep at) = (length bytes ≤ 4194304) × IsUnparsed bytes TooDeep at
+IsRefused bytes refusals.NotBuilt = (length bytes ≤ 4194304) × IsUnbuilt bytes

@@ -1,15 +1,17 @@
 //! Verac: what may go wrong in a C file, from its bytes to the report.
-#![tactic(auto)]
+#![tactic(auto, using(crate::proofs::Trees::the_trees))]
 
 mod command;
-mod parse;
+mod form;
 mod program;
+mod refusal;
 mod report;
 mod runs;
 mod status;
 #[cfg(test)]
 mod tests;
 mod tree;
+mod verdict;
 mod walk;
 
 use outside_io::{HostFiles, HostOut};

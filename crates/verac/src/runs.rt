@@ -3,15 +3,13 @@ ghost use Rattle.std.specs.Prelude.{◌≡◌, ◌⊎◌, ◌<◌, ◌≤◌, �
 ghost use Rattle.outside_io.specs.Io.{Rose, IsFront};
 ghost use Rattle.verac.specs.Command.{IsCommand, texts};
 ghost use Rattle.verac.specs.Headline.{IsAnswer, OnWhole, OnNothing, IsWhole, Completes};
-ghost use Rattle.verac.specs.Verdict.{NotBuilt, Lexing, line_of, reason_text, place_line};
 
 use crate::command::command;
 use crate::program::{Read, program_of};
+use crate::refusal::{Refusal, refusal_line};
 use crate::report::report_text;
 use crate::status::Status;
 use crate::walk::alarms_of;
-use c_lexer::Reason;
-use c_syntax::Pos;
 use outside_io::{Files, ReadError, Sink, read_all, write_all};
 use std::alloc::{AllocError, Global};
 
@@ -71,37 +69,8 @@ fn too_large(alloc: Global, name: &str) -> Result<(Status, String), AllocError>
     ensures answer { IfOk result (λ r. (bytes : List ℕ) → 4194304 < length bytes → IsAnswer name.now bytes r.0 (string_bytes r.1)) }
     ensures done { IfOk result (λ r. IsWhole r.0) }
 {
-    let line = format!(in alloc; "{name}: refused: more than 4194304 bytes\n")?;
+    let line = refusal_line(alloc, name, Refusal::FileTooLarge)?;
     Ok((Status::Refused, line))
-}
-
-// The line for a file of another form.
-fn not_built(alloc: Global, name: &str) -> Result<String, AllocError>
-    ensures { IfOk result (λ line. string_bytes line ≡ line_of name.now NotBuilt) }
-{
-    format!(in alloc; "{name}: refused: not built yet\n")
-}
-
-// The line for a refusal at a place.
-fn refused_at(alloc: Global, name: &str, at: Pos, text: &str) -> Result<String, AllocError>
-    ensures { IfOk result (λ line. string_bytes line ≡ place_line name.now at text.now) }
-{
-    let line = at.line;
-    let col = at.col;
-    format!(in alloc; "{name}:{line}:{col}: refused: {text}\n")
-}
-
-fn reason_name(reason: Reason) -> &'static str
-    ensures { result.now ≡ reason_text reason }
-{
-    match reason {
-        Reason::BadByte => "byte not allowed",
-        Reason::Unterminated => "unterminated comment or literal",
-        Reason::BadNumber => "not an integer constant",
-        Reason::TooWide => "integer constant too wide",
-        Reason::BadEscape => "bad character or escape",
-        Reason::Directive => "directive",
-    }
 }
 
 // The answer for a file of this name with these bytes.
@@ -111,12 +80,8 @@ fn answer_for(alloc: Global, name: &str, bytes: &[u8]) -> Result<(Status, String
     ensures done { IfOk result (λ r. IsWhole r.0) }
 {
     match program_of(alloc, bytes)? {
-        Read::NotBuilt => {
-            let line = not_built(alloc, name)?;
-            Ok((Status::Refused, line))
-        }
-        Read::Refused(reason, at) => {
-            let line = refused_at(alloc, name, at, reason_name(reason))?;
+        Read::Refused(refusal) => {
+            let line = refusal_line(alloc, name, refusal)?;
             Ok((Status::Refused, line))
         }
         Read::Program(e) => {

@@ -4,7 +4,6 @@ use Rattle.verac.specs.Tree.{expr_tree, returning}
 use Rattle.verac.specs.Read.{IsOneProgram}
 use Rattle.verac.specs.Report.{text_of}
 use Rattle.verac.specs.Headline.{IsReport}
-use Rattle.verac.specs.Verdict.{Lexing}
 use Rattle.verac.proofs.HeadlineLemmas.{report}
 use Rattle.verac.proofs.runs.answer_for.Goals as goal
 
@@ -14,7 +13,7 @@ returns-then-is_empty-clause-answer c =
     let one : IsOneProgram c.args.bytes.now (returning (expr_tree c.in-Program.e)) = search rules in
     let text : string_bytes c.in_ok-text-in-Program.text ≡ text_of c.args.name.now c.in_ok-alarms-in-Program.alarms.items = search rules in
     let whole : IsReport c.args.name.now c.args.bytes.now c.in_ok-alarms-in-Program.alarms.items (string_bytes c.in_ok-text-in-Program.text) =
-    report c.args.name.now c.args.bytes.now (returning (expr_tree c.in-Program.e)) c.in_ok-alarms-in-Program.alarms.items (string_bytes c.in_ok-text-in-Program.text) c.requires one
+    report c.args.name.now c.args.bytes.now (returning (expr_tree c.in-Program.e)) c.in_ok-alarms-in-Program.alarms.items (string_bytes c.in_ok-text-in-Program.text) one
     c.in_ok-alarms-in-Program.ensures.sound c.in_ok-alarms-in-Program.ensures.admitted c.in_ok-alarms-in-Program.ensures.ordered c.in_ok-alarms-in-Program.ensures.printable text in
     subst (λ (alarms : List Alarm). IsReport c.args.name.now c.args.bytes.now alarms (string_bytes c.in_ok-text-in-Program.text)) none whole
 
@@ -25,9 +24,6 @@ returns-clause-answer c =
     let text : string_bytes c.in_ok-text-in-Program.text ≡ text_of c.args.name.now c.in_ok-alarms-in-Program.alarms.items = search rules in (
       c.in_ok-alarms-in-Program.alarms.items,
       some,
-      report c.args.name.now c.args.bytes.now (returning (expr_tree c.in-Program.e)) c.in_ok-alarms-in-Program.alarms.items (string_bytes c.in_ok-text-in-Program.text) c.requires one
+      report c.args.name.now c.args.bytes.now (returning (expr_tree c.in-Program.e)) c.in_ok-alarms-in-Program.alarms.items (string_bytes c.in_ok-text-in-Program.text) one
           c.in_ok-alarms-in-Program.ensures.sound c.in_ok-alarms-in-Program.ensures.admitted c.in_ok-alarms-in-Program.ensures.ordered c.in_ok-alarms-in-Program.ensures.printable text,
     )
-
-pub returns-in-Refused-clause-answer : goal.returns-in-Refused-clause-answer
-returns-in-Refused-clause-answer c = (Lexing c.in-Refused.reason c.in-Refused.at, (c.requires, search rules), search rules)

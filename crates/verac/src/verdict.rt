@@ -1,0 +1,38 @@
+// Laws of the verdict: bytes are one program, or are refused once.
+ghost use Rattle.std.specs.Prelude.{◌≡◌, ◌≤◌, ℕ, List, length};
+ghost use Rattle.verac.specs.declared.refusal.Refusal.{Refusal};
+ghost use Rattle.verac.specs.Tree.{ProgramTree};
+ghost use Rattle.verac.specs.Program.{IsProgram};
+ghost use Rattle.verac.specs.Verdict.{IsRefused};
+
+use c_grammar::{file_nor_refused, one_file, one_refusal};
+use c_lexer::{cut_or_uncut, one_cut, one_uncut};
+
+/// Bytes are one program at most.
+pub fn one_program()
+    ensures { (bytes : List ℕ) (a b : ProgramTree) → IsProgram bytes a → IsProgram bytes b → a ≡ b }
+{
+    one_cut();
+    one_file();
+}
+
+/// Bytes are refused for one reason at most, at one place.
+pub fn one_verdict()
+    ensures { (bytes : List ℕ) (a b : Refusal) → IsRefused bytes a → IsRefused bytes b → a ≡ b }
+{
+    one_cut();
+    one_uncut();
+    cut_or_uncut();
+    one_refusal();
+    file_nor_refused();
+}
+
+/// Bytes that are a program are refused only where they are too many.
+pub fn program_nor_refused()
+    ensures { (bytes : List ℕ) (program : ProgramTree) (r : Refusal) → length bytes ≤ 4194304 → IsProgram bytes program → IsRefused bytes r → ⊥ }
+{
+    one_cut();
+    cut_or_uncut();
+    one_file();
+    file_nor_refused();
+}
