@@ -1,5 +1,5 @@
 //! What the layers of Verac speak of: places, types, tokens, trees and alarms.
-#![tactic(auto, using(crate::proofs::Trees::the_trees))]
+#![tactic(auto)]
 
 mod alarm;
 mod op;

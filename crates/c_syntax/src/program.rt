@@ -1,4 +1,5 @@
 // Typed programs.
+#![tactic(auto, using(crate::proofs::Trees::the_trees))]
 
 use crate::{CType, Name, Numbers, Object, Pos, TStmt};
 use std::alloc::Global;

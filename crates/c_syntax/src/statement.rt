@@ -1,4 +1,5 @@
 // Typed statements.
+#![tactic(auto, using(crate::proofs::Trees::the_trees))]
 
 ghost use Rattle.std.specs.Prelude.{◌≡◌};
 ghost use Rattle.c_syntax.specs.TypedParts.{tstmt_pos};

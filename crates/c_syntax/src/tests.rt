@@ -1,4 +1,5 @@
 // Trees built by the plain constructors. Their trees are proved with no answer.
+#![tactic(auto, using(crate::proofs::Trees::the_trees))]
 
 ghost use Rattle.std.specs.Prelude.{◌≡◌, ◌∷◌, [], IfOk, None, Some, false, pos, true};
 ghost use Rattle.c_syntax.specs.Types.{Int, Pointer, ctype_tree};

@@ -1,4 +1,5 @@
 // Typed expressions and the places that they name.
+#![tactic(auto, using(crate::proofs::Trees::the_trees))]
 
 ghost use Rattle.std.specs.Prelude.{◌≡◌};
 ghost use Rattle.c_syntax.specs.TypedExpr.{none, texpr_tree, texprs_from, texprs_tree, tlvalue_tree};

@@ -1,4 +1,5 @@
 // Types of C, and the objects that have them.
+#![tactic(auto, using(crate::proofs::Trees::the_trees))]
 
 ghost use Rattle.std.specs.Prelude.{◌≡◌, ◌↔◌, IfOk, IsTrue};
 ghost use Rattle.c_syntax.specs.Types.{ctype_tree};

@@ -1,4 +1,5 @@
 // Declarations as they are written.
+#![tactic(auto, using(crate::proofs::Trees::the_written_trees))]
 
 ghost use Rattle.std.specs.Prelude.{◌≡◌};
 ghost use Rattle.c_written.specs.WrittenDecl.{init_tree, inits_from, inits_tree};

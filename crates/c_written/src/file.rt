@@ -1,4 +1,5 @@
 // Statements and files as they are written.
+#![tactic(auto, using(crate::proofs::Trees::the_written_trees))]
 
 ghost use Rattle.std.specs.Prelude.{◌≡◌};
 ghost use Rattle.c_written.specs.WrittenFile.{blockitems_from, blockitems_tree, none, stmt_tree};

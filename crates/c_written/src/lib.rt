@@ -1,6 +1,6 @@
 //! What the text of a program is made of: places, names, tokens, and the trees of expressions,
 //! declarations and statements as they are written.
-#![tactic(auto, using(crate::proofs::Trees::the_written_trees))]
+#![tactic(auto)]
 
 mod construct;
 mod declaration;

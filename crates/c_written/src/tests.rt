@@ -1,4 +1,5 @@
 // Trees built by the plain constructors. Their trees are proved with no answer.
+#![tactic(auto, using(crate::proofs::Trees::the_written_trees))]
 
 ghost use Rattle.std.specs.Prelude.{◌≡◌, IfOk};
 ghost use Rattle.c_written.specs.Written.{declarator_tree, expr_tree, more_params, more_specs, no_params, no_specs, spec_tree, specs_tree};

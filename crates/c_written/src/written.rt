@@ -1,5 +1,6 @@
 // Expressions, types and declarators as they are written. A declarator may hold expressions, and an
 // expression types, so all of these hold each other.
+#![tactic(auto, using(crate::proofs::Trees::the_written_trees))]
 
 ghost use Rattle.std.specs.Prelude.{◌≡◌};
 ghost use Rattle.c_written.specs.Written.{expr_tree, spec_tree, declarators_from, declarators_tree, enumerators_from, enumerators_tree, exprs_from, exprs_tree, memberdecls_from, memberdecls_tree, no_exprs, no_params, params_from, params_tree, specs_from, specs_tree};
