@@ -10,8 +10,8 @@ ghost use Rattle.c_written.specs.WrittenFile as files;
 ghost use Rattle.c_written.specs.declared.written.TypeWord.TheVariants as words;
 
 use crate::{
-    BlockItem, BlockItems, Decl, Declarator, Expr, File, Init, InitDeclarator, InitDeclarators, Name, Outer, Outers,
-    Param, Params, Pos, Spec, Specs, Stmt, TypeWord,
+    BlockItem, BlockItems, Decl, Declarator, Expr, File, Init, InitDeclarator, InitDeclarators,
+    Name, Outer, Outers, Param, Params, Pos, Spec, Specs, Stmt, TypeWord,
 };
 use std::alloc::{AllocError as NoMemory, Global};
 use std::test::Fail;
