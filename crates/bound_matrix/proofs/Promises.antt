@@ -7,7 +7,8 @@ use Rattle.ext_int.specs.Ext.{Above, AtMost, lesser}
 use Rattle.ext_int.specs.declared.Ext.{Ext}
 use Rattle.ext_int.specs.declared.Ext.TheVariants.{Low, Fin, High}
 use Rattle.bound_matrix.specs.Bound.{bar, row_start, InRange, AllInRange, cut, LowersTo, MatrixView, bound_at}
-use Rattle.bound_matrix.specs.Points.{IsUpTo, Meets, IsSmall, IsSmallNumber, IsTight, IsPoint, WasTight, signed, value_at}
+use Rattle.bound_matrix.specs.Points.{IsUpTo, Meets, IsSmall, IsSmallNumber, IsTight, IsPoint, WasTight, signed}
+use Rattle.ext_int.specs.Valuation.{value_at}
 use Rattle.bound_matrix.specs.Cells.{cell, Lowered, IsSigned, IsMirrored, IsTightly, WasTightly, Stored}
 use Rattle.bound_matrix.proofs.Entries.{at-most-up, cut-same}
 use Rattle.bound_matrix.proofs.Places.{Sign, even, odd, sign, bar-twice, bound-mirror, row_start-end}

@@ -1,15 +1,10 @@
 -- The integer points of a matrix of bounds, and when it is tightly closed (Miné; Bagnara, Hill and Zaffanella).
 use Rattle.std.specs.Prelude.{ℕ, zero, suc, ℤ, pos, neg_ℤ, ◌≡◌, ◌<◌, ◌+◌, ◌/◌, ◌%◌, ◌^◌, ◌+ℤ◌, ◌≤ℤ◌, List, [], ◌∷◌, if◌then◌else◌, nat_eq}
 use Rattle.ext_int.specs.Ext.{Above}
+use Rattle.ext_int.specs.Valuation.{value_at}
 use Rattle.ext_int.specs.declared.Ext.{Ext}
 use Rattle.ext_int.specs.declared.Ext.TheVariants.{Low, Fin, High}
 use Rattle.bound_matrix.specs.Bound.{MatrixView, bound_at, bar, LowersTo}
-
--- the number that a valuation gives a variable: 0 past its end
-abbrev pub value_at : List ℤ → ℕ → ℤ
-value_at [] k = pos 0
-value_at (x ∷ xs) zero = x
-value_at (x ∷ xs) (suc k) = value_at xs k
 
 -- the number that an index stands for: of an even one its variable's, of an odd one its variable's negated
 unfoldable pub signed : List ℤ → ℕ → ℤ

@@ -17,7 +17,8 @@ mod transfer;
 pub use counting::Steps;
 pub use halves::Half;
 pub use matrices::{Matrix, close, close_one};
-pub use tighten::{Live, close_one_counted};
+pub use ext_int::Live;
+pub use tighten::close_one_counted;
 
 #[cfg(test)]
 mod tests;

@@ -7,8 +7,8 @@ ghost use Rattle.bound_matrix.specs.Points.{IsPoint, IsSmall, IsTight, WasTight}
 
 use crate::counting::Steps;
 use crate::halves::Half;
-use crate::tighten::{Live, close_counted, close_one_counted};
-use ext_int::Ext;
+use crate::tighten::{close_counted, close_one_counted};
+use ext_int::{Ext, Live};
 use std::alloc::{AllocError as NoMemory, Global};
 use std::marker::{Brand, Model};
 use std::sync::ledger::{Blank, Ledger};

@@ -8,17 +8,8 @@ use crate::counting::Steps;
 use crate::halves::Half;
 use crate::table::{CELLS, close_cells, close_lowered};
 use crate::transfer::{load, store};
-use ext_int::Ext;
+use ext_int::{Ext, Live};
 use std::sync::ledger::Ledger;
-
-/// Whether there may be a point.
-#[derive(Clone, Copy, Debug, PartialEq, Eq)]
-pub enum Live {
-    /// There may be one.
-    Live,
-    /// There is none.
-    Dead,
-}
 
 /// Closes a matrix tightly.
 pub fn close_counted<L: Ledger>(m: &mut Half, steps: &mut Steps<L>) -> Live

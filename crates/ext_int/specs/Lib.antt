@@ -1,1 +1,2 @@
 pub mod Ext
+pub mod Valuation

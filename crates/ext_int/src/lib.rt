@@ -22,6 +22,15 @@ pub enum Ext {
     High,
 }
 
+/// Whether anything can still be so.
+#[derive(Clone, Copy, Debug, PartialEq, Eq)]
+pub enum Live {
+    /// Something may be.
+    Live,
+    /// Nothing can.
+    Dead,
+}
+
 /// The sum as a lower bound; `Low` where an operand is infinite.
 pub fn add_low(a: Ext, b: Ext) -> Ext
     ensures value { result ≡ sum_low a b }

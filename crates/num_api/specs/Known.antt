@@ -3,7 +3,7 @@ use Rattle.std.specs.Prelude.{ℕ, ℤ, List}
 use Rattle.num_api.specs.declared.message.Range.{Range}
 use Rattle.num_api.specs.Exprs.{NExprTree}
 use Rattle.num_api.specs.Ranges.{IsPoint}
-use Rattle.num_api.specs.Valuation.{value_at}
+use Rattle.ext_int.specs.Valuation.{value_at}
 use Rattle.num_api.specs.Value.{OnVariables}
 
 -- the state knows the variable's number in this valuation

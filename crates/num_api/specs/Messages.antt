@@ -5,7 +5,7 @@ use Rattle.num_api.specs.declared.message.Message.TheVariants as messages
 use Rattle.num_api.specs.Exprs.{nexpr_tree}
 use Rattle.num_api.specs.Ranges.{InRange}
 use Rattle.num_api.specs.Residues.{InResidue, IsResidue}
-use Rattle.num_api.specs.Valuation.{value_at}
+use Rattle.ext_int.specs.Valuation.{value_at}
 use Rattle.num_api.specs.Value.{value_of}
 
 -- the message holds in the valuation

@@ -7,7 +7,7 @@ use mir.Syntax.{w128}
 use Rattle.num_api.specs.declared.expr.NOp.{NOp}
 use Rattle.num_api.specs.declared.expr.NOp.TheVariants.{Neg, Not, Add, Sub, Mul, Quot, Rem, Shl, Shr, And, Or, Xor, Eq, Ne, Lt, Le}
 use Rattle.num_api.specs.Exprs.{NExprTree, Const, Read, Unary, Binary}
-use Rattle.num_api.specs.Valuation.{value_at}
+use Rattle.ext_int.specs.Valuation.{value_at}
 
 -- 1 where the test holds, and else 0
 abbrev pub truth : Bool → ℤ

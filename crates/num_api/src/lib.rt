@@ -3,7 +3,7 @@
 //! A value domain describes sets of whole numbers, a numeric domain sets of valuations. Every law is
 //! a clause of the call that it speaks of. A law that ties two calls goes through a ghost member,
 //! since a clause calls nothing.
-#![tactic(auto, using(crate::proofs::Trees::nexpr_trees))]
+#![tactic(auto)]
 
 mod domain;
 mod expr;
@@ -16,7 +16,8 @@ pub use domain::{Exact, NumDomain, Oracle};
 pub use expr::{NExpr, NOp, Var};
 pub use fixpoint::{settle, settle_value};
 pub use lists::{Messages, NumFacts};
-pub use message::{Live, Message, Range, Residue};
+pub use ext_int::Live;
+pub use message::{Message, Range, Residue};
 pub use value::{ExactValue, ValueDomain};
 
 #[cfg(test)]

@@ -18,13 +18,6 @@ pub struct Residue {
     pub modulus: i128,
 }
 
-/// Whether anything can still be so.
-#[derive(Clone, Copy, Debug, PartialEq, Eq)]
-pub enum Live {
-    Live,
-    Dead,
-}
-
 /// A fact of a valuation.
 #[derive(Debug, Drop)]
 pub enum Message {

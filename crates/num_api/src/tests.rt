@@ -4,7 +4,7 @@ ghost use Rattle.std.specs.Prelude.{◌≡◌, ℕ, ℤ, pos, false, ◌||◌, n
 ghost use Rattle.ramps.specs.Steps.{least};
 ghost use Rattle.ramps.specs.Powers.{power_steps};
 ghost use Rattle.num_api.specs.Ranges.{all_numbers};
-ghost use Rattle.num_api.specs.Valuation.{value_at};
+ghost use Rattle.ext_int.specs.Valuation.{value_at};
 
 use crate::{
     Live, Message, Messages, NExpr, NOp, NumDomain, NumFacts, Oracle, Range, Residue, ValueDomain,
