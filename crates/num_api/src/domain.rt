@@ -1,4 +1,5 @@
 // Sets of valuations.
+#![tactic(auto, using(crate::proofs::Trees::nexpr_trees))]
 
 ghost use Rattle.std.specs.Prelude.{◌≡◌, ◌≢◌, ℕ, ℤ, List, ◌≤◌, ◌<◌, IsTrue, true, false, Bool, Option, IfSome, IfNone, IfOk, OnOk, Some, None};
 ghost use Rattle.ramps.specs.Told.{Keeps};

@@ -1,4 +1,5 @@
 // Expressions over variables.
+#![tactic(auto, using(crate::proofs::Trees::nexpr_trees))]
 
 /// A variable, by its number.
 #[derive(Clone, Copy, Debug, PartialEq, Eq)]
