@@ -14,9 +14,9 @@ mod value;
 
 pub use domain::{Exact, NumDomain, Oracle};
 pub use expr::{NExpr, NOp, Var};
+pub use ext_int::Live;
 pub use fixpoint::{settle, settle_value};
 pub use lists::{Messages, NumFacts};
-pub use ext_int::Live;
 pub use message::{Message, Range, Residue};
 pub use value::{ExactValue, ValueDomain};
 
