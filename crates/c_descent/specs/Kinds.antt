@@ -48,14 +48,6 @@ abbrev pub sign_at : List Placed → Option Punctuator
 sign_at [] = None
 sign_at (t ∷ ts) = sign_of t.token
 
-abbrev pub keyword_of : Token → Option Keyword
-keyword_of (kinds.Keyword k) = Some k
-keyword_of _ = None
-
-abbrev pub keyword_at : List Placed → Option Keyword
-keyword_at [] = None
-keyword_at (t ∷ ts) = keyword_of t.token
-
 -- the joint, where it is of the level
 abbrev pub joint_where : {l : Level} (j : Joint) → Option (level_of j ≡ l) → Option Joint
 joint_where j (Some e) = Some j

@@ -1,4 +1,5 @@
 // What a token holds, for the tree.
+#![tactic(auto, using(c_written::proofs::Trees::the_written_trees))]
 
 ghost use Rattle.std.specs.Prelude.{◌≡◌, ◌++◌, IfOk};
 ghost use Rattle.c_grammar.specs.Classes.{byte_of, bytes_of, constant_of, low_byte, name_of};

@@ -1,4 +1,5 @@
 // Nodes of expressions.
+#![tactic(auto, using(c_written::proofs::Trees::the_written_trees))]
 
 ghost use Rattle.std.specs.Prelude.{◌≡◌, IfOk};
 ghost use Rattle.c_written.specs.Written.{exprs_from, exprs_tree, declarator_tree, specs_tree, expr_tree, exprs_then, more_exprs, no_exprs, Assign, Binary, Cast, Comma, Compound, Cond, Dot, Arrow, Enclosed, Index, PostStep, PreStep, SizeofExpr, SizeofType, Unary};

@@ -1,4 +1,5 @@
 // What one kind of token makes alone.
+#![tactic(auto, using(c_written::proofs::Trees::the_written_trees))]
 
 ghost use Rattle.std.specs.Prelude.{◌≡◌, ℕ, ◌+◌, ◌<◌, ◌≤◌, List, length, IfOk};
 ghost use Rattle.c_written.specs.Written.{expr_tree, spec_tree};

@@ -1,6 +1,6 @@
 //! The single steps of the parser's descent: a token taken or refused, what comes next, and the
 //! nodes that are made.
-#![tactic(auto, using(c_written::proofs::Trees::the_written_trees))]
+#![tactic(auto)]
 
 mod class;
 mod context;
@@ -11,19 +11,38 @@ mod kind;
 mod leaf;
 mod level;
 mod look;
+#[cfg(test)]
+mod tests;
 mod token;
 mod type_kind;
 mod type_node;
 
-pub use class::{Class};
+pub use class::Class;
 pub use context::{Context, Setting};
-pub use copy::{byte_of, bytes_of, constant_of, name_of, push_bytes};
-pub use expr_node::{arrow_expr, assign_expr, cast_expr, compound_expr, cond_expr, dot_expr, enclosed_expr, index_expr, is_word, joined, one_expr, post_step_expr, pre_step_expr, push_expr, sizeof_expr, sizeof_type, unary_expr};
-pub use fault::{Fault};
-pub use kind::{AssignKind, PrefixKind, PrimaryKind, SuffixKind, assign_at, assign_sign, prefix_at, primary_at, step_sign, suffix_at, unary_sign};
+pub use copy::name_of;
+pub use expr_node::{
+    arrow_expr, assign_expr, cast_expr, compound_expr, cond_expr, dot_expr, enclosed_expr,
+    index_expr, is_word, joined, one_expr, post_step_expr, pre_step_expr, push_expr, sizeof_expr,
+    sizeof_type, unary_expr,
+};
+pub use fault::Fault;
+pub use kind::{
+    AssignKind, PrefixKind, PrimaryKind, SuffixKind, assign_at, assign_sign, prefix_at, primary_at,
+    step_sign, suffix_at, unary_sign,
+};
 pub use leaf::{basic, character, constant, number, storage, strings, typedef_name, word};
 pub use level::{Joint, Level, joint_at, joint_sign};
-pub use look::{Mark, comes, designator_ahead, label_ahead, params_ahead, plain_word_ahead, spec_ahead, type_ahead, type_name_ahead};
-pub use token::{barred, barred_call, first, keyword_at, refused, sign_at, taken};
-pub use type_kind::{DirectKind, Role, SpecKind, TagKind, TailKind, direct_at, spec_at, storage_word, tag_at, tail_at, type_word};
-pub use type_node::{array_declarator, declared_word, empty_declarator, function_declarator, grouped_declarator, is_given, is_type, one_declarator, one_enumerator, one_member, one_param, one_spec, open_array_declarator, param_of, pointer_declarator, push_declarator, push_enumerator, push_member, push_param, push_spec, specs_pos, valued_enumerator};
+pub use look::{
+    Mark, comes, designator_ahead, label_ahead, params_ahead, plain_word_ahead, spec_ahead,
+    type_ahead, type_name_ahead,
+};
+pub use token::{barred, barred_call, first, refused, taken};
+pub use type_kind::{
+    DirectKind, Role, SpecKind, TagKind, TailKind, direct_at, spec_at, tag_at, tail_at,
+};
+pub use type_node::{
+    array_declarator, declared_word, empty_declarator, function_declarator, grouped_declarator,
+    is_given, is_type, one_declarator, one_enumerator, one_member, one_param, one_spec,
+    open_array_declarator, param_of, pointer_declarator, push_declarator, push_enumerator,
+    push_member, push_param, push_spec, specs_pos, valued_enumerator,
+};

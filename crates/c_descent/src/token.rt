@@ -1,4 +1,5 @@
 // Tokens taken and refused.
+#![tactic(auto, using(c_written::proofs::Trees::the_written_trees))]
 
 ghost use Rattle.std.specs.Prelude.{◌≡◌, ℕ, ◌+◌, ◌≤◌, ◌&&◌, nat_lt, true, List, [], ◌∷◌, length, IfOk, MatchOption};
 ghost use Rattle.c_grammar.specs.Refused.{first_is, forms_of_bracket, inner_typedef, is_bracket, keyword_construct, nested_case, nesting_limit, token_construct};
@@ -8,7 +9,7 @@ ghost use Rattle.c_written.specs.Written.{ExprTree};
 ghost use Rattle.c_grammar.specs.Descent.{barred, refusal};
 ghost use Rattle.c_descent.specs.Views.{scene_of, setting_of, class_of};
 ghost use Rattle.c_descent.specs.Answers.{IsStop, Takes};
-ghost use Rattle.c_descent.specs.Kinds.{keyword_at, keyword_of, opens, sign_at, sign_of};
+ghost use Rattle.c_descent.specs.Kinds.{opens, sign_at, sign_of};
 
 use crate::class::Class;
 use crate::context::{Context, Setting};
@@ -214,29 +215,6 @@ fn sign_of(token: &Token) -> Option<Punctuator>
         Token::Punctuator(sign) => Some(*sign),
         Token::Word(_)
         | Token::Keyword(_)
-        | Token::Number(_)
-        | Token::Character(_)
-        | Token::Text(_) => None,
-    }
-}
-
-/// The keyword that comes, where one does.
-pub fn keyword_at(tokens: &[Placed]) -> Option<Keyword>
-    ensures { result ≡ keyword_at tokens.now }
-{
-    match first(tokens) {
-        Some((placed, _)) => keyword_of(&placed.token),
-        None => None,
-    }
-}
-
-fn keyword_of(token: &Token) -> Option<Keyword>
-    ensures { result ≡ keyword_of token.now }
-{
-    match token {
-        Token::Keyword(keyword) => Some(*keyword),
-        Token::Word(_)
-        | Token::Punctuator(_)
         | Token::Number(_)
         | Token::Character(_)
         | Token::Text(_) => None,

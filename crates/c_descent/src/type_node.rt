@@ -1,4 +1,5 @@
 // Nodes of types and declarators.
+#![tactic(auto, using(c_written::proofs::Trees::the_written_trees))]
 
 ghost use Rattle.std.specs.Prelude.{◌≡◌, IfOk, option_map};
 ghost use Rattle.c_written.specs.Written.{declarator_tree, declarators_from, declarators_then, enumerator_tree, enumerators_from, enumerators_then, expr_tree, memberdecl_tree, memberdecls_from, memberdecls_then, more_declarators, more_enumerators, more_members, more_params, more_specs, no_declarators, no_enumerators, no_members, no_params, no_specs, param_tree, params_from, params_then, spec_tree, specs_from, specs_then, specs_tree, Array, Grouped, OpenArray, Pointer, Valued, Function, Members};

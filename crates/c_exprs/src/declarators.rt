@@ -1,4 +1,5 @@
 // Declarators and parameters.
+#![tactic(auto, using(c_written::proofs::Trees::the_written_trees))]
 
 ghost use Rattle.std.specs.Prelude.{◌≡◌, ℕ, ◌+◌, ◌<◌, ◌≤◌, Bool, true, false, not, ◌&&◌, List, length, IfOk};
 ghost use Rattle.c_written.specs.Written.{declarator_tree, param_tree, params_from};
@@ -13,7 +14,12 @@ ghost use Rattle.c_descent.specs.Views.{role_view, scene_of};
 
 use crate::exprs::conditional;
 use crate::types::specs;
-use c_descent::{Class, Context, DirectKind, Fault, Mark, Role, TailKind, array_declarator, barred, comes, direct_at, empty_declarator, function_declarator, grouped_declarator, is_given, name_of, one_param, open_array_declarator, param_of, params_ahead, plain_word_ahead, pointer_declarator, push_param, refused, tail_at, taken, type_name_ahead};
+use c_descent::{
+    Class, Context, DirectKind, Fault, Mark, Role, TailKind, array_declarator, barred, comes,
+    direct_at, empty_declarator, function_declarator, grouped_declarator, is_given, name_of,
+    one_param, open_array_declarator, param_of, params_ahead, plain_word_ahead, pointer_declarator,
+    push_param, refused, tail_at, taken, type_name_ahead,
+};
 use c_written::{Construct, Declarator, Keyword, Param, Placed, Pos, Punctuator};
 
 /// A declarator, or an abstract one.
@@ -260,7 +266,8 @@ fn size<'a>(
     let closes = Class::Sign(Punctuator::RightBracket);
     let (value, rest) = conditional(context, count, tokens)?;
     let (_close, rest) = taken(context, count, 0, closes, rest)?;
-    Ok((array_declarator(context.alloc, at, inner, value)?, rest))
+    let whole = array_declarator(context.alloc, at, inner, value)?;
+    Ok((whole, rest))
 }
 
 /// The bracket that closes, where there is no size.
@@ -278,7 +285,8 @@ fn no_size<'a>(
 {
     let closes = Class::Sign(Punctuator::RightBracket);
     let (_close, rest) = taken(context, count, 0, closes, tokens)?;
-    Ok((open_array_declarator(context.alloc, at, inner)?, rest))
+    let whole = open_array_declarator(context.alloc, at, inner)?;
+    Ok((whole, rest))
 }
 
 /// What follows the parenthesis that opens parameters.
@@ -316,7 +324,8 @@ fn no_parameters<'a>(
 {
     let closes = Class::Sign(Punctuator::RightParenthesis);
     let (_close, rest) = taken(context, count, 0, closes, tokens)?;
-    Ok((empty_declarator(context.alloc, at, inner)?, rest))
+    let whole = empty_declarator(context.alloc, at, inner)?;
+    Ok((whole, rest))
 }
 
 /// The parameters behind the first.

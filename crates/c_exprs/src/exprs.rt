@@ -1,4 +1,5 @@
 // Expressions.
+#![tactic(auto, using(c_written::proofs::Trees::the_written_trees))]
 
 ghost use Rattle.std.specs.Prelude.{◌≡◌, ℕ, ◌+◌, ◌<◌, ◌≤◌, Bool, true, not, ◌&&◌, List, length, IfOk};
 ghost use Rattle.c_written.specs.Written.{expr_tree, exprs_from, exprs_tree};
@@ -14,7 +15,14 @@ ghost use Rattle.c_descent.specs.Views.{level_view, scene_of};
 
 use crate::declarators::declarator;
 use crate::types::specs;
-use c_descent::{AssignKind, Class, Context, Fault, Level, Mark, PrefixKind, PrimaryKind, Role, SuffixKind, arrow_expr, assign_at, assign_expr, assign_sign, barred, barred_call, cast_expr, character, comes, compound_expr, cond_expr, dot_expr, enclosed_expr, index_expr, is_word, joined, joint_at, joint_sign, name_of, number, one_expr, post_step_expr, pre_step_expr, prefix_at, primary_at, push_expr, refused, sizeof_expr, sizeof_type, step_sign, strings, suffix_at, taken, type_ahead, unary_expr, unary_sign, word};
+use c_descent::{
+    AssignKind, Class, Context, Fault, Level, Mark, PrefixKind, PrimaryKind, Role, SuffixKind,
+    arrow_expr, assign_at, assign_expr, assign_sign, barred, barred_call, cast_expr, character,
+    comes, compound_expr, cond_expr, dot_expr, enclosed_expr, index_expr, is_word, joined,
+    joint_at, joint_sign, name_of, number, one_expr, post_step_expr, pre_step_expr, prefix_at,
+    primary_at, push_expr, refused, sizeof_expr, sizeof_type, step_sign, strings, suffix_at, taken,
+    type_ahead, unary_expr, unary_sign, word,
+};
 use c_written::{
     AssignOp, Construct, Expr, Exprs, Keyword, Placed, Pos, Punctuator, StepWay, UnaryOp,
 };
@@ -134,7 +142,8 @@ fn plain_assigned<'a>(
 {
     let (at, behind) = taken(context, count, 1, Class::Sign(Punctuator::Assign), tokens)?;
     let (right, rest) = assignment(context, count + 1, behind)?;
-    Ok((assign_expr(context.alloc, at.pos, left, right)?, rest))
+    let whole = assign_expr(context.alloc, at.pos, left, right)?;
+    Ok((whole, rest))
 }
 
 /// `op=` and what follows it.
@@ -151,9 +160,10 @@ fn compound_assigned<'a>(
     ensures shorter { IfOk result (λ x. length x.1.now ≤ length tokens.now) }
 {
     let sign = Class::Sign(assign_sign(op));
-    let (at, behind) = taken(context, count, 1, sign, tokens)?;
-    let (right, rest) = assignment(context, count + 1, behind)?;
-    Ok((compound_expr(context.alloc, at.pos, op, left, right)?, rest))
+    let (at, after) = taken(context, count, 1, sign, tokens)?;
+    let (right, rest) = assignment(context, count + 1, after)?;
+    let whole = compound_expr(context.alloc, at.pos, op, left, right)?;
+    Ok((whole, rest))
 }
 
 /// A conditional, or what stands before its `?` alone.
@@ -315,7 +325,8 @@ fn pre_step<'a>(
     let sign = Class::Sign(step_sign(way));
     let (at, behind) = taken(context, count, 1, sign, tokens)?;
     let (inner, rest) = unary(context, count + 1, behind)?;
-    Ok((pre_step_expr(context.alloc, at.pos, way, inner)?, rest))
+    let whole = pre_step_expr(context.alloc, at.pos, way, inner)?;
+    Ok((whole, rest))
 }
 
 /// A unary operator and its operand.
@@ -333,7 +344,8 @@ fn unary_form<'a>(
     let sign = Class::Sign(unary_sign(op));
     let (at, behind) = taken(context, count, 1, sign, tokens)?;
     let (inner, rest) = cast(context, count + 1, behind)?;
-    Ok((unary_expr(context.alloc, at.pos, op, inner)?, rest))
+    let whole = unary_expr(context.alloc, at.pos, op, inner)?;
+    Ok((whole, rest))
 }
 
 /// What follows `sizeof`.
@@ -351,7 +363,8 @@ fn sized<'a>(
         return sized_type(context, count, at, tokens);
     }
     let (inner, rest) = unary(context, count, tokens)?;
-    Ok((sizeof_expr(context.alloc, at, inner)?, rest))
+    let whole = sizeof_expr(context.alloc, at, inner)?;
+    Ok((whole, rest))
 }
 
 /// A type between parentheses, behind `sizeof`.
@@ -375,7 +388,8 @@ fn sized_type<'a>(
     if comes(Mark::Brace, rest) {
         return Err(barred(count, Construct::CompoundLiteral, rest));
     }
-    Ok((sizeof_type(context.alloc, at, words, shape)?, rest))
+    let whole = sizeof_type(context.alloc, at, words, shape)?;
+    Ok((whole, rest))
 }
 
 /// A primary expression and its postfix forms.
@@ -464,7 +478,8 @@ fn index<'a>(
     let (at, behind) = taken(context, count, 2, opens, tokens)?;
     let (index, rest) = run(context, Level::Commas, count + 2, behind)?;
     let (_close, rest) = taken(context, count, 1, closes, rest)?;
-    Ok((index_expr(context.alloc, at.pos, base, index)?, rest))
+    let whole = index_expr(context.alloc, at.pos, base, index)?;
+    Ok((whole, rest))
 }
 
 /// The arguments of a call.
@@ -507,7 +522,8 @@ fn dot<'a>(
     let (at, behind) = taken(context, count, 1, sign, tokens)?;
     let (word, rest) = taken(context, count, 1, Class::AnyWord, behind)?;
     let member = name_of(context.alloc, &word.token)?;
-    Ok((dot_expr(context.alloc, at.pos, base, member)?, rest))
+    let whole = dot_expr(context.alloc, at.pos, base, member)?;
+    Ok((whole, rest))
 }
 
 /// `->` and a member.
@@ -526,7 +542,8 @@ fn arrow<'a>(
     let (at, behind) = taken(context, count, 1, sign, tokens)?;
     let (word, rest) = taken(context, count, 1, Class::AnyWord, behind)?;
     let member = name_of(context.alloc, &word.token)?;
-    Ok((arrow_expr(context.alloc, at.pos, base, member)?, rest))
+    let whole = arrow_expr(context.alloc, at.pos, base, member)?;
+    Ok((whole, rest))
 }
 
 /// `++` or `--` behind an expression.
@@ -544,7 +561,8 @@ fn post_step<'a>(
 {
     let sign = Class::Sign(step_sign(way));
     let (at, rest) = taken(context, count, 1, sign, tokens)?;
-    Ok((post_step_expr(context.alloc, at.pos, way, base)?, rest))
+    let whole = post_step_expr(context.alloc, at.pos, way, base)?;
+    Ok((whole, rest))
 }
 
 /// A primary expression.
@@ -583,7 +601,8 @@ fn enclosed<'a>(
     let (opening, behind) = taken(context, count, 1, opens, tokens)?;
     let (inner, rest) = run(context, Level::Commas, count + 1, behind)?;
     let (_close, rest) = taken(context, count, 0, closes, rest)?;
-    Ok((enclosed_expr(context.alloc, opening.pos, inner)?, rest))
+    let whole = enclosed_expr(context.alloc, opening.pos, inner)?;
+    Ok((whole, rest))
 }
 
 /// The arguments of a call, up to the parenthesis that closes them.

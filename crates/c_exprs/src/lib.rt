@@ -1,5 +1,5 @@
 //! The descent through what may stand in an expression: expressions, types and declarators.
-#![tactic(auto, using(c_written::proofs::Trees::the_written_trees))]
+#![tactic(auto)]
 
 mod declarators;
 mod exprs;

@@ -1,4 +1,5 @@
 // Specs: the words and types that begin a declaration.
+#![tactic(auto, using(c_written::proofs::Trees::the_written_trees))]
 
 ghost use Rattle.std.specs.Prelude.{◌≡◌, ℕ, ◌+◌, ◌<◌, ◌≤◌, Bool, true, ◌&&◌, ◌||◌, List, length, IfOk, option_map};
 ghost use Rattle.c_written.specs.Written.{enumerator_tree, enumerators_from, enumerators_tree, declarators_from, memberdecl_tree, memberdecls_from, memberdecls_tree, spec_tree, specs_from, specs_tree};
@@ -12,7 +13,12 @@ ghost use Rattle.c_descent.specs.Views.{scene_of};
 
 use crate::declarators::declarator;
 use crate::exprs::conditional;
-use c_descent::{Class, Context, Fault, Mark, Role, SpecKind, TagKind, barred, basic, comes, constant, is_type, name_of, one_declarator, one_enumerator, one_member, one_spec, push_declarator, push_enumerator, push_member, push_spec, refused, spec_ahead, spec_at, specs_pos, storage, tag_at, taken, type_name_ahead, typedef_name, valued_enumerator};
+use c_descent::{
+    Class, Context, Fault, Mark, Role, SpecKind, TagKind, barred, basic, comes, constant, is_type,
+    name_of, one_declarator, one_enumerator, one_member, one_spec, push_declarator,
+    push_enumerator, push_member, push_spec, refused, spec_ahead, spec_at, specs_pos, storage,
+    tag_at, taken, type_name_ahead, typedef_name, valued_enumerator,
+};
 use c_written::{
     Construct, Declarator, Declarators, Enumerator, Enumerators, Keyword, MemberDecl, MemberDecls,
     Name, Placed, Pos, Punctuator, Spec, Specs, Tag,
@@ -507,7 +513,8 @@ fn enumerator_value<'a>(
     let sign = Class::Sign(Punctuator::Assign);
     let (_equals, behind) = taken(context, count, 1, sign, tokens)?;
     let (value, rest) = conditional(context, count + 1, behind)?;
-    Ok((valued_enumerator(context.alloc, at, name, value)?, rest))
+    let whole = valued_enumerator(context.alloc, at, name, value)?;
+    Ok((whole, rest))
 }
 
 // A typedef name comes behind specs that tell a type.

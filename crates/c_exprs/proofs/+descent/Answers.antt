@@ -78,11 +78,11 @@ exprs::plain_assigned-returns-in_err-at-clause-goes t c = failed c.from_residual
 pub exprs::plain_assigned-returns-in_err-right-clause-goes : goal.exprs::plain_assigned-returns-in_err-right-clause-goes
 exprs::plain_assigned-returns-in_err-right-clause-goes t c = failed c.from_residual-in_err-right.ensures.1 (halts (halt c.in_err-right.ensures.goes) (λ why rest g. by (expr_rule rule.assigned) (refl) (assign_is (scene_of c.args.context.now) (expr_tree c.args.left) c.args.tokens.now c.requires) (take c.in_ok-at.ensures.goes (stops g))))
 
-pub exprs::plain_assigned-returns-in_err-assign_expr-clause-goes : goal.exprs::plain_assigned-returns-in_err-assign_expr-clause-goes
-exprs::plain_assigned-returns-in_err-assign_expr-clause-goes t c = starved c.from_residual-in_err-assign_expr.ensures.1
+pub exprs::plain_assigned-returns-in_err-whole-clause-goes : goal.exprs::plain_assigned-returns-in_err-whole-clause-goes
+exprs::plain_assigned-returns-in_err-whole-clause-goes t c = starved c.from_residual-in_err-whole.ensures.1
 
 pub exprs::plain_assigned-returns-clause-goes : goal.exprs::plain_assigned-returns-clause-goes
-exprs::plain_assigned-returns-clause-goes t c = given (by (expr_rule rule.assigned) (refl) (assign_is (scene_of c.args.context.now) (expr_tree c.args.left) c.args.tokens.now c.requires) (take c.in_ok-at.ensures.goes (goes_on (answer c.in_ok-right.ensures.goes) (done c.in_ok-assign_expr.ensures))))
+exprs::plain_assigned-returns-clause-goes t c = given (by (expr_rule rule.assigned) (refl) (assign_is (scene_of c.args.context.now) (expr_tree c.args.left) c.args.tokens.now c.requires) (take c.in_ok-at.ensures.goes (goes_on (answer c.in_ok-right.ensures.goes) (done c.in_ok-whole.ensures))))
 
 pub exprs::compound_assigned-returns-in_err-at-clause-goes : goal.exprs::compound_assigned-returns-in_err-at-clause-goes
 exprs::compound_assigned-returns-in_err-at-clause-goes t c = failed c.from_residual.ensures.1 (halts (refuse (sign_is c.assign_sign.ensures c.in_err-at.ensures.goes)) (λ why rest g. by (expr_rule (rule.compound c.args.op)) (refl) (assign_is (scene_of c.args.context.now) (expr_tree c.args.left) c.args.tokens.now c.requires) (g _ _)))
@@ -90,11 +90,11 @@ exprs::compound_assigned-returns-in_err-at-clause-goes t c = failed c.from_resid
 pub exprs::compound_assigned-returns-in_err-right-clause-goes : goal.exprs::compound_assigned-returns-in_err-right-clause-goes
 exprs::compound_assigned-returns-in_err-right-clause-goes t c = failed c.from_residual-in_err-right.ensures.1 (halts (halt c.in_err-right.ensures.goes) (λ why rest g. by (expr_rule (rule.compound c.args.op)) (refl) (assign_is (scene_of c.args.context.now) (expr_tree c.args.left) c.args.tokens.now c.requires) (take (sign_is c.assign_sign.ensures c.in_ok-at.ensures.goes) (stops g))))
 
-pub exprs::compound_assigned-returns-in_err-compound_expr-clause-goes : goal.exprs::compound_assigned-returns-in_err-compound_expr-clause-goes
-exprs::compound_assigned-returns-in_err-compound_expr-clause-goes t c = starved c.from_residual-in_err-compound_expr.ensures.1
+pub exprs::compound_assigned-returns-in_err-whole-clause-goes : goal.exprs::compound_assigned-returns-in_err-whole-clause-goes
+exprs::compound_assigned-returns-in_err-whole-clause-goes t c = starved c.from_residual-in_err-whole.ensures.1
 
 pub exprs::compound_assigned-returns-clause-goes : goal.exprs::compound_assigned-returns-clause-goes
-exprs::compound_assigned-returns-clause-goes t c = given (by (expr_rule (rule.compound c.args.op)) (refl) (assign_is (scene_of c.args.context.now) (expr_tree c.args.left) c.args.tokens.now c.requires) (take (sign_is c.assign_sign.ensures c.in_ok-at.ensures.goes) (goes_on (answer c.in_ok-right.ensures.goes) (done c.in_ok-compound_expr.ensures))))
+exprs::compound_assigned-returns-clause-goes t c = given (by (expr_rule (rule.compound c.args.op)) (refl) (assign_is (scene_of c.args.context.now) (expr_tree c.args.left) c.args.tokens.now c.requires) (take (sign_is c.assign_sign.ensures c.in_ok-at.ensures.goes) (goes_on (answer c.in_ok-right.ensures.goes) (done c.in_ok-whole.ensures))))
 
 pub exprs::conditional-returns-in_err-condition-clause-goes : goal.exprs::conditional-returns-in_err-condition-clause-goes
 exprs::conditional-returns-in_err-condition-clause-goes t c = failed c.from_residual.ensures.1 (halts (halt c.in_err-condition.ensures.goes) (λ why rest g. by (expr_rule rule.conditional) (refl) (refl) (stops_here g)))
@@ -183,11 +183,11 @@ exprs::pre_step-returns-in_err-at-clause-goes t c = failed c.from_residual.ensur
 pub exprs::pre_step-returns-in_err-inner-clause-goes : goal.exprs::pre_step-returns-in_err-inner-clause-goes
 exprs::pre_step-returns-in_err-inner-clause-goes t c = failed c.from_residual-in_err-inner.ensures.1 (halts (halt c.in_err-inner.ensures.goes) (λ why rest g. by (expr_rule (rule.pre_step c.args.way)) (refl) (prefix_is (scene_of c.args.context.now) c.args.tokens.now c.requires) (take (sign_is c.step_sign.ensures c.in_ok-at.ensures.goes) (stops g))))
 
-pub exprs::pre_step-returns-in_err-pre_step_expr-clause-goes : goal.exprs::pre_step-returns-in_err-pre_step_expr-clause-goes
-exprs::pre_step-returns-in_err-pre_step_expr-clause-goes t c = starved c.from_residual-in_err-pre_step_expr.ensures.1
+pub exprs::pre_step-returns-in_err-whole-clause-goes : goal.exprs::pre_step-returns-in_err-whole-clause-goes
+exprs::pre_step-returns-in_err-whole-clause-goes t c = starved c.from_residual-in_err-whole.ensures.1
 
 pub exprs::pre_step-returns-clause-goes : goal.exprs::pre_step-returns-clause-goes
-exprs::pre_step-returns-clause-goes t c = given (by (expr_rule (rule.pre_step c.args.way)) (refl) (prefix_is (scene_of c.args.context.now) c.args.tokens.now c.requires) (take (sign_is c.step_sign.ensures c.in_ok-at.ensures.goes) (goes_on (answer c.in_ok-inner.ensures.goes) (done c.in_ok-pre_step_expr.ensures))))
+exprs::pre_step-returns-clause-goes t c = given (by (expr_rule (rule.pre_step c.args.way)) (refl) (prefix_is (scene_of c.args.context.now) c.args.tokens.now c.requires) (take (sign_is c.step_sign.ensures c.in_ok-at.ensures.goes) (goes_on (answer c.in_ok-inner.ensures.goes) (done c.in_ok-whole.ensures))))
 
 pub exprs::unary_form-returns-in_err-at-clause-goes : goal.exprs::unary_form-returns-in_err-at-clause-goes
 exprs::unary_form-returns-in_err-at-clause-goes t c = failed c.from_residual.ensures.1 (halts (refuse (sign_is c.unary_sign.ensures c.in_err-at.ensures.goes)) (λ why rest g. by (expr_rule (rule.unary c.args.op)) (refl) (prefix_is (scene_of c.args.context.now) c.args.tokens.now c.requires) (g _ _)))
@@ -195,20 +195,20 @@ exprs::unary_form-returns-in_err-at-clause-goes t c = failed c.from_residual.ens
 pub exprs::unary_form-returns-in_err-inner-clause-goes : goal.exprs::unary_form-returns-in_err-inner-clause-goes
 exprs::unary_form-returns-in_err-inner-clause-goes t c = failed c.from_residual-in_err-inner.ensures.1 (halts (halt c.in_err-inner.ensures.goes) (λ why rest g. by (expr_rule (rule.unary c.args.op)) (refl) (prefix_is (scene_of c.args.context.now) c.args.tokens.now c.requires) (take (sign_is c.unary_sign.ensures c.in_ok-at.ensures.goes) (stops g))))
 
-pub exprs::unary_form-returns-in_err-unary_expr-clause-goes : goal.exprs::unary_form-returns-in_err-unary_expr-clause-goes
-exprs::unary_form-returns-in_err-unary_expr-clause-goes t c = starved c.from_residual-in_err-unary_expr.ensures.1
+pub exprs::unary_form-returns-in_err-whole-clause-goes : goal.exprs::unary_form-returns-in_err-whole-clause-goes
+exprs::unary_form-returns-in_err-whole-clause-goes t c = starved c.from_residual-in_err-whole.ensures.1
 
 pub exprs::unary_form-returns-clause-goes : goal.exprs::unary_form-returns-clause-goes
-exprs::unary_form-returns-clause-goes t c = given (by (expr_rule (rule.unary c.args.op)) (refl) (prefix_is (scene_of c.args.context.now) c.args.tokens.now c.requires) (take (sign_is c.unary_sign.ensures c.in_ok-at.ensures.goes) (goes_on (answer c.in_ok-inner.ensures.goes) (done c.in_ok-unary_expr.ensures))))
+exprs::unary_form-returns-clause-goes t c = given (by (expr_rule (rule.unary c.args.op)) (refl) (prefix_is (scene_of c.args.context.now) c.args.tokens.now c.requires) (take (sign_is c.unary_sign.ensures c.in_ok-at.ensures.goes) (goes_on (answer c.in_ok-inner.ensures.goes) (done c.in_ok-whole.ensures))))
 
 pub exprs::sized-returns-in_err-inner-clause-goes : goal.exprs::sized-returns-in_err-inner-clause-goes
 exprs::sized-returns-in_err-inner-clause-goes t c = failed c.from_residual.ensures.1 (halts (halt c.in_err-inner.ensures.goes) (λ why rest g. by (expr_rule rule.size_of_expr) (refl) (if_false _ (sym c.if-type_ahead.ensures)) (passes (ap not (sym c.if-type_ahead.ensures)) (stops_here g))))
 
-pub exprs::sized-returns-in_err-sizeof_expr-clause-goes : goal.exprs::sized-returns-in_err-sizeof_expr-clause-goes
-exprs::sized-returns-in_err-sizeof_expr-clause-goes t c = starved c.from_residual-in_err-sizeof_expr.ensures.1
+pub exprs::sized-returns-in_err-whole-clause-goes : goal.exprs::sized-returns-in_err-whole-clause-goes
+exprs::sized-returns-in_err-whole-clause-goes t c = starved c.from_residual-in_err-whole.ensures.1
 
 pub exprs::sized-returns-clause-goes : goal.exprs::sized-returns-clause-goes
-exprs::sized-returns-clause-goes t c = given (by (expr_rule rule.size_of_expr) (refl) (if_false _ (sym c.if-type_ahead.ensures)) (passes (ap not (sym c.if-type_ahead.ensures)) (here (answer c.in_ok-inner.ensures.goes) (done c.in_ok-sizeof_expr.ensures))))
+exprs::sized-returns-clause-goes t c = given (by (expr_rule rule.size_of_expr) (refl) (if_false _ (sym c.if-type_ahead.ensures)) (passes (ap not (sym c.if-type_ahead.ensures)) (here (answer c.in_ok-inner.ensures.goes) (done c.in_ok-whole.ensures))))
 
 pub exprs::sized_type-returns-in_err-_opening-clause-goes : goal.exprs::sized_type-returns-in_err-_opening-clause-goes
 exprs::sized_type-returns-in_err-_opening-clause-goes t c = failed c.from_residual.ensures.1 (halts (refuse c.in_err-_opening.ensures.goes) (λ why rest g. by (expr_rule rule.size_of_type) (refl) (if_true _ c.requires) (passes (c.requires) (g _ _))))
@@ -240,11 +240,11 @@ exprs::enclosed-returns-in_err-inner-clause-goes t c = failed c.from_residual-in
 pub exprs::enclosed-returns-in_err-_close-clause-goes : goal.exprs::enclosed-returns-in_err-_close-clause-goes
 exprs::enclosed-returns-in_err-_close-clause-goes t c = failed c.from_residual-in_err-_close.ensures.1 (halts (refuse c.in_err-_close.ensures.goes) (λ why rest g. by (expr_rule rule.enclosed) (refl) (primary_is (scene_of c.args.context.now) c.args.tokens.now c.requires) (take c.in_ok-opening.ensures.goes (goes_on (answer c.in_ok-inner.ensures.goes) (g _ _)))))
 
-pub exprs::enclosed-returns-in_err-enclosed_expr-clause-goes : goal.exprs::enclosed-returns-in_err-enclosed_expr-clause-goes
-exprs::enclosed-returns-in_err-enclosed_expr-clause-goes t c = starved c.from_residual-in_err-enclosed_expr.ensures.1
+pub exprs::enclosed-returns-in_err-whole-clause-goes : goal.exprs::enclosed-returns-in_err-whole-clause-goes
+exprs::enclosed-returns-in_err-whole-clause-goes t c = starved c.from_residual-in_err-whole.ensures.1
 
 pub exprs::enclosed-returns-clause-goes : goal.exprs::enclosed-returns-clause-goes
-exprs::enclosed-returns-clause-goes t c = given (by (expr_rule rule.enclosed) (refl) (primary_is (scene_of c.args.context.now) c.args.tokens.now c.requires) (take c.in_ok-opening.ensures.goes (goes_on (answer c.in_ok-inner.ensures.goes) (take c.in_ok-_close.ensures.goes (done c.in_ok-enclosed_expr.ensures)))))
+exprs::enclosed-returns-clause-goes t c = given (by (expr_rule rule.enclosed) (refl) (primary_is (scene_of c.args.context.now) c.args.tokens.now c.requires) (take c.in_ok-opening.ensures.goes (goes_on (answer c.in_ok-inner.ensures.goes) (take c.in_ok-_close.ensures.goes (done c.in_ok-whole.ensures)))))
 
 pub exprs::primary-returns-in-Neither-clause-goes : goal.exprs::primary-returns-in-Neither-clause-goes
 exprs::primary-returns-in-Neither-clause-goes t c = halted (stopped c.refused.ensures (no_rule refl (primary_is (scene_of c.args.context.now) c.args.tokens.now (sym c.in-Neither.ensures))))
@@ -258,11 +258,11 @@ exprs::index-returns-in_err-index-clause-goes t c = stalls c.from_residual-in_er
 pub exprs::index-returns-in_err-_close-clause-goes : goal.exprs::index-returns-in_err-_close-clause-goes
 exprs::index-returns-in_err-_close-clause-goes t c = stalls c.from_residual-in_err-_close.ensures.1 (halts (refuse c.in_err-_close.ensures.goes) (λ why rest g. by (expr_rule rule.index) (suffix_free (scene_of c.args.context.now) (expr_tree c.args.base) c.args.tokens.now (suffix_is (scene_of c.args.context.now) (expr_tree c.args.base) c.args.tokens.now c.requires).1) ((suffix_is (scene_of c.args.context.now) (expr_tree c.args.base) c.args.tokens.now c.requires).0) (take c.in_ok-at.ensures.goes (goes_on (answer c.in_ok-index.ensures.goes) (g _ _)))))
 
-pub exprs::index-returns-in_err-index_expr-clause-goes : goal.exprs::index-returns-in_err-index_expr-clause-goes
-exprs::index-returns-in_err-index_expr-clause-goes t c = starves c.from_residual-in_err-index_expr.ensures.1
+pub exprs::index-returns-in_err-whole-clause-goes : goal.exprs::index-returns-in_err-whole-clause-goes
+exprs::index-returns-in_err-whole-clause-goes t c = starves c.from_residual-in_err-whole.ensures.1
 
 pub exprs::index-returns-clause-goes : goal.exprs::index-returns-clause-goes
-exprs::index-returns-clause-goes t c = stepped (λ o h. by (expr_rule rule.index) (suffix_free (scene_of c.args.context.now) (expr_tree c.args.base) c.args.tokens.now (suffix_is (scene_of c.args.context.now) (expr_tree c.args.base) c.args.tokens.now c.requires).1) ((suffix_is (scene_of c.args.context.now) (expr_tree c.args.base) c.args.tokens.now c.requires).0) (take c.in_ok-at.ensures.goes (goes_on (answer c.in_ok-index.ensures.goes) (take c.in_ok-_close.ensures.goes (tail_expr o (suffixes_at c.in_ok-index_expr.ensures h))))))
+exprs::index-returns-clause-goes t c = stepped (λ o h. by (expr_rule rule.index) (suffix_free (scene_of c.args.context.now) (expr_tree c.args.base) c.args.tokens.now (suffix_is (scene_of c.args.context.now) (expr_tree c.args.base) c.args.tokens.now c.requires).1) ((suffix_is (scene_of c.args.context.now) (expr_tree c.args.base) c.args.tokens.now c.requires).0) (take c.in_ok-at.ensures.goes (goes_on (answer c.in_ok-index.ensures.goes) (take c.in_ok-_close.ensures.goes (tail_expr o (suffixes_at c.in_ok-whole.ensures h))))))
 
 pub exprs::suffixes-returns-then-calls_no_word-clause-goes : goal.exprs::suffixes-returns-then-calls_no_word-clause-goes
 exprs::suffixes-returns-then-calls_no_word-clause-goes t c = halted (stopped (c.barred_call.ensures (expr_tree c.forms.base) (and_left _ _ (sym c.if-calls_no_word.ensures))) (c.forms.invariant.0 _ (is_barred (borne _ (sym c.if-calls_no_word.ensures)))))
@@ -324,11 +324,11 @@ exprs::more-joints-preserved t c = ((λ o g. c.joints.invariant.0 o (joint_step 
 pub exprs::sized_type-returns-then-comes-clause-goes : goal.exprs::sized_type-returns-then-comes-clause-goes
 exprs::sized_type-returns-then-comes-clause-goes t c = halted (stopped c.barred.ensures (by (expr_rule rule.size_of_type) refl (if_true _ c.requires) (passes c.requires (take c.in_ok-_opening.ensures.goes (goes_on (answer c.in_ok-words.ensures.goes) (goes_on (answer c.in_ok-shape.ensures.goes) (take c.in_ok-_close.ensures.goes (stops_here {i = part.AfterType} (is_barred (borne _ (sym c.if-comes.ensures)))))))))))
 
-pub exprs::sized_type-returns-in_err-sizeof_type-clause-goes : goal.exprs::sized_type-returns-in_err-sizeof_type-clause-goes
-exprs::sized_type-returns-in_err-sizeof_type-clause-goes t c = starved c.from_residual-in_err-sizeof_type.ensures.1
+pub exprs::sized_type-returns-in_err-whole-clause-goes : goal.exprs::sized_type-returns-in_err-whole-clause-goes
+exprs::sized_type-returns-in_err-whole-clause-goes t c = starved c.from_residual-in_err-whole.ensures.1
 
 pub exprs::sized_type-returns-clause-goes : goal.exprs::sized_type-returns-clause-goes
-exprs::sized_type-returns-clause-goes t c = given (by (expr_rule rule.size_of_type) refl (if_true _ c.requires) (passes c.requires (take c.in_ok-_opening.ensures.goes (goes_on (answer c.in_ok-words.ensures.goes) (goes_on (answer c.in_ok-shape.ensures.goes) (take c.in_ok-_close.ensures.goes (here (by (expr_rule rule.after_type) (unborne _ (sym c.if-comes.ensures)) refl is_done) (done c.in_ok-sizeof_type.ensures))))))))
+exprs::sized_type-returns-clause-goes t c = given (by (expr_rule rule.size_of_type) refl (if_true _ c.requires) (passes c.requires (take c.in_ok-_opening.ensures.goes (goes_on (answer c.in_ok-words.ensures.goes) (goes_on (answer c.in_ok-shape.ensures.goes) (take c.in_ok-_close.ensures.goes (here (by (expr_rule rule.after_type) (unborne _ (sym c.if-comes.ensures)) refl is_done) (done c.in_ok-whole.ensures))))))))
 
 pub exprs::more-returns-in_err-at-clause-goes : goal.exprs::more-returns-in_err-at-clause-goes
 exprs::more-returns-in_err-at-clause-goes t c = failed c.from_residual.ensures.1 (halts (refuse (sign_is c.joint_sign.ensures c.in_err-at.ensures.goes)) (λ why rest g. c.joints.invariant.0 _ (joint_stop (sym c.in-Some.ensures) (g _ _))))
@@ -579,11 +579,11 @@ types::enumerator_value-returns-in_err-_equals-clause-goes t c = failed c.from_r
 pub types::enumerator_value-returns-in_err-value-clause-goes : goal.types::enumerator_value-returns-in_err-value-clause-goes
 types::enumerator_value-returns-in_err-value-clause-goes t c = failed c.from_residual-in_err-value.ensures.1 (halts (halt c.in_err-value.ensures.goes) (λ why rest g. by (type_rule kind.enumerator_valued) (refl) (if_true _ (sym c.if-not-comes.ensures)) (take c.in_ok-_equals.ensures.goes (stops g))))
 
-pub types::enumerator_value-returns-in_err-valued_enumerator-clause-goes : goal.types::enumerator_value-returns-in_err-valued_enumerator-clause-goes
-types::enumerator_value-returns-in_err-valued_enumerator-clause-goes t c = starved c.from_residual-in_err-valued_enumerator.ensures.1
+pub types::enumerator_value-returns-in_err-whole-clause-goes : goal.types::enumerator_value-returns-in_err-whole-clause-goes
+types::enumerator_value-returns-in_err-whole-clause-goes t c = starved c.from_residual-in_err-whole.ensures.1
 
 pub types::enumerator_value-returns-clause-goes : goal.types::enumerator_value-returns-clause-goes
-types::enumerator_value-returns-clause-goes t c = given (by (type_rule kind.enumerator_valued) (refl) (if_true _ (sym c.if-not-comes.ensures)) (take c.in_ok-_equals.ensures.goes (goes_on (answer c.in_ok-value.ensures.goes) (done c.in_ok-valued_enumerator.ensures))))
+types::enumerator_value-returns-clause-goes t c = given (by (type_rule kind.enumerator_valued) (refl) (if_true _ (sym c.if-not-comes.ensures)) (take c.in_ok-_equals.ensures.goes (goes_on (answer c.in_ok-value.ensures.goes) (done c.in_ok-whole.ensures))))
 
 pub declarators::declarator-returns-then-type_name_ahead-clause-goes : goal.declarators::declarator-returns-then-type_name_ahead-clause-goes
 declarators::declarator-returns-then-type_name_ahead-clause-goes t c = halted (stopped c.barred.ensures (is_barred (borne _ (sym c.if-type_name_ahead.ensures))))
@@ -690,11 +690,11 @@ declarators::size-returns-in_err-value-clause-goes t c = failed c.from_residual.
 pub declarators::size-returns-in_err-_close-clause-goes : goal.declarators::size-returns-in_err-_close-clause-goes
 declarators::size-returns-in_err-_close-clause-goes t c = failed c.from_residual-in_err-_close.ensures.1 (halts (refuse c.in_err-_close.ensures.goes) (λ why rest g. by (type_rule kind.size) (unborne _ (first_false _ (sym c.if-comes.ensures))) (if_false _ (sym c.if-comes.ensures)) (here (answer c.in_ok-value.ensures.goes) (g _ _))))
 
-pub declarators::size-returns-in_err-array_declarator-clause-goes : goal.declarators::size-returns-in_err-array_declarator-clause-goes
-declarators::size-returns-in_err-array_declarator-clause-goes t c = starved c.from_residual-in_err-array_declarator.ensures.1
+pub declarators::size-returns-in_err-whole-clause-goes : goal.declarators::size-returns-in_err-whole-clause-goes
+declarators::size-returns-in_err-whole-clause-goes t c = starved c.from_residual-in_err-whole.ensures.1
 
 pub declarators::size-returns-clause-goes : goal.declarators::size-returns-clause-goes
-declarators::size-returns-clause-goes t c = given (by (type_rule kind.size) (unborne _ (first_false _ (sym c.if-comes.ensures))) (if_false _ (sym c.if-comes.ensures)) (here (answer c.in_ok-value.ensures.goes) (take c.in_ok-_close.ensures.goes (done c.in_ok-array_declarator.ensures))))
+declarators::size-returns-clause-goes t c = given (by (type_rule kind.size) (unborne _ (first_false _ (sym c.if-comes.ensures))) (if_false _ (sym c.if-comes.ensures)) (here (answer c.in_ok-value.ensures.goes) (take c.in_ok-_close.ensures.goes (done c.in_ok-whole.ensures))))
 
 pub declarators::parameters-returns-in_err-first-clause-goes : goal.declarators::parameters-returns-in_err-first-clause-goes
 declarators::parameters-returns-in_err-first-clause-goes t c = failed c.from_residual.ensures.1 (halts (halt c.in_err-first.ensures.goes) (λ why rest g. by (type_rule kind.parameters) (refl) (if_false _ (sym c.if-comes.ensures)) (stops_here g)))

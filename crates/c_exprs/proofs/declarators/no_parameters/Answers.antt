@@ -8,8 +8,8 @@ use Rattle.c_exprs.proofs.declarators.no_parameters.Goals as goal
 pub returns-in_err-_close-clause-goes : goal.returns-in_err-_close-clause-goes
 returns-in_err-_close-clause-goes c = failed c.from_residual.ensures.1 (halts (refuse c.in_err-_close.ensures.goes) (λ why rest g. by (type_rule kind.no_parameters) refl (if_true _ c.requires) (g _ _)))
 
-pub returns-in_err-empty_declarator-clause-goes : goal.returns-in_err-empty_declarator-clause-goes
-returns-in_err-empty_declarator-clause-goes c = starved c.from_residual-in_err-empty_declarator.ensures.1
+pub returns-in_err-whole-clause-goes : goal.returns-in_err-whole-clause-goes
+returns-in_err-whole-clause-goes c = starved c.from_residual-in_err-whole.ensures.1
 
 pub returns-clause-goes : goal.returns-clause-goes
-returns-clause-goes c = given (by (type_rule kind.no_parameters) refl (if_true _ c.requires) (take c.in_ok-_close.ensures.goes (done c.in_ok-empty_declarator.ensures)))
+returns-clause-goes c = given (by (type_rule kind.no_parameters) refl (if_true _ c.requires) (take c.in_ok-_close.ensures.goes (done c.in_ok-whole.ensures)))

@@ -21,9 +21,9 @@ returns-in_err-word-clause-goes c =
 pub returns-in_err-member-clause-goes : goal.returns-in_err-member-clause-goes
 returns-in_err-member-clause-goes c = starves c.from_residual-in_err-member.ensures.1
 
-pub returns-in_err-dot_expr-clause-goes : goal.returns-in_err-dot_expr-clause-goes
-returns-in_err-dot_expr-clause-goes c = starves c.from_residual-in_err-dot_expr.ensures.1
+pub returns-in_err-whole-clause-goes : goal.returns-in_err-whole-clause-goes
+returns-in_err-whole-clause-goes c = starves c.from_residual-in_err-whole.ensures.1
 
 pub returns-clause-goes : goal.returns-clause-goes
 returns-clause-goes c =
-    stepped (λ o h. by (expr_rule rule.dot) (suffix_free (scene_of c.args.context.now) (expr_tree c.args.base) c.args.tokens.now (suffix_is (scene_of c.args.context.now) (expr_tree c.args.base) c.args.tokens.now c.requires).1) (suffix_is (scene_of c.args.context.now) (expr_tree c.args.base) c.args.tokens.now c.requires).0 (take c.in_ok-at.ensures.goes (take c.in_ok-word.ensures.goes (tail_expr o (suffixes_at (c.in_ok-dot_expr.ensures ∙ ap (trees.Dot c.in_ok-at.at.now.pos (expr_tree c.args.base)) c.in_ok-member.ensures) h)))))
+    stepped (λ o h. by (expr_rule rule.dot) (suffix_free (scene_of c.args.context.now) (expr_tree c.args.base) c.args.tokens.now (suffix_is (scene_of c.args.context.now) (expr_tree c.args.base) c.args.tokens.now c.requires).1) (suffix_is (scene_of c.args.context.now) (expr_tree c.args.base) c.args.tokens.now c.requires).0 (take c.in_ok-at.ensures.goes (take c.in_ok-word.ensures.goes (tail_expr o (suffixes_at (c.in_ok-whole.ensures ∙ ap (trees.Dot c.in_ok-at.at.now.pos (expr_tree c.args.base)) c.in_ok-member.ensures) h)))))
