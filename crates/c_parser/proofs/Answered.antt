@@ -1,5 +1,6 @@
 -- What the descent's end tells of a file.
-use Rattle.std.proofs.Common.{◌≡◌, ℕ, List, [], ◌∷◌, ◌++◌, length, refl, sym, ap, ◌∙◌, subst, ◌⊎◌, inl, inr, Bor}
+use Rattle.std.proofs.Common.{◌≡◌, ℕ, List, [], ◌∷◌, ◌++◌, length, refl, sym, ap, ◌∙◌, subst, arith, ◌⊎◌, inl, inr, Bor}
+use Rattle.std.proofs.lemmas.Bool.{eqb-true}
 use Rattle.std.specs.Prelude.{true, false, ◌==◌, map, Result, Ok, Err, MatchResult, IsErrAnd}
 use Rattle.c_written.specs.declared.construct.Construct.{Construct}
 use Rattle.c_written.specs.declared.file.Outer.{Outer}
@@ -15,14 +16,14 @@ use Rattle.c_grammar.specs.Choice.{choose, this}
 use Rattle.c_grammar.specs.Made.{new_types}
 use Rattle.c_grammar.specs.Grammar.{at_start, file_rule}
 use Rattle.c_grammar.specs.Refused.{Why, Syntax, Unsupported, TooDeep, IsFile, IsRefused}
-use Rattle.c_grammar.specs.Descent.{Outcome, Done, Stop, Goes, by_rule, is_done, passes}
+use Rattle.c_grammar.specs.Descent.{Outcome, Done, Stop, Goes, by_rule, is_done, passes, stops}
 use Rattle.c_grammar.proofs.Laws.{found, file_only, refusal_only}
 use Rattle.c_descent.specs.declared.fault.Fault.{Fault}
 use Rattle.c_descent.specs.declared.fault.Fault.TheVariants as faults
 use Rattle.c_descent.specs.Answers.{Gives, Halts, no_memory, syntax, unsupported, too_deep}
 use Rattle.c_parser.specs.declared.parsing.ParseError.{ParseError}
 use Rattle.c_parser.specs.declared.parsing.ParseError.TheVariants as errors
-use Rattle.c_stmts.proofs.Steps.{Path, begin, behind, goes_so, last_outers}
+use Rattle.c_stmts.proofs.Steps.{Path, begin, behind, goes_so, halts_for, halts_of, last_outers, same_count}
 use Rattle.c_parser.specs.Refusals.{IsError, IsErrorOf, RefusedAt, TellsRefused, place_of, error_for}
 
 -- the descent through the file ends so
@@ -65,13 +66,16 @@ tells tokens (faults.Syntax rest) e (syntax g) i = subst (λ (v : ParseError). T
 tells tokens (faults.Unsupported c rest) e (unsupported g) i = subst (λ (v : ParseError). TellsRefused tokens v) (sym i) (rest.now, found tokens.list (Stop (Unsupported c) rest.now) g, refl)
 tells tokens (faults.TooDeep rest) e (too_deep g) i = subst (λ (v : ParseError). TellsRefused tokens v) (sym i) (rest.now, found tokens.list (Stop TooDeep rest.now) g, refl)
 
-why_is : (why other : Why) (rest left : List Placed) → Stop {A = List OuterTree} why rest ≡ Stop other left → why ≡ other
+abbrev stopped : Why → List Placed → Outcome (List OuterTree)
+stopped why rest = Stop why rest
+
+why_is : (why other : Why) (rest left : List Placed) → stopped why rest ≡ stopped other left → why ≡ other
 why_is why other rest left e = cc
 
-rest_is : (why other : Why) (rest left : List Placed) → Stop {A = List OuterTree} why rest ≡ Stop other left → rest ≡ left
+rest_is : (why other : Why) (rest left : List Placed) → stopped why rest ≡ stopped other left → rest ≡ left
 rest_is why other rest left e = cc
 
-same_error : (tokens : Tokens) (rest left : List Placed) (why other : Why) (e : ParseError) → Stop {A = List OuterTree} why rest ≡ Stop other left → IsError tokens rest why e → IsError tokens left other e
+same_error : (tokens : Tokens) (rest left : List Placed) (why other : Why) (e : ParseError) → stopped why rest ≡ stopped other left → IsError tokens rest why e → IsError tokens left other e
 same_error tokens rest left why other e s i = subst (λ (v : List Placed). IsError tokens v other e) (rest_is why other rest left s) (subst (λ (v : Why). IsError tokens rest v e) (why_is why other rest left s) i)
 
 pub stops_so : (tokens : Tokens) (f : Fault) (e : ParseError) → Refuses tokens.list f → IsErrorOf tokens f e → (rest : List Placed) (why : Why) → IsRefused tokens.list rest why → IsError tokens rest why e ⊎ (e ≡ errors.NoMemory)
@@ -80,9 +84,9 @@ stops_so tokens (faults.Syntax left) e (syntax g) i rest why r = inl (same_error
 stops_so tokens (faults.Unsupported c left) e (unsupported g) i rest why r = inl (same_error tokens left.now rest (Unsupported c) why e (refusal_only tokens.list rest why _ r g) i)
 stops_so tokens (faults.TooDeep left) e (too_deep g) i rest why r = inl (same_error tokens left.now rest TooDeep why e (refusal_only tokens.list rest why _ r g) i)
 
-pub fault_passed : {A : Type 0} {P : A → Type 0} {Q : Fault → Type 0} {f : Fault} (r : Result A Fault) → IsErrAnd r (λ e. e ≡ f) → Q f → MatchResult r P Q
-fault_passed (Ok x) e q = absurd e
-fault_passed {Q = Q} (Err g) e q = subst Q (sym e) q
+pub fault_passed : {A : Type 0} {f : Fault} (P : A → Type 0) (Q : Fault → Type 0) (r : Result A Fault) → IsErrAnd r (λ e. e ≡ f) → Q f → MatchResult r P Q
+fault_passed P Q (Ok x) e q = absurd e
+fault_passed P Q (Err g) e q = subst Q (sym e) q
 
 -- the same tokens under another name
 pub reads_as : {given tokens : List Placed} {o : Outcome (List OuterTree)} → given ≡ tokens → Reads given o → Reads tokens o
@@ -96,8 +100,8 @@ abbrev pub scene_with : List (List ℕ) → Scene
 scene_with types = record { types = types; setting = AtFile }
 
 -- where the declarations of a file begin
-pub outers_begin : {types : List (List ℕ)} {outers : List Outer} {ts : List Placed} {o : Outcome (List OuterTree)} → types ≡ [] → outers ≡ [] → Goes 0 (scene_with types) (Outers (map (λ o. outer_tree o) outers)) ts o → Reads ts o
-outers_begin {ts = ts} {o} e f g = subst (λ (v : List Outer). Goes 0 at_start (Outers (map (λ o. outer_tree o) v)) ts o) f (subst (λ (v : List (List ℕ)). Goes 0 (scene_with v) (Outers (map (λ o. outer_tree o) _)) ts o) e g)
+pub outers_begin : {types : List (List ℕ)} (outers : List Outer) {ts : List Placed} {o : Outcome (List OuterTree)} → types ≡ [] → outers ≡ [] → Goes 0 (scene_with types) (Outers (map (λ o. outer_tree o) outers)) ts o → Reads ts o
+outers_begin outers {ts} {o} e f g = subst (λ (v : List Outer). Goes 0 at_start (Outers (map (λ o. outer_tree o) v)) ts o) f (subst (λ (v : List (List ℕ)). Goes 0 (scene_with v) (Outers (map (λ o. outer_tree o) outers)) ts o) e g)
 
 map_one_more : (xs : List Outer) (x : Outer) → map (λ o. outer_tree o) (xs ++ x ∷ []) ≡ map (λ o. outer_tree o) xs ++ outer_tree x ∷ []
 map_one_more [] x = refl
@@ -109,7 +113,7 @@ more_rule w before (t ∷ ts) h = refl
 
 end_rule : (w : Scene) (before : List OuterTree) (ts : List Placed) → (length ts == 0) ≡ true → Goes 0 w (Outers before) ts (Done before [])
 end_rule w before [] h = by_rule _ (file_rule file_end) refl refl (passes refl is_done)
-end_rule w before (t ∷ ts) h = cc
+end_rule w before (t ∷ ts) h = absurd (let e : length (t ∷ ts) ≡ 0 = eqb-true _ _ h in omega arith)
 
 -- the file ends
 pub outers_end : {w : Scene} {before : List OuterTree} {ts : List Placed} → (length ts == 0) ≡ true → Goes 0 w (Outers before) ts (Done before [])
@@ -119,6 +123,14 @@ outers_end {w} {before} {ts} h = end_rule w before ts h
 pub outers_more : {goes : Outcome (List OuterTree) → Type 0} {w : Scene} {before : List OuterTree} {ts : List Placed} → ((o : Outcome (List OuterTree)) → Goes 0 w (Outers before) ts o → goes o) → (length ts == 0) ≡ false → Path (Outers before) goes 0 w (part 0 w (AnOuter parts.Outer) (λ next. part 0 (after_outer w next) (Outers (before ++ next ∷ [])) give)) ts
 outers_more {w = w} {before} {ts} f h = begin {p = Outers before} f refl (more_rule w before ts h)
 
+-- the same names under another name
+pub read_with : {given types : List (List ℕ)} {ts : List Placed} {r : Result (Outer × Bor (List Placed)) Fault} → given ≡ types → Gives (λ o. Goes 0 (scene_with given) (AnOuter parts.Outer) ts o) (λ o. outer_tree o) r → Gives (λ o. Goes 0 (scene_with types) (AnOuter parts.Outer) ts o) (λ o. outer_tree o) r
+read_with {ts = ts} {r} e g = subst (λ (v : List (List ℕ)). Gives (λ o. Goes 0 (scene_with v) (AnOuter parts.Outer) ts o) (λ o. outer_tree o) r) e g
+
 -- one more declaration was read, and its typedef names are in force behind it
-pub outer_added : {goes : Outcome (List OuterTree) → Type 0} {types more : List (List ℕ)} {outers longer : List Outer} {ts : List Placed} {x : Outer × Bor (List Placed)} {o : Outcome (List OuterTree)} → Path (Outers (map (λ o. outer_tree o) outers)) goes 0 (scene_with types) (part 0 (scene_with types) (AnOuter parts.Outer) (λ next. part 0 (after_outer (scene_with types) next) (Outers (map (λ o. outer_tree o) outers ++ next ∷ [])) give)) ts → Gives (λ o. Goes 0 (scene_with types) (AnOuter parts.Outer) ts o) (λ o. outer_tree o) (Ok x) → more ≡ types ++ new_types (outer_tree x.0) → longer ≡ outers ++ x.0 ∷ [] → Goes 0 (scene_with more) (Outers (map (λ o. outer_tree o) longer)) x.1.now o → goes o
-outer_added {types = types} {outers = outers} {x = x} {o} path h e f g = goes_so (behind path h) o (last_outers o (subst (λ (v : List (List ℕ)). Goes 0 (scene_with v) (Outers (map (λ o. outer_tree o) outers ++ outer_tree x.0 ∷ [])) x.1.now o) e (subst (λ (v : List OuterTree). Goes 0 (scene_with _) (Outers v) x.1.now o) (ap (λ (v : List Outer). map (λ o. outer_tree o) v) f ∙ map_one_more outers x.0) g)))
+pub outer_added : {goes : Outcome (List OuterTree) → Type 0} {types more : List (List ℕ)} (outers longer : List Outer) {ts : List Placed} {x : Outer × Bor (List Placed)} {o : Outcome (List OuterTree)} → Path (Outers (map (λ o. outer_tree o) outers)) goes 0 (scene_with types) (part 0 (scene_with types) (AnOuter parts.Outer) (λ next. part 0 (after_outer (scene_with types) next) (Outers (map (λ o. outer_tree o) outers ++ next ∷ [])) give)) ts → Gives (λ o. Goes 0 (scene_with types) (AnOuter parts.Outer) ts o) (λ o. outer_tree o) (Ok x) → more ≡ types ++ new_types (outer_tree x.0) → longer ≡ outers ++ x.0 ∷ [] → Goes 0 (scene_with more) (Outers (map (λ o. outer_tree o) longer)) x.1.now o → goes o
+outer_added {types = types} {more} outers longer {x = x} {o} path h e f g = goes_so (behind path h) o (last_outers o (subst (λ (v : List (List ℕ)). Goes 0 (scene_with v) (Outers (map (λ o. outer_tree o) outers ++ outer_tree x.0 ∷ [])) x.1.now o) e (subst (λ (v : List OuterTree). Goes 0 (scene_with more) (Outers v) x.1.now o) (ap (λ (v : List Outer). map (λ o. outer_tree o) v) f ∙ map_one_more outers x.0) g)))
+
+-- one more declaration was refused
+pub outer_refused : {goes : Outcome (List OuterTree) → Type 0} {w : Scene} {before : List OuterTree} {ts : List Placed} {f : Fault} → Path (Outers before) goes 0 w (part 0 w (AnOuter parts.Outer) (λ next. part 0 (after_outer w next) (Outers (before ++ next ∷ [])) give)) ts → Gives {A = Outer} (λ o. Goes 0 w (AnOuter parts.Outer) ts o) (λ o. outer_tree o) (Err f) → Halts (λ why rest. goes (Stop why rest)) f
+outer_refused path g = halts_for (λ why rest h. goes_so path _ (stops (same_count h))) (halts_of g)

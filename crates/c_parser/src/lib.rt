@@ -1,5 +1,5 @@
 //! The tokens of a C file into a tree, or the first of them that is refused.
-#![tactic(auto, using(c_written::proofs::Trees::the_written_trees))]
+#![tactic(auto)]
 
 mod outer;
 mod parsing;

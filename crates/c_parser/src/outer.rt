@@ -1,10 +1,11 @@
 // The declarations of a file.
+#![tactic(auto, using(c_written::proofs::Trees::the_written_trees))]
 
-ghost use Rattle.std.specs.Prelude.{◌≡◌, ℕ, ◌+◌, ◌<◌, ◌≤◌, ◌++◌, true, List, length, map, IfOk};
+ghost use Rattle.std.specs.Prelude.{◌≡◌, ℕ, ◌+◌, ◌<◌, ◌≤◌, ◌++◌, true, List, [], length, map, IfOk};
 ghost use Rattle.c_written.specs.Written.{declarator_tree, spec_tree, specs_from, specs_tree};
 ghost use Rattle.c_written.specs.WrittenDecl.{initdeclarator_tree};
 ghost use Rattle.c_written.specs.WrittenFile.{outer_tree};
-ghost use Rattle.c_grammar.specs.Made.{declared_words, has_typedef, is_typedef, new_types};
+ghost use Rattle.c_grammar.specs.Made.{declared_word, declared_words, has_typedef, is_typedef, new_types, with_word};
 ghost use Rattle.c_grammar.specs.Parts as part;
 ghost use Rattle.c_grammar.specs.Refused.{first_is, is_brace};
 ghost use Rattle.c_descent.specs.Answers.{Answers};
@@ -129,10 +130,17 @@ fn is_typedef(spec: &Spec) -> bool
 {
     match spec {
         Spec::Storage { word, .. } => matches!(word, StorageWord::Typedef),
-        _ => false,
+        Spec::Const { .. }
+        | Spec::Basic { .. }
+        | Spec::TypedefName { .. }
+        | Spec::Struct { .. }
+        | Spec::StructBody { .. }
+        | Spec::Enum { .. }
+        | Spec::EnumBody { .. } => false,
     }
 }
 
+/// The words that the declarators declare, put behind the names.
 fn push_words(
     alloc: Global,
     types: &mut Vec<Name>,
@@ -141,9 +149,24 @@ fn push_words(
     ensures { IfOk result (λ _. types.new.items ≡ types.old.items ++ declared_words (map initdeclarator_tree inits.now)) }
 {
     for item in inits {
-        if let Some(name) = declared_word(&item.declarator) {
-            types.push(Name::from_vec(name.as_slice().to_vec(alloc)?))?;
+        push_word(alloc, types, &item.declarator)?;
+    }
+    Ok(())
+}
+
+fn push_word(
+    alloc: Global,
+    types: &mut Vec<Name>,
+    declarator: &Declarator,
+) -> Result<(), AllocError>
+    ensures { IfOk result (λ _. types.new.items ≡ types.old.items ++ with_word (declared_word (declarator_tree declarator.now)) []) }
+{
+    match declared_word(declarator) {
+        Some(name) => {
+            let bytes = name.as_slice().to_vec(alloc)?;
+            types.push(Name::from_vec(bytes))?;
         }
+        None => {}
     }
     Ok(())
 }

@@ -1,4 +1,5 @@
 // The whole of a file.
+#![tactic(auto, using(c_written::proofs::Trees::the_written_trees))]
 
 ghost use Rattle.std.specs.Prelude.{◌≡◌, ◌⊎◌, ℕ, ◌<◌, List, [], map, length, IfOk, IfErr, MatchResult};
 ghost use Rattle.c_written.specs.WrittenFile.{FileTree, file_tree, outer_tree};

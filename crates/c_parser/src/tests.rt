@@ -2,14 +2,14 @@
 
 use crate::shape;
 use crate::{ParseError, parse};
-use c_lexer::lex;
+use c_lexer::{LexError, lex};
 use c_written::Pos;
 use std::alloc::Global;
 use std::test::Fail;
 
 // The shape of the tree of a text, or the line of its refusal.
-fn line(alloc: Global, text: &str) -> Result<String, Fail> {
-    let tokens = lex(alloc, 0, text.as_bytes())?;
+fn line(alloc: Global, text: &[u8]) -> Result<String, Fail> {
+    let tokens = lex(alloc, 0, text)?;
     let mut out = String::new(alloc);
     match parse(alloc, &tokens) {
         Ok(file) => shape::file(&mut out, &file)?,
@@ -32,10 +32,10 @@ fn line(alloc: Global, text: &str) -> Result<String, Fail> {
 // The same of an expression, which is returned.
 fn value(alloc: Global, text: &str) -> Result<String, Fail> {
     let whole = format!(in alloc; "typedef int T;int f(void){{return {text};}}")?;
-    line(alloc, whole.as_str())
+    line(alloc, whole.as_bytes())
 }
 
-const VALUES: [(&str, &str); 30] = [
+const VALUES: [(&str, &str); 54] = [
     ("a?b:c?d:e", "(? a b (? c d e))"),
     ("a=b=c", "(= a (= b c))"),
     ("a-b-c", "(Minus (Minus a b) c)"),
@@ -68,6 +68,30 @@ const VALUES: [(&str, &str); 30] = [
     ("\"ab\" \"c\"", "\"3\""),
     ("'a'", "'97'"),
     ("'\\377'", "'255'"),
+    ("a?b,c:d", "(? a (, b c) d)"),
+    ("a?b:c=d", "(= (? a b c) d)"),
+    ("a=b,c=d", "(, (= a b) (= c d))"),
+    ("*a++=b", "(= (Deref (post++ a)) b)"),
+    ("-a.b", "(Minus (. a b))"),
+    ("!a==b", "(Equal (Not a) b)"),
+    ("&a[1]", "(AddressOf (at a 1))"),
+    ("a[1][b,c]", "(at (at a 1) (, b c))"),
+    ("a->b->c", "(-> (-> a b) c)"),
+    ("a*b+c*d", "(Plus (Multiply a b) (Multiply c d))"),
+    ("a+b-c", "(Minus (Plus a b) c)"),
+    ("a<<b+c", "(ShiftLeft a (Plus b c))"),
+    ("a<b==c<d", "(Equal (Less a b) (Less c d))"),
+    ("a|b^c&d", "(BitOr a (BitXor b (BitAnd c d)))"),
+    ("a&&b||c&&d", "(Or (And a b) (And c d))"),
+    ("a*(b+c)", "(Multiply a [(Plus b c)])"),
+    ("(int)a+b", "(Plus (cast Int _ a) b)"),
+    ("(int)(char)a[1]", "(cast Int _ (cast Char _ (at a 1)))"),
+    ("(const char*const)a", "(cast const Char (*const _) a)"),
+    ("(struct S*)a", "(cast struct S (* _) a)"),
+    ("sizeof -a", "(sizeof (Minus a))"),
+    ("sizeof a.b+1", "(Plus (sizeof (. a b)) 1)"),
+    ("sizeof(a)[1]", "(sizeof (at [a] 1))"),
+    ("sizeof sizeof(T)", "(sizeof (sizeof 'T _))"),
     ("(a)(b)", "FunctionPointer"),
 ];
 
@@ -87,7 +111,7 @@ fn values(rt: HostRuntime) -> Result<(), Fail> {
     Ok(())
 }
 
-const FILES: [(&str, &str); 36] = [
+const FILES: [(&str, &str); 68] = [
     ("", ""),
     ("int;", "Int;"),
     ("T(x);", "a.c:1:1: refused: syntax"),
@@ -166,13 +190,66 @@ const FILES: [(&str, &str); 36] = [
     ("void f(void){sizeof(int x);}", "a.c:1:25: refused: syntax"),
     ("int f(int(T));typedef int T;int g(int(T));", "a.c:1:38: refused: unsupported FunctionPointer"),
     ("else", "a.c:1:1: refused: syntax"),
+    ("int x;\n int", "a.c:2:5: refused: syntax"),
+    ("typedef int T,U[sizeof(T)];T t;U u;", "Typedef Int T (array U (sizeof [T]));'T t;'U u;"),
+    ("typedef int(*A)[2];A a;", "Typedef Int (array [(* A)] 2);'A a;"),
+    ("int const*const*x;int(*y);", "Int const (*const (* x));Int [(* y)];"),
+    (
+        "int f(const int const*const p,const char[2],int*const);",
+        "Int (fn f {const Int const (*const p)} <const Char (array _ 2)> <Int (*const _)>);",
+    ),
+    ("struct S{const int*const a;};", "struct S{const Int (*const a);};"),
+    (
+        "int f(void){const int c=1;for(const int i=0;;);}",
+        "Int (fn f void){const Int c=1;(for const Int i=0;; ;)}",
+    ),
+    (
+        "void f(void){auto int a;static int b;extern int c;register int d;}",
+        "Void (fn f void){Auto Int a;Static Int b;Extern Int c;Register Int d;}",
+    ),
+    ("short s;long long l;signed char c;void*v;", "Short s;Long Long l;Signed Char c;Void (* v);"),
+    ("int f(struct S*p,enum E e);", "Int (fn f {struct S (* p)} {enum E e});"),
+    ("struct{struct{int a;}b;enum E{A=1+2}e;}c;", "struct {struct {Int a;} b;enum E{A=(Plus 1 2),} e;} c;"),
+    ("int a[]={1,2,},b={c};", "Int (array a)={1,2,} b={c,};"),
+    ("int f(int[2][3],char**(*)[4]);", "Int (fn f <Int (array (array _ 2) 3)> <Char (* (* (array [(* _)] 4)))>);"),
+    (
+        "void f(void){if(a)while(b)if(c);else;}",
+        "Void (fn f void){(if a (while b (if c ; else ;)))}",
+    ),
+    (
+        "void f(void){if(a){if(b);}else;}",
+        "Void (fn f void){(if a {(if b ;)} else ;)}",
+    ),
+    (
+        "void f(void){switch(a){case b?1:2:;{default:;}}}",
+        "a.c:1:37: refused: unsupported NestedCase",
+    ),
+    (
+        "void f(void){switch(a){case b?1:2:switch(c){default:;}}}",
+        "Void (fn f void){(switch a {case (? b 1 2):(switch c {default:;})})}",
+    ),
+    ("struct S{};", "a.c:1:10: refused: syntax"),
+    ("struct S{int;};", "a.c:1:13: refused: syntax"),
+    ("enum E{};", "a.c:1:8: refused: syntax"),
+    ("int a={};", "a.c:1:8: refused: syntax"),
+    ("int f(void,int);", "Int (fn f <Void _> <Int _>);"),
+    ("void f(void){else;}", "a.c:1:14: refused: syntax"),
+    ("void f(void){do;while(0)}", "a.c:1:25: refused: syntax"),
+    ("void f(void){for(;;)}", "a.c:1:21: refused: syntax"),
+    ("void f(void){int a;T b;}", "a.c:1:22: refused: syntax"),
+    ("typedef int T;void f(void){T:;}", "a.c:1:29: refused: syntax"),
+    ("int f(void){}}", "a.c:1:14: refused: syntax"),
+    ("int f(void){return 0}", "a.c:1:21: refused: syntax"),
+    ("int f(int a)(int b);", "a.c:1:13: refused: unsupported FunctionPointer"),
+    ("int f[2](int);", "a.c:1:9: refused: unsupported FunctionPointer"),
+    ("int (f)(void);", "a.c:1:8: refused: unsupported FunctionPointer"),
 ];
 
 #[test]
 fn files(rt: HostRuntime) -> Result<(), Fail> {
     let alloc = rt.alloc();
     for (text, wanted) in &FILES {
-        let found = line(alloc, text)?;
+        let found = line(alloc, text.as_bytes())?;
         assert_eq!(rt; found.as_str(), *wanted, "{text}");
     }
     Ok(())
@@ -225,7 +302,7 @@ const CONSTRUCTS: [(&str, &str); 40] = [
 fn constructs(rt: HostRuntime) -> Result<(), Fail> {
     let alloc = rt.alloc();
     for (text, wanted) in &CONSTRUCTS {
-        let found = line(alloc, text)?;
+        let found = line(alloc, text.as_bytes())?;
         let whole = if wanted.is_empty() {
             format!(in alloc; "Int (array a);")?
         } else {
@@ -258,7 +335,7 @@ fn repeated(
     Ok(text)
 }
 
-const DEEP: [(&str, &str, usize, &str, &str, &str, &str); 12] = [
+const DEEP: [(&str, &str, usize, &str, &str, &str, &str); 27] = [
     ("int main(void){return ", "(", 200, "", "", "", "a.c:1:222: refused: nesting above 200"),
     ("int main(void){return ", "(", 199, "0", ")", ";}", ""),
     ("int main(void){return ", "(", 200, "0", ")", ";}", "a.c:1:222: refused: nesting above 200"),
@@ -271,6 +348,21 @@ const DEEP: [(&str, &str, usize, &str, &str, &str, &str); 12] = [
     ("int ", "*", 201, "x", "", ";", "a.c:1:205: refused: nesting above 200"),
     ("int x", "[1]", 400, "", "", ";", ""),
     ("void f(void){", "if(a);else ", 199, ";", "", "}", ""),
+    ("int x=", "a=", 200, "b", "", ";", "a.c:1:406: refused: nesting above 200"),
+    ("int x=", "a?b:", 199, "c", "", ";", ""),
+    ("int x=", "a?b:", 200, "c", "", ";", "a.c:1:804: refused: nesting above 200"),
+    ("int x=a", "++", 199, "", "", ";", ""),
+    ("int x=a", "++", 200, "", "", ";", "a.c:1:406: refused: nesting above 200"),
+    ("int x=", "{", 199, "1", "}", ";", ""),
+    ("int x=", "{", 200, "1", "}", ";", "a.c:1:206: refused: nesting above 200"),
+    ("int x=", "(int)", 198, "1", "", ";", ""),
+    ("int x=", "(int)", 199, "1", "", ";", "a.c:1:998: refused: nesting above 200"),
+    ("int x=", "f(", 99, "1", ")", ";", ""),
+    ("int x=", "f(", 100, "1", ")", ";", "a.c:1:206: refused: nesting above 200"),
+    ("void f(void)", "{", 200, "", "}", "", ""),
+    ("void f(void)", "{", 201, "", "}", "", "a.c:1:213: refused: nesting above 200"),
+    ("void f(void){", "if(a)", 199, ";", "", "}", ""),
+    ("void f(void){", "if(a)", 200, ";", "", "}", "a.c:1:1011: refused: nesting above 200"),
 ];
 
 #[test]
@@ -278,12 +370,107 @@ fn deep(rt: HostRuntime) -> Result<(), Fail> {
     let alloc = rt.alloc();
     for (before, part, times, middle, end, behind, wanted) in &DEEP {
         let text = repeated(alloc, before, part, *times, middle, end, behind)?;
-        let found = line(alloc, text.as_str())?;
+        let found = line(alloc, text.as_bytes())?;
         if wanted.is_empty() {
             assert!(rt; !found.as_str().starts_with("a.c"), "{text} {found}");
         } else {
             assert_eq!(rt; found.as_str(), *wanted, "{text}");
         }
     }
+    Ok(())
+}
+
+// The declarations of a program, each with its shape.
+const RING: [(&str, &str); 10] = [
+    ("typedef unsigned char u8;", "Typedef Unsigned Char u8;"),
+    ("enum { CAP = 8 };", "enum {CAP=8,};"),
+    ("enum state { IDLE, RUN, STOP };", "enum state{IDLE,RUN,STOP,};"),
+    (
+        "struct ring { u8 buf[CAP]; unsigned head, count; };",
+        "struct ring{'u8 (array buf CAP);Unsigned head count;};",
+    ),
+    ("static struct ring q;", "Static struct ring q;"),
+    ("static enum state st = IDLE;", "Static enum state st=IDLE;"),
+    ("static const int weight[3] = { 1, 2, 4 };", "Static const Int (array weight 3)={1,2,4,};"),
+    (
+        "static int put(struct ring *r, u8 v) {
+  if (r->count >= CAP) return 0;
+  r->buf[(r->head + r->count) % CAP] = v;
+  r->count++;
+  return 1;
+}",
+        "Static Int (fn put {struct ring (* r)} {'u8 v}){(if (AtLeast (-> r count) CAP) return 0;)(= (at (-> r buf) (Remainder [(Plus (-> r head) (-> r count))] CAP)) v);(post++ (-> r count));return 1;}",
+    ),
+    (
+        "static int take(struct ring *r) {
+  int v;
+  if (r->count == 0) return -1;
+  v = r->buf[r->head];
+  r->head = (r->head + 1) % CAP;
+  r->count--;
+  return v;
+}",
+        "Static Int (fn take {struct ring (* r)}){Int v;(if (Equal (-> r count) 0) return (Minus 1);)(= v (at (-> r buf) (-> r head)));(= (-> r head) (Remainder [(Plus (-> r head) 1)] CAP));(post-- (-> r count));return v;}",
+    ),
+    (
+        "int main() {
+  int i, sum = 0;
+  for (i = 0; i < 100; i++) {
+    if (i < 3) sum = (sum + weight[i]) % 1000;
+    switch (st) {
+    case IDLE: if (__any_int()) st = RUN; break;
+    case RUN: if (!put(&q, (u8)i)) st = STOP; break;
+    default: { int v = take(&q); if (v < 0) st = IDLE; else sum = (sum + v) % 1000; }
+    }
+  }
+  return sum;
+}",
+        "Int (fn main){Int i sum=0;(for (= i 0);(Less i 100);(post++ i) {(if (Less i 3) (= sum (Remainder [(Plus sum (at weight i))] 1000));)(switch st {case IDLE:(if (call __any_int) (= st RUN);)break;case RUN:(if (Not (call put (AddressOf q) (cast 'u8 _ i))) (= st STOP);)break;default:{Int v=(call take (AddressOf q));(if (Less v 0) (= st IDLE); else (= sum (Remainder [(Plus sum v)] 1000));)}})})return sum;}",
+    ),
+];
+
+// Whether the text is refused, as pieces or as tokens.
+fn is_refused(alloc: Global, text: &[u8]) -> Result<bool, Fail> {
+    let tokens = match lex(alloc, 0, text) {
+        Ok(tokens) => tokens,
+        Err(LexError::NoMemory) => return Err("out of memory".into()),
+        Err(_) => return Ok(true),
+    };
+    match parse(alloc, &tokens) {
+        Ok(_) => Ok(false),
+        Err(ParseError::NoMemory) => Err("out of memory".into()),
+        Err(_) => Ok(true),
+    }
+}
+
+// A text that ends within a declaration is refused, and one that ends behind it is a file.
+#[test]
+fn ring(rt: HostRuntime) -> Result<(), Fail> {
+    let alloc = rt.alloc();
+    let mut text: Vec<u8> = Vec::new(alloc);
+    let mut wanted = String::new(alloc);
+    for (declaration, shape) in &RING {
+        let mut within = false;
+        for byte in declaration.as_bytes() {
+            if within {
+                assert!(rt; is_refused(alloc, text.as_slice())?, "{declaration}");
+            }
+            text.push(*byte)?;
+            within = true;
+        }
+        wanted.push_str(shape)?;
+        let found = line(alloc, text.as_slice())?;
+        assert_eq!(rt; found.as_str(), wanted.as_str());
+        text.push(b'\n')?;
+    }
+    Ok(())
+}
+
+#[test]
+fn small_file(rt: HostRuntime) -> Result<(), Fail> {
+    let alloc = rt.alloc();
+    let tokens = lex(alloc, 0, "typedef int T;T f(T x){return x;}".as_bytes())?;
+    let file = parse(alloc, &tokens)?;
+    assert_eq!(rt; file.outers.as_slice().len(), 2);
     Ok(())
 }
