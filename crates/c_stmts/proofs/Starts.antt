@@ -17,22 +17,11 @@ use Rattle.c_grammar.specs.Ahead.{label_ahead}
 use Rattle.c_grammar.specs.Refused.{begins_designator, first_is, is_brace, where_true}
 use Rattle.c_grammar.specs.Choice.{ARule, this, choose, statement_choice, statement_word_choice}
 use Rattle.c_grammar.specs.Descent.{Outcome, Goes}
+use Rattle.c_descent.proofs.Steps.{if_false, if_true}
 use Rattle.c_stmts.specs.declared.stmt_kind.StatementKind.{StatementKind}
 use Rattle.c_stmts.specs.declared.stmt_kind.StatementKind.TheVariants as statements
 use Rattle.c_stmts.specs.Kinds.{StatementStarts, statement_of, statement_of_word}
 use Rattle.c_stmts.proofs.Steps.{Path, begin}
-
-pub if_true : {A : Type 0} {b : Bool} (x y : A) → b ≡ true → (if b then x else y) ≡ x
-if_true {A} {b} x y e = subst (λ (v : Bool). (if v then x else y) ≡ x) (sym e) refl
-
-pub if_false : {A : Type 0} {b : Bool} (x y : A) → b ≡ false → (if b then x else y) ≡ y
-if_false {A} {b} x y e = subst (λ (v : Bool). (if v then x else y) ≡ y) (sym e) refl
-
-pub not_where : {b : Bool} (c : Construct) → b ≡ false → where_true b c ≡ None
-not_where {b} c e = subst (λ (v : Bool). where_true v c ≡ None) (sym e) refl
-
-pub is_where : {b : Bool} (c : Construct) → b ≡ true → where_true b c ≡ Some c
-is_where {b} c e = subst (λ (v : Bool). where_true v c ≡ Some c) (sym e) refl
 
 -- the production of a statement of the kind
 abbrev pub rule_of : (w : Scene) (b : Bool) → StatementKind → Option (ARule w (AStmt (Statement b)))
@@ -66,7 +55,7 @@ token_rule w b _ = refl
 
 pub statement_rule : (w : Scene) (b : Bool) (ts : List Placed) (kind : StatementKind) → StatementStarts w ts kind → choose w (AStmt (Statement b)) ts ≡ rule_of w b kind
 statement_rule w b [] kind h = ap (rule_of w b) h.1
-statement_rule w b (t ∷ ts) kind h = if_false _ _ h.0 ∙ token_rule w b t.token ∙ ap (rule_of w b) h.1
+statement_rule w b (t ∷ ts) kind h = if_false _ h.0 ∙ token_rule w b t.token ∙ ap (rule_of w b) h.1
 
 -- the way into a statement of the kind
 pub statement_begins : {b : Bool} {d : ℕ} {w : Scene} {ts : List Placed} {q : Process (Value (AStmt (Statement b)))} {rule : Produces w (AStmt (Statement b)) q} (kind : StatementKind) → StatementStarts w ts kind → rule_of w b kind ≡ Some (q, rule) → Path (AStmt (Statement b)) (λ o. Goes d w (AStmt (Statement b)) ts o) d w q ts
@@ -74,7 +63,7 @@ statement_begins {b} {d} {w} {ts} kind h e = begin (λ o g. g) refl (statement_r
 
 pub label_rule : (w : Scene) (b : Bool) (ts : List Placed) → label_ahead w ts ≡ true → choose w (AStmt (Statement b)) ts ≡ this (file_rule files.label)
 label_rule w b [] h = cc
-label_rule w b (t ∷ ts) h = if_true _ _ h
+label_rule w b (t ∷ ts) h = if_true _ h
 
 brace_sign : (p : Punctuator) → is_brace (kinds.Punctuator p) ≡ true → begins_designator (kinds.Punctuator p) ≡ false
 brace_sign signs.LeftBracket h = cc

@@ -10,7 +10,7 @@ use Rattle.c_written.specs.declared.declaration.Init.{Init}
 use Rattle.c_written.specs.Written.{ExprTree, expr_tree, SpecTrees, DeclaratorTree}
 use Rattle.c_written.specs.WrittenDecl.{InitTrees, InitDeclaratorTree, DeclTree, init_tree}
 use Rattle.c_written.specs.WrittenFile.{BlockItemTrees, OuterTree}
-use Rattle.c_grammar.specs.Parts.{Scene, DeclPart, Initial, Ending, Part, ADecl, Items, MoreInitialisers, NextInitialiser, Outers, Value}
+use Rattle.c_grammar.specs.Parts.{Scene, Statement, DeclPart, Initial, Ending, Part, ADecl, AStmt, Items, MoreInitialisers, NextInitialiser, Outers, Value}
 use Rattle.c_grammar.specs.Classes.{Class, sign}
 use Rattle.c_grammar.specs.Process.{Process, give, token, part, only}
 use Rattle.c_grammar.specs.Grammar.{Produces}
@@ -20,8 +20,10 @@ use Rattle.c_grammar.specs.Descent.{Outcome, Done, Stop, barred, Goes, Follows, 
 use Rattle.c_descent.specs.declared.fault.Fault.{Fault}
 use Rattle.c_descent.specs.declared.fault.Fault.TheVariants as faults
 use Rattle.c_descent.specs.Answers.{IsStop, Halts, no_memory, syntax, unsupported, too_deep, Gives, given, halted, Takes, taken, refused, Steps, stepped, stalled}
+use Rattle.c_descent.proofs.Steps.{stall, step}
 use Rattle.c_stmts.specs.Answers.{Initialised}
-use Rattle.c_stmts.specs.Kinds.{Conditions, tested, untested, in_parentheses}
+use Rattle.c_stmts.specs.declared.stmt_leaf.ForHead.{ForHead}
+use Rattle.c_stmts.specs.Kinds.{Conditions, ForHeads, for_rest, tested, untested, in_parentheses}
 
 -- Where the descent has come in a production of the part: what is left of it decides for all.
 pub record Path (p : Part) (goes : Outcome (Value p) → Type 0) (d : ℕ) (w : Scene) (q : Process (Value p)) (ts : List Placed) : Type 0 where
@@ -73,19 +75,25 @@ passed_on {goes = goes} (Err g) e h = halted (subst (λ v. Halts (λ why rest. g
 pub no_room : {A V : Type 0} {goes : Outcome V → Type 0} {view : A → V} (r : Result (A × Bor (List Placed)) Fault) → IsErrAnd r (λ e. e ≡ faults.NoMemory) → Gives goes view r
 no_room r e = passed_on r e no_memory
 
--- the token was refused
-pub not_after : {A : Type 0} {p : Part} {goes : Outcome (Value p) → Type 0} {d n : ℕ} {w : Scene} {c : Class} {k : Placed → Process (Value p)} {ts : List Placed} {view : A → Value p} {f : Fault} (r : Result (A × Bor (List Placed)) Fault) → IsErrAnd r (λ e. e ≡ f) → Path p goes d w (token n c k) ts → Takes d w n c ts (Err f) → Gives goes view r
-not_after {p = p} {k = k} r e path (refused h) = passed_on r e (halts_for (λ why rest g. path.run _ (g p k)) h)
-
 pub halts_of : {A V : Type 0} {goes : Outcome V → Type 0} {view : A → V} {f : Fault} → Gives goes view (Err f) → Halts (λ why rest. goes (Stop why rest)) f
 halts_of (halted h) = h
+
+-- the token was refused
+pub halts_after : {p : Part} {goes : Outcome (Value p) → Type 0} {d n : ℕ} {w : Scene} {c : Class} {k : Placed → Process (Value p)} {ts : List Placed} {f : Fault} → Path p goes d w (token n c k) ts → Takes d w n c ts (Err f) → Halts (λ why rest. goes (Stop why rest)) f
+halts_after {p = p} {k = k} path (refused h) = halts_for (λ why rest g. path.run _ (g p k)) h
+
+pub not_after : {A : Type 0} {p : Part} {goes : Outcome (Value p) → Type 0} {d n : ℕ} {w : Scene} {c : Class} {k : Placed → Process (Value p)} {ts : List Placed} {view : A → Value p} {f : Fault} (r : Result (A × Bor (List Placed)) Fault) → IsErrAnd r (λ e. e ≡ f) → Path p goes d w (token n c k) ts → Takes d w n c ts (Err f) → Gives goes view r
+not_after r e path h = passed_on r e (halts_after path h)
 
 -- the part was not read
 pub not_behind : {A B : Type 0} {p i : Part} {goes : Outcome (Value p) → Type 0} {d : ℕ} {w s : Scene} {k : Value i → Process (Value p)} {ts : List Placed} {of_part : B → Value i} {view : A → Value p} {f : Fault} (r : Result (A × Bor (List Placed)) Fault) → IsErrAnd r (λ e. e ≡ f) → Path p goes d w (part 0 s i k) ts → Gives (λ o. Goes d s i ts o) of_part (Err f) → Gives goes view r
 not_behind r e path g = passed_on r e (halts_for (λ why rest h. path.run _ (stops (same_count h))) (halts_of g))
 
+pub halts_inside : {B : Type 0} {p i : Part} {goes : Outcome (Value p) → Type 0} {d : ℕ} {w s : Scene} {k : Value i → Process (Value p)} {ts : List Placed} {of_part : B → Value i} {f : Fault} → Path p goes d w (part 1 s i k) ts → Gives (λ o. Goes (d + 1) s i ts o) of_part (Err f) → Halts (λ why rest. goes (Stop why rest)) f
+halts_inside path g = halts_for (λ why rest h. path.run _ (stops h)) (halts_of g)
+
 pub not_inside : {A B : Type 0} {p i : Part} {goes : Outcome (Value p) → Type 0} {d : ℕ} {w s : Scene} {k : Value i → Process (Value p)} {ts : List Placed} {of_part : B → Value i} {view : A → Value p} {f : Fault} (r : Result (A × Bor (List Placed)) Fault) → IsErrAnd r (λ e. e ≡ f) → Path p goes d w (part 1 s i k) ts → Gives (λ o. Goes (d + 1) s i ts o) of_part (Err f) → Gives goes view r
-not_inside r e path g = passed_on r e (halts_for (λ why rest h. path.run _ (stops h)) (halts_of g))
+not_inside r e path g = passed_on r e (halts_inside path g)
 
 halts_tried : {d : ℕ} {w : Scene} {ts : List Placed} {f : Fault} → Conditions d w ts (Err f) → Halts (λ why rest. (p : Part) (k : ExprTree → Process (Value p)) → Follows d w p (in_parentheses w k) ts (Stop why rest)) f
 halts_tried (untested h) = h
@@ -104,17 +112,9 @@ from_start q ts = record { run = λ o g. g }
 pub goes_so : {p : Part} {goes : Outcome (Value p) → Type 0} {d : ℕ} {w : Scene} {q : Process (Value p)} {ts : List Placed} → Path p goes d w q ts → (o : Outcome (Value p)) → Follows d w p q ts o → goes o
 goes_so path o g = path.run o g
 
-pub refused_at : {d n : ℕ} {w : Scene} {c : Class} {ts : List Placed} {f : Fault} → Takes d w n c ts (Err f) → Halts (λ why rest. (p : Part) (k : Placed → Process (Value p)) → Follows d w p (token n c k) ts (Stop why rest)) f
-refused_at (refused h) = h
-
 pub untried : {d : ℕ} {w : Scene} {ts : List Placed} {f : Fault} (r : Result (Expr × Bor (List Placed)) Fault) → IsErrAnd r (λ e. e ≡ f) → Halts (λ why rest. (p : Part) (k : ExprTree → Process (Value p)) → Follows d w p (in_parentheses w k) ts (Stop why rest)) f → Conditions d w ts r
 untried (Ok x) e h = absurd e
 untried {d} {w} {ts} (Err g) e h = untested (subst (λ v. Halts (λ why rest. (p : Part) (k : ExprTree → Process (Value p)) → Follows d w p (in_parentheses w k) ts (Stop why rest)) v) (sym e) h)
-
--- the fault of a step is passed on
-pub stalled_at : {A V : Type 0} {goes : Outcome V → Type 0} {next : A → List Placed → Outcome V → Type 0} {f : Fault} (r : Result (A × Bor (List Placed)) Fault) → IsErrAnd r (λ e. e ≡ f) → Halts (λ why rest. goes (Stop why rest)) f → Steps goes next r
-stalled_at (Ok x) e h = absurd e
-stalled_at {goes = goes} (Err g) e h = stalled (subst (λ v. Halts (λ why rest. goes (Stop why rest)) v) (sym e) h)
 
 -- a production that ends with a part of the same kind
 pub last_decl : {i j : DeclPart} {d : ℕ} {w s : Scene} {ts : List Placed} (o : Outcome DeclTree) → Goes d s (ADecl i) ts o → Follows d w (ADecl j) (part 0 s (ADecl i) give) ts o
@@ -137,18 +137,12 @@ pub last_outers : {before more : List OuterTree} {d : ℕ} {w s : Scene} {ts : L
 last_outers (Done v r) g = goes_on (same_count g) is_done
 last_outers (Stop why r) g = stops (same_count g)
 
-steps_so : {A V : Type 0} {goes : Outcome V → Type 0} {next : A → List Placed → Outcome V → Type 0} {x : A × Bor (List Placed)} → Steps goes next (Ok x) → (o : Outcome V) → next x.0 x.1.now o → goes o
-steps_so (stepped h) = h
-
-stalls_so : {A V : Type 0} {goes : Outcome V → Type 0} {next : A → List Placed → Outcome V → Type 0} {f : Fault} → Steps goes next (Err f) → Halts (λ why rest. goes (Stop why rest)) f
-stalls_so (stalled h) = h
-
 -- what follows the declarator was read
 pub initialised_at : {s : SpecTrees} {before : List InitDeclaratorTree} {d : DeclaratorTree} {count : ℕ} {w : Scene} {ts : List Placed} {x : Option Init × Bor (List Placed)} → Initialised count w ts (Ok x) → (o : Outcome DeclTree) → Goes count w (ADecl (Ending s (before ++ record { declarator = d; init = option_map init_tree x.0 } ∷ []))) x.1.now o → Goes count w (ADecl (Initial s before d)) ts o
-initialised_at {s} {before} {d} h = steps_so (h s before d)
+initialised_at {s} {before} {d} h = step (h s before d)
 
 pub not_initialised_at : {s : SpecTrees} {before : List InitDeclaratorTree} {d : DeclaratorTree} {count : ℕ} {w : Scene} {ts : List Placed} {f : Fault} → Initialised count w ts (Err f) → Halts (λ why rest. Goes count w (ADecl (Initial s before d)) ts (Stop why rest)) f
-not_initialised_at {s} {before} {d} h = stalls_so (h s before d)
+not_initialised_at {s} {before} {d} h = stall (h s before d)
 
 -- the part is refused where it bears a construct
 pub barred_at : {A : Type 0} {d : ℕ} {w : Scene} {p : Part} {c : Construct} {ts : List Placed} {view : A → Value p} {f : Fault} → part_construct w p ts ≡ Some c → IsStop (barred p d c ts) ts f → Gives (λ o. Goes d w p ts o) view (Err f)
@@ -174,3 +168,15 @@ same_ending {s} {d = d} {w} {ts} {o} e g = subst (λ (v : List InitDeclaratorTre
 -- the scene is the same
 pub in_scene : {b : BlockItemTrees} {d : ℕ} {v w : Scene} {ts : List Placed} {o : Outcome BlockItemTrees} → v ≡ w → Goes d v (Items b) ts o → Goes d w (Items b) ts o
 in_scene {b} {d} {v} {w} {ts} {o} e g = subst (λ (s : Scene). Goes d s (Items b) ts o) e g
+
+-- what was read is the whole, in another form
+pub same_value : {A B V : Type 0} {goes : Outcome V → Type 0} {view : A → V} {other : B → V} {x : A × Bor (List Placed)} {y : B} → Gives goes view (Ok x) → other y ≡ view x.0 → Gives goes other (Ok (y, x.1))
+same_value {goes = goes} {x = x} (given h) e = given (subst (λ v. goes (Done v x.1.now)) (sym e) h)
+
+-- the head of a for was read
+pub for_led : {b : Bool} {d : ℕ} {w : Scene} {ts : List Placed} {x : ForHead × Bor (List Placed)} → ForHeads d w ts (Ok x) → Path (AStmt (Statement b)) (λ o. Goes d w (AStmt (Statement b)) ts o) d w (for_rest w x.0) x.1.now
+for_led {b} h = record { run = λ o g. step (h b) o g }
+
+-- the head was not read
+pub not_led : {A B V : Type 0} {goes : Outcome V → Type 0} {next : B → List Placed → Outcome V → Type 0} {view : A → V} {f : Fault} (r : Result (A × Bor (List Placed)) Fault) → IsErrAnd r (λ e. e ≡ f) → Steps goes next (Err f) → Gives goes view r
+not_led r e h = passed_on r e (stall h)

@@ -1,6 +1,9 @@
 -- What kind of statement comes, and how its head is read.
-use Rattle.std.specs.Prelude.{◌≡◌, ℕ, Bool, true, false, List, [], ◌∷◌, Result, Ok, Err}
+use Rattle.std.specs.Prelude.{◌≡◌, ℕ, Bool, true, false, List, [], ◌∷◌, option_map, Result, Ok, Err}
+use Rattle.std.specs.declared.alloc.Global.{Global}
+use Rattle.std.specs.declared.boxed.Box.{Box}
 use Rattle.std.proofs.Common.{Bor}
+use Rattle.c_written.specs.declared.file.Stmt.{Stmt}
 use Rattle.c_written.specs.declared.token.Keyword.{Keyword}
 use Rattle.c_written.specs.declared.token.Keyword.TheVariants as keywords
 use Rattle.c_written.specs.declared.token.Placed.{Placed}
@@ -9,19 +12,21 @@ use Rattle.c_written.specs.declared.token.Token.{Token}
 use Rattle.c_written.specs.declared.token.Token.TheVariants as kinds
 use Rattle.c_written.specs.declared.written.Expr.{Expr}
 use Rattle.c_written.specs.Written.{ExprTree, expr_tree}
-use Rattle.c_grammar.specs.Parts.{Scene, Closing, by_semicolon, by_parenthesis, AnExpr, Part, Value}
+use Rattle.c_written.specs.WrittenFile.{StmtTree, For, forstart_tree, stmt_tree}
+use Rattle.c_grammar.specs.Parts.{Scene, within, Closing, by_semicolon, by_parenthesis, Statement, AnExpr, AStmt, Part, Value}
 use Rattle.c_grammar.specs.Ahead.{label_ahead}
 use Rattle.c_grammar.specs.Classes.{sign}
-use Rattle.c_grammar.specs.Process.{Process, token, part}
+use Rattle.c_grammar.specs.Process.{Process, give, token, part}
 use Rattle.c_grammar.specs.ExprRules.{Expression}
 use Rattle.c_grammar.specs.Refused.{Why}
-use Rattle.c_grammar.specs.Descent.{Outcome, Stop, Follows}
+use Rattle.c_grammar.specs.Descent.{Outcome, Stop, Goes, Follows}
 use Rattle.c_descent.specs.declared.fault.Fault.{Fault}
-use Rattle.c_descent.specs.Answers.{Halts}
+use Rattle.c_descent.specs.Answers.{Halts, Steps}
 use Rattle.c_stmts.specs.declared.stmt_kind.StatementKind.{StatementKind}
 use Rattle.c_stmts.specs.declared.stmt_kind.StatementKind.TheVariants as statements
 use Rattle.c_stmts.specs.declared.stmt_leaf.Closing.{Closing as Ending}
 use Rattle.c_stmts.specs.declared.stmt_leaf.Closing.TheVariants as endings
+use Rattle.c_stmts.specs.declared.stmt_leaf.ForHead.{ForHead}
 
 abbrev pub closing_view : Ending → Closing
 closing_view endings.BySemicolon = by_semicolon
@@ -63,3 +68,15 @@ in_parentheses scene k = token 1 (sign signs.LeftParenthesis) (λ opening. part 
 pub data Conditions (count : ℕ) (scene : Scene) (tokens : List Placed) : Result (Expr × Bor (List Placed)) Fault → Type 0 where
   tested : {x : Expr × Bor (List Placed)} → ((p : Part) (k : ExprTree → Process (Value p)) (o : Outcome (Value p)) → Follows count scene p (k (expr_tree x.0)) x.1.now o → Follows count scene p (in_parentheses scene k) tokens o) → Conditions count scene tokens (Ok x)
   untested : {f : Fault} → Halts (λ why rest. (p : Part) (k : ExprTree → Process (Value p)) → Follows count scene p (in_parentheses scene k) tokens (Stop why rest)) f → Conditions count scene tokens (Err f)
+
+-- the tree of a statement that another one holds
+abbrev pub boxed_tree : Box Stmt Global → StmtTree
+boxed_tree s = stmt_tree s.value
+
+-- what is left of a for behind its head
+abbrev pub for_rest : Scene → ForHead → Process StmtTree
+for_rest scene head = part 1 (within scene) (AStmt (Statement false)) (λ body. give (For head.pos (forstart_tree head.start) (option_map expr_tree head.condition) (option_map expr_tree head.step) body))
+
+-- The result is how the descent reads the head of a for.
+abbrev pub ForHeads : ℕ → Scene → List Placed → Result (ForHead × Bor (List Placed)) Fault → Type 0
+ForHeads count scene tokens r = (b : Bool) → Steps (λ o. Goes count scene (AStmt (Statement b)) tokens o) (λ head rest o. Follows count scene (AStmt (Statement b)) (for_rest scene head) rest o) r

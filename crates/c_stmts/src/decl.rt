@@ -1,4 +1,5 @@
 // Declarations.
+#![tactic(auto, using(c_written::proofs::Trees::the_written_trees))]
 
 ghost use Rattle.std.specs.Prelude.{◌≡◌, ℕ, ◌+◌, ◌<◌, ◌≤◌, true, List, [], ◌∷◌, ◌++◌, length, map, IfOk};
 ghost use Rattle.c_written.specs.Written.{declarator_tree, specs_tree};
@@ -14,7 +15,9 @@ ghost use Rattle.c_stmts.specs.Answers.{Initialised};
 use crate::init::initialiser;
 use c_descent::{Class, Context, Fault, Mark, Role, comes, specs_pos, taken};
 use c_exprs::{declarator, specs};
-use c_written::{Decl, Declarator, Init, InitDeclarator, InitDeclarators, Placed, Punctuator, Specs};
+use c_written::{
+    Decl, Declarator, Init, InitDeclarator, InitDeclarators, Placed, Punctuator, Specs,
+};
 use std::alloc::{AllocError, Global};
 
 /// A declaration in a block or a `for`.

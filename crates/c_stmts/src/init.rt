@@ -1,4 +1,5 @@
 // Initialisers.
+#![tactic(auto, using(c_written::proofs::Trees::the_written_trees))]
 
 ghost use Rattle.std.specs.Prelude.{◌≡◌, ℕ, ◌+◌, ◌<◌, ◌≤◌, true, List, length, IfOk};
 ghost use Rattle.c_written.specs.WrittenDecl.{init_tree, inits_from, inits_then, inits_tree, more_inits, no_inits};
@@ -9,7 +10,7 @@ ghost use Rattle.c_descent.specs.Answers.{Answers};
 ghost use Rattle.c_descent.specs.Views.{scene_of};
 
 use c_descent::{Class, Context, Fault, Mark, barred, comes, designator_ahead, taken};
-use c_exprs::{assignment};
+use c_exprs::assignment;
 use c_written::{Construct, Init, Inits, Placed, Punctuator};
 use std::alloc::{AllocError, Global};
 

@@ -1,8 +1,9 @@
 // Statements and blocks.
+#![tactic(auto)]
 
 ghost use Rattle.std.specs.Prelude.{◌≡◌, ℕ, ◌+◌, ◌<◌, ◌≤◌, Bool, true, not, ◌&&◌, List, length, IfOk};
 ghost use Rattle.c_written.specs.Written.{expr_tree};
-ghost use Rattle.c_written.specs.WrittenFile.{blockitem_tree, blockitems_from, blockitems_tree, none, stmt_tree};
+ghost use Rattle.c_written.specs.WrittenFile.{blockitem_tree, blockitems_from, blockitems_then, blockitems_tree, none, stmt_tree};
 ghost use Rattle.c_grammar.specs.Ahead.{label_ahead};
 ghost use Rattle.c_grammar.specs.Choice.{is_else_word};
 ghost use Rattle.c_grammar.specs.FileRules.{block_scene};
@@ -11,21 +12,19 @@ ghost use Rattle.c_grammar.specs.Parts as part;
 ghost use Rattle.c_grammar.specs.Refused.{first_is};
 ghost use Rattle.c_descent.specs.Answers.{Answers};
 ghost use Rattle.c_descent.specs.Views.{scene_of, setting_of};
-ghost use Rattle.c_stmts.specs.Kinds.{StatementStarts};
+ghost use Rattle.c_stmts.specs.Kinds.{StatementStarts, boxed_tree};
 
 use crate::decl::declaration;
 use crate::stmt_kind::{StatementKind, ends_open, statement_at};
-use crate::stmt_node::{
-    case_stmt, default_stmt, do_while_stmt, for_stmt, if_else_stmt, if_stmt, label_stmt, push_item,
-    switch_stmt, while_stmt,
-};
 use crate::stmt_leaf::{
-    Closing, condition, empty, expression, for_start, goto, leave, next_turn, optional,
-    return_statement,
+    condition, empty, expression, for_head, for_stmt, goto, leave, next_turn, return_statement,
 };
-use c_descent::{Class, Context, Fault, Mark, Setting, comes, label_ahead, name_of, spec_ahead, taken};
-use c_exprs::{conditional};
+use c_descent::{
+    Class, Context, Fault, Mark, Setting, comes, label_ahead, name_of, spec_ahead, taken,
+};
+use c_exprs::conditional;
 use c_written::{BlockItem, BlockItems, Expr, Keyword, Placed, Pos, Punctuator, Stmt};
+use std::alloc::AllocError;
 
 /// A statement, which is that of a switch where `switched`.
 #[cycle(statements)]
@@ -74,9 +73,16 @@ fn label<'a>(
     let colon = Class::Sign(Punctuator::Colon);
     let (at, behind) = taken(context, count, 0, Class::Word, tokens)?;
     let (_colon, behind) = taken(context, count, 0, colon, behind)?;
-    let (body, rest) = statement(context, false, count + 1, behind)?;
+    let (body, rest) = boxed(context, false, count + 1, behind)?;
     let name = name_of(context.alloc, &at.token)?;
-    Ok((label_stmt(context.alloc, at.pos, name, body)?, rest))
+    Ok((
+        Stmt::Label {
+            pos: at.pos,
+            name,
+            body,
+        },
+        rest,
+    ))
 }
 
 /// A case and its statement.
@@ -95,8 +101,15 @@ fn case<'a>(
     let (at, behind) = taken(context, count, 0, Class::Keyword(Keyword::Case), tokens)?;
     let (value, rest) = conditional(context, count, behind)?;
     let (_colon, behind) = taken(context, count, 0, colon, rest)?;
-    let (body, rest) = statement(context, false, count + 1, behind)?;
-    Ok((case_stmt(context.alloc, at.pos, value, body)?, rest))
+    let (body, rest) = boxed(context, false, count + 1, behind)?;
+    Ok((
+        Stmt::Case {
+            pos: at.pos,
+            value,
+            body,
+        },
+        rest,
+    ))
 }
 
 /// A default and its statement.
@@ -114,8 +127,8 @@ fn otherwise<'a>(
     let colon = Class::Sign(Punctuator::Colon);
     let (at, behind) = taken(context, count, 0, Class::Keyword(Keyword::Default), tokens)?;
     let (_colon, behind) = taken(context, count, 0, colon, behind)?;
-    let (body, rest) = statement(context, false, count + 1, behind)?;
-    Ok((default_stmt(context.alloc, at.pos, body)?, rest))
+    let (body, rest) = boxed(context, false, count + 1, behind)?;
+    Ok((Stmt::Default { pos: at.pos, body }, rest))
 }
 
 /// A block.
@@ -162,16 +175,23 @@ fn else_part<'a>(
     count: u32,
     at: Pos,
     condition: Expr,
-    then: Stmt,
+    then: Box<Stmt>,
     tokens: &'a [Placed],
 ) -> Result<(Stmt, &'a [Placed]), Fault<'a>>
-    ensures goes { Answers count (scene_of context.now) (part.AStmt (part.Else at (expr_tree condition) (stmt_tree then))) tokens.now (λ s. stmt_tree s) result }
+    ensures goes { Answers count (scene_of context.now) (part.AStmt (part.Else at (expr_tree condition) (boxed_tree then))) tokens.now (λ s. stmt_tree s) result }
     ensures shorter { IfOk result (λ x. length x.1.now ≤ length tokens.now) }
 {
     if else_comes(&then, tokens) {
         return else_form(context, count, at, condition, then, tokens);
     }
-    Ok((if_stmt(context.alloc, at, condition, then)?, tokens))
+    Ok((
+        Stmt::If {
+            pos: at,
+            condition,
+            then,
+        },
+        tokens,
+    ))
 }
 
 /// Whether an else comes that is this if's.
@@ -188,17 +208,24 @@ fn else_form<'a>(
     count: u32,
     at: Pos,
     condition: Expr,
-    then: Stmt,
+    then: Box<Stmt>,
     tokens: &'a [Placed],
 ) -> Result<(Stmt, &'a [Placed]), Fault<'a>>
-    requires { (first_is is_else_word tokens.now && not (ends_open (stmt_tree then))) ≡ true }
-    ensures goes { Answers count (scene_of context.now) (part.AStmt (part.Else at (expr_tree condition) (stmt_tree then))) tokens.now (λ s. stmt_tree s) result }
+    requires { (first_is is_else_word tokens.now && not (ends_open (boxed_tree then))) ≡ true }
+    ensures goes { Answers count (scene_of context.now) (part.AStmt (part.Else at (expr_tree condition) (boxed_tree then))) tokens.now (λ s. stmt_tree s) result }
     ensures shorter { IfOk result (λ x. length x.1.now < length tokens.now) }
 {
     let (_word, behind) = taken(context, count, 0, Class::Keyword(Keyword::Else), tokens)?;
-    let (second, rest) = substatement(context, false, count + 1, behind)?;
-    let whole = if_else_stmt(context.alloc, at, condition, then, second)?;
-    Ok((whole, rest))
+    let (otherwise, rest) = substatement(context, false, count + 1, behind)?;
+    Ok((
+        Stmt::IfElse {
+            pos: at,
+            condition,
+            then,
+            otherwise,
+        },
+        rest,
+    ))
 }
 
 /// A switch.
@@ -216,7 +243,14 @@ fn choice<'a>(
     let (at, behind) = taken(context, count, 0, Class::Keyword(Keyword::Switch), tokens)?;
     let (value, rest) = condition(context, count, behind)?;
     let (body, rest) = substatement(context, true, count + 1, rest)?;
-    Ok((switch_stmt(context.alloc, at.pos, value, body)?, rest))
+    Ok((
+        Stmt::Switch {
+            pos: at.pos,
+            value,
+            body,
+        },
+        rest,
+    ))
 }
 
 /// A loop that begins with its condition.
@@ -232,9 +266,16 @@ fn while_loop<'a>(
     ensures shorter { IfOk result (λ x. length x.1.now < length tokens.now) }
 {
     let (at, behind) = taken(context, count, 0, Class::Keyword(Keyword::While), tokens)?;
-    let (value, rest) = condition(context, count, behind)?;
+    let (condition, rest) = condition(context, count, behind)?;
     let (body, rest) = substatement(context, false, count + 1, rest)?;
-    Ok((while_stmt(context.alloc, at.pos, value, body)?, rest))
+    Ok((
+        Stmt::While {
+            pos: at.pos,
+            condition,
+            body,
+        },
+        rest,
+    ))
 }
 
 /// A loop that ends with its condition.
@@ -253,9 +294,16 @@ fn do_loop<'a>(
     let (at, behind) = taken(context, count, 0, Class::Keyword(Keyword::Do), tokens)?;
     let (body, rest) = substatement(context, false, count + 1, behind)?;
     let (_word, behind) = taken(context, count, 0, Class::Keyword(Keyword::While), rest)?;
-    let (value, rest) = condition(context, count, behind)?;
+    let (condition, rest) = condition(context, count, behind)?;
     let (_end, rest) = taken(context, count, 0, semicolon, rest)?;
-    Ok((do_while_stmt(context.alloc, at.pos, body, value)?, rest))
+    Ok((
+        Stmt::DoWhile {
+            pos: at.pos,
+            body,
+            condition,
+        },
+        rest,
+    ))
 }
 
 /// A `for`.
@@ -270,26 +318,35 @@ fn for_loop<'a>(
     ensures goes { Answers count (scene_of context.now) (part.AStmt (part.Statement switched)) tokens.now (λ s. stmt_tree s) result }
     ensures shorter { IfOk result (λ x. length x.1.now < length tokens.now) }
 {
-    let opens = Class::Sign(Punctuator::LeftParenthesis);
-    let (at, behind) = taken(context, count, 0, Class::Keyword(Keyword::For), tokens)?;
-    let (_opening, behind) = taken(context, count, 1, opens, behind)?;
-    let (start, rest) = for_start(context, count + 1, behind)?;
-    let (value, rest) = optional(context, Closing::BySemicolon, count + 1, rest)?;
-    let (step, rest) = optional(context, Closing::ByParenthesis, count + 1, rest)?;
+    let (head, rest) = for_head(context, count, tokens)?;
     let (body, rest) = substatement(context, false, count + 1, rest)?;
-    let whole = for_stmt(context.alloc, at.pos, start, value, step, body)?;
-    Ok((whole, rest))
+    Ok((for_stmt(head, body), rest))
 }
 
-/// A statement that is a part of another one.
+/// A statement that is a part of another one and stands where that one does.
+#[cycle(statements)]
+fn boxed<'a>(
+    context: &Context<'_>,
+    switched: bool,
+    count: u32,
+    tokens: &'a [Placed],
+) -> Result<(Box<Stmt>, &'a [Placed]), Fault<'a>>
+    ensures goes { Answers count (scene_of context.now) (part.AStmt (part.Statement switched)) tokens.now (λ s. boxed_tree s) result }
+    ensures shorter { IfOk result (λ x. length x.1.now < length tokens.now) }
+{
+    let (whole, rest) = statement(context, switched, count, tokens)?;
+    Ok((Box::new(context.alloc, whole)?, rest))
+}
+
+/// A statement that is a part of another one, in no block of its own.
 #[cycle(statements)]
 fn substatement<'a>(
     context: &Context<'_>,
     switched: bool,
     count: u32,
     tokens: &'a [Placed],
-) -> Result<(Stmt, &'a [Placed]), Fault<'a>>
-    ensures goes { Answers count (part.within (scene_of context.now)) (part.AStmt (part.Statement switched)) tokens.now (λ s. stmt_tree s) result }
+) -> Result<(Box<Stmt>, &'a [Placed]), Fault<'a>>
+    ensures goes { Answers count (part.within (scene_of context.now)) (part.AStmt (part.Statement switched)) tokens.now (λ s. boxed_tree s) result }
     ensures shorter { IfOk result (λ x. length x.1.now < length tokens.now) }
 {
     let inner = Context {
@@ -297,7 +354,7 @@ fn substatement<'a>(
         types: context.types,
         setting: Setting::InBlock,
     };
-    let (whole, rest) = statement(&inner, switched, count, tokens)?;
+    let (whole, rest) = boxed(&inner, switched, count, tokens)?;
     Ok((whole, rest))
 }
 
@@ -352,6 +409,15 @@ fn items<'a>(
     let closes = Class::Sign(Punctuator::RightBrace);
     let (_close, rest) = taken(context, count, 0, closes, rest)?;
     Ok((BlockItems::from_vec(items), rest))
+}
+
+/// One more item at the end.
+#[tactic(auto, using(c_written::proofs::Trees::the_written_trees))]
+fn push_item(items: &mut Vec<BlockItem>, next: BlockItem) -> Result<(), AllocError>
+    ensures { IfOk result (λ _. blockitems_from items.new.items ≡ blockitems_then (blockitems_from items.old.items) (blockitem_tree next)) }
+{
+    items.push(next)?;
+    Ok(())
 }
 
 /// An item of a block.

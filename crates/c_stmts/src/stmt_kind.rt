@@ -1,11 +1,12 @@
 // What kind of statement comes.
+#![tactic(auto, using(c_written::proofs::Trees::the_written_trees))]
 
 ghost use Rattle.std.specs.Prelude.{◌≡◌};
 ghost use Rattle.c_written.specs.WrittenFile.{stmt_tree};
 ghost use Rattle.c_grammar.specs.Made.{ends_open};
 ghost use Rattle.c_stmts.specs.Kinds.{statement_at, statement_of, statement_of_word};
 
-use c_descent::{first};
+use c_descent::first;
 use c_written::{Keyword, Placed, Punctuator, Stmt, Token};
 
 /// What a statement is by its first token, where it is no labelled one.

@@ -1,12 +1,13 @@
 // Statements that hold no other, and the heads of those that do.
+#![tactic(auto)]
 
 ghost use Rattle.std.specs.Prelude.{◌≡◌, ℕ, ◌+◌, ◌<◌, ◌≤◌, Bool, List, length, option_map, IfOk};
 ghost use Rattle.c_written.specs.Written.{expr_tree};
-ghost use Rattle.c_written.specs.WrittenFile.{forstart_tree, stmt_tree};
+ghost use Rattle.c_written.specs.WrittenFile.{For, forstart_tree, stmt_tree};
 ghost use Rattle.c_grammar.specs.Parts as part;
 ghost use Rattle.c_descent.specs.Answers.{Answers};
 ghost use Rattle.c_descent.specs.Views.{scene_of};
-ghost use Rattle.c_stmts.specs.Kinds.{Conditions, StatementStarts, closing_view};
+ghost use Rattle.c_stmts.specs.Kinds.{Conditions, ForHeads, StatementStarts, boxed_tree, closing_view};
 ghost use Rattle.c_stmts.specs.declared.stmt_kind.StatementKind.{StatementKind};
 ghost use Rattle.c_grammar.specs.Choice.{is_closing};
 ghost use Rattle.c_grammar.specs.Classes.{closing_sign};
@@ -14,8 +15,8 @@ ghost use Rattle.c_descent.specs.Views.{mark_test};
 
 use crate::decl::declaration;
 use c_descent::{Class, Context, Fault, Level, Mark, comes, name_of, spec_ahead, taken};
-use c_exprs::{run};
-use c_written::{Expr, ForStart, Keyword, Placed, Punctuator, Stmt};
+use c_exprs::run;
+use c_written::{Expr, ForStart, Keyword, Placed, Pos, Punctuator, Stmt};
 
 /// What ends an expression that may be missing.
 #[derive(Clone, Copy, Debug, PartialEq, Eq)]
@@ -147,7 +148,7 @@ pub fn return_statement<'a>(
 }
 
 /// An expression, or nothing, and what ends it.
-pub fn optional<'a>(
+fn optional<'a>(
     context: &Context<'_>,
     closing: Closing,
     count: u32,
@@ -166,8 +167,58 @@ pub fn optional<'a>(
     Ok((Some(value), rest))
 }
 
+/// What stands before the statement of a `for`.
+#[derive(Drop)]
+pub struct ForHead {
+    pub pos: Pos,
+    pub start: ForStart,
+    pub condition: Option<Expr>,
+    pub step: Option<Expr>,
+}
+
+/// The head of a `for`.
+pub fn for_head<'a>(
+    context: &Context<'_>,
+    count: u32,
+    tokens: &'a [Placed],
+) -> Result<(ForHead, &'a [Placed]), Fault<'a>>
+    requires { StatementStarts (scene_of context.now) tokens.now StatementKind.For }
+    ensures goes { ForHeads count (scene_of context.now) tokens.now result }
+    ensures shorter { IfOk result (λ x. length x.1.now < length tokens.now) }
+    ensures within { IfOk result (λ _. count + 1 ≤ 200) }
+{
+    let opens = Class::Sign(Punctuator::LeftParenthesis);
+    let (at, behind) = taken(context, count, 0, Class::Keyword(Keyword::For), tokens)?;
+    let (_opening, behind) = taken(context, count, 1, opens, behind)?;
+    let (start, rest) = for_start(context, count + 1, behind)?;
+    let (condition, rest) = optional(context, Closing::BySemicolon, count + 1, rest)?;
+    let (step, rest) = optional(context, Closing::ByParenthesis, count + 1, rest)?;
+    Ok((
+        ForHead {
+            pos: at.pos,
+            start,
+            condition,
+            step,
+        },
+        rest,
+    ))
+}
+
+/// A `for`, of its head and its statement.
+pub fn for_stmt(head: ForHead, body: Box<Stmt>) -> Stmt
+    ensures { stmt_tree result ≡ For head.pos (forstart_tree head.start) (option_map (λ v. expr_tree v) head.condition) (option_map (λ v. expr_tree v) head.step) (boxed_tree body) }
+{
+    Stmt::For {
+        pos: head.pos,
+        start: head.start,
+        condition: head.condition,
+        step: head.step,
+        body,
+    }
+}
+
 /// How a `for` begins, up to its first semicolon.
-pub fn for_start<'a>(
+fn for_start<'a>(
     context: &Context<'_>,
     count: u32,
     tokens: &'a [Placed],

@@ -1,17 +1,18 @@
 use Rattle.c_grammar.specs.Descent.{stops}
 use Rattle.c_descent.specs.Views.{scene_of}
+use Rattle.c_descent.proofs.Steps.{refuse}
 use Rattle.c_stmts.specs.Kinds.{in_parentheses, tested}
-use Rattle.c_stmts.proofs.Steps.{after, from_start, goes_so, halts_for, halts_of, inside, refused_at, untried}
+use Rattle.c_stmts.proofs.Steps.{after, from_start, goes_so, halts_for, halts_of, inside, untried}
 use Rattle.c_stmts.proofs.stmt_leaf.condition.Goals as goal
 
 pub returns-in_err-_opening-clause-goes : goal.returns-in_err-_opening-clause-goes
-returns-in_err-_opening-clause-goes c = untried _ c.from_residual.ensures.1 (halts_for (λ why rest h p k. h p _) (refused_at c.in_err-_opening.ensures.goes))
+returns-in_err-_opening-clause-goes c = untried _ c.from_residual.ensures.1 (halts_for (λ why rest h p k. h p _) (refuse c.in_err-_opening.ensures.goes))
 
 pub returns-in_err-value-clause-goes : goal.returns-in_err-value-clause-goes
 returns-in_err-value-clause-goes c = untried _ c.from_residual-in_err-value.ensures.1 (halts_for (λ why rest h p k. goes_so (after (from_start {p = p} (in_parentheses (scene_of c.args.context.now) k) c.args.tokens.now) c.in_ok-_opening.ensures.goes) _ (stops h)) (halts_of c.in_err-value.ensures.goes))
 
 pub returns-in_err-_close-clause-goes : goal.returns-in_err-_close-clause-goes
-returns-in_err-_close-clause-goes c = untried _ c.from_residual-in_err-_close.ensures.1 (halts_for (λ why rest h p k. goes_so (inside (after (from_start {p = p} (in_parentheses (scene_of c.args.context.now) k) c.args.tokens.now) c.in_ok-_opening.ensures.goes) c.in_ok-value.ensures.goes) _ (h p _)) (refused_at c.in_err-_close.ensures.goes))
+returns-in_err-_close-clause-goes c = untried _ c.from_residual-in_err-_close.ensures.1 (halts_for (λ why rest h p k. goes_so (inside (after (from_start {p = p} (in_parentheses (scene_of c.args.context.now) k) c.args.tokens.now) c.in_ok-_opening.ensures.goes) c.in_ok-value.ensures.goes) _ (h p _)) (refuse c.in_err-_close.ensures.goes))
 
 pub returns-clause-goes : goal.returns-clause-goes
 returns-clause-goes c = tested (λ p k o g. goes_so (after (inside (after (from_start {p = p} (in_parentheses (scene_of c.args.context.now) k) c.args.tokens.now) c.in_ok-_opening.ensures.goes) c.in_ok-value.ensures.goes) c.in_ok-_close.ensures.goes) o g)
