@@ -2,9 +2,7 @@
 use Rattle.std.proofs.Common.{◌≡◌, ℕ, List, [], ◌∷◌, ◌++◌, length, refl, sym, ap, ◌∙◌, subst, arith, ◌⊎◌, inl, inr, Bor}
 use Rattle.std.proofs.lemmas.Bool.{eqb-true}
 use Rattle.std.specs.Prelude.{true, false, ◌==◌, map, Result, Ok, Err, MatchResult, IsErrAnd}
-use Rattle.c_written.specs.declared.construct.Construct.{Construct}
 use Rattle.c_written.specs.declared.file.Outer.{Outer}
-use Rattle.c_written.specs.declared.place.Pos.{Pos}
 use Rattle.c_written.specs.declared.token.Placed.{Placed}
 use Rattle.c_written.specs.declared.token.Tokens.{Tokens}
 use Rattle.c_written.specs.WrittenFile.{OuterTree, FileTree, outer_tree}
@@ -20,11 +18,11 @@ use Rattle.c_grammar.specs.Descent.{Outcome, Done, Stop, Goes, by_rule, is_done,
 use Rattle.c_grammar.proofs.Laws.{found, file_only, refusal_only}
 use Rattle.c_descent.specs.declared.fault.Fault.{Fault}
 use Rattle.c_descent.specs.declared.fault.Fault.TheVariants as faults
-use Rattle.c_descent.specs.Answers.{Gives, Halts, no_memory, syntax, unsupported, too_deep}
+use Rattle.c_descent.specs.Answers.{Gives, Halts, syntax, unsupported, too_deep}
 use Rattle.c_parser.specs.declared.parsing.ParseError.{ParseError}
 use Rattle.c_parser.specs.declared.parsing.ParseError.TheVariants as errors
 use Rattle.c_stmts.proofs.Steps.{Path, begin, behind, goes_so, halts_for, halts_of, last_outers, same_count}
-use Rattle.c_parser.specs.Refusals.{IsError, IsErrorOf, RefusedAt, TellsRefused, place_of, error_for}
+use Rattle.c_parser.specs.Refusals.{IsError, IsErrorOf, TellsRefused}
 
 -- the descent through the file ends so
 abbrev pub Reads : List Placed → Outcome (List OuterTree) → Type 0

@@ -1,7 +1,6 @@
 -- What an error tells of the tokens.
 use Rattle.std.specs.Prelude.{◌≡◌, List, [], ◌∷◌}
 use Rattle.c_written.specs.declared.place.Pos.{Pos}
-use Rattle.c_written.specs.declared.construct.Construct.{Construct}
 use Rattle.c_written.specs.declared.token.Placed.{Placed}
 use Rattle.c_written.specs.declared.token.Tokens.{Tokens}
 use Rattle.c_grammar.specs.Refused.{Why, Syntax, Unsupported, TooDeep, IsRefused}

@@ -2,7 +2,7 @@
 
 use c_written::{
     BlockItem, Decl, Declarator, Enumerator, Expr, File, ForStart, Init, MemberDecl, Name, Outer,
-    Param, Spec, Stmt, StepWay, Tag,
+    Param, Spec, StepWay, Stmt, Tag,
 };
 use std::alloc::AllocError;
 
@@ -62,7 +62,11 @@ fn expr(out: &mut String, depth: u32, e: &Expr) -> Written {
             out.push(']')
         }
         Expr::Index { base, index, .. } => pair(out, depth, "at", base, index),
-        Expr::Call { name: word, args, .. } => {
+        Expr::Call {
+            name: word,
+            args,
+            ..
+        } => {
             out.push_str("(call ")?;
             name(out, word)?;
             for arg in args.as_slice() {
@@ -90,7 +94,9 @@ fn expr(out: &mut String, depth: u32, e: &Expr) -> Written {
             one(out, depth, "", operand)
         }
         Expr::SizeofType {
-            specs, declarator, ..
+            specs,
+            declarator,
+            ..
         } => {
             out.push_str("(sizeof ")?;
             type_name(out, depth, specs.as_slice(), declarator)?;
@@ -107,7 +113,10 @@ fn expr(out: &mut String, depth: u32, e: &Expr) -> Written {
             one(out, depth, "", operand)
         }
         Expr::Binary {
-            op, left, right, ..
+            op,
+            left,
+            right,
+            ..
         } => {
             write!(out, "({op:?}")?;
             two(out, depth, left, right)
@@ -124,7 +133,10 @@ fn expr(out: &mut String, depth: u32, e: &Expr) -> Written {
         }
         Expr::Assign { left, right, .. } => pair(out, depth, "=", left, right),
         Expr::Compound {
-            op, left, right, ..
+            op,
+            left,
+            right,
+            ..
         } => {
             write!(out, "({op:?}=")?;
             two(out, depth, left, right)
@@ -229,9 +241,10 @@ fn spec(out: &mut String, depth: u32, spec: &Spec) -> Written {
             tag_name(out, tag)?;
             out.push('{')?;
             for MemberDecl::Members {
-                specs, declarators, ..
-            } in members.as_slice()
-            {
+                specs,
+                declarators,
+                ..
+            } in members.as_slice() {
                 spec_list(out, depth - 1, specs.as_slice())?;
                 for item in declarators.as_slice() {
                     out.push(' ')?;
@@ -246,7 +259,9 @@ fn spec(out: &mut String, depth: u32, spec: &Spec) -> Written {
             name(out, &tag.name)
         }
         Spec::EnumBody {
-            tag, enumerators, ..
+            tag,
+            enumerators,
+            ..
         } => {
             out.push_str("enum ")?;
             tag_name(out, tag)?;
@@ -255,7 +270,9 @@ fn spec(out: &mut String, depth: u32, spec: &Spec) -> Written {
                 match item {
                     Enumerator::Plain { name: word, .. } => name(out, word)?,
                     Enumerator::Valued {
-                        name: word, value, ..
+                        name: word,
+                        value,
+                        ..
                     } => {
                         name(out, word)?;
                         out.push('=')?;
@@ -284,7 +301,9 @@ fn declarator_shape(out: &mut String, depth: u32, declarator: &Declarator) -> Wr
             out.push(']')
         }
         Declarator::Pointer {
-            is_const, inner, ..
+            is_const,
+            inner,
+            ..
         } => {
             out.push_str(if *is_const { "(*const " } else { "(* " })?;
             declarator_shape(out, depth, inner)?;
@@ -324,14 +343,18 @@ fn param(out: &mut String, depth: u32, param: &Param) -> Written {
     }
     match param {
         Param::Named {
-            specs, declarator, ..
+            specs,
+            declarator,
+            ..
         } => {
             out.push('{')?;
             type_name(out, depth - 1, specs.as_slice(), declarator)?;
             out.push('}')
         }
         Param::Abstract {
-            specs, declarator, ..
+            specs,
+            declarator,
+            ..
         } => {
             out.push('<')?;
             type_name(out, depth - 1, specs.as_slice(), declarator)?;
@@ -392,7 +415,9 @@ fn stmt(out: &mut String, depth: u32, s: &Stmt) -> Written {
     }
     match s {
         Stmt::Label {
-            name: word, body, ..
+            name: word,
+            body,
+            ..
         } => {
             name(out, word)?;
             out.push(':')?;
@@ -415,7 +440,9 @@ fn stmt(out: &mut String, depth: u32, s: &Stmt) -> Written {
             out.push(';')
         }
         Stmt::If {
-            condition, then, ..
+            condition,
+            then,
+            ..
         } => {
             head(out, "if", condition)?;
             stmt(out, depth - 1, then)?;
@@ -439,14 +466,18 @@ fn stmt(out: &mut String, depth: u32, s: &Stmt) -> Written {
             out.push(')')
         }
         Stmt::While {
-            condition, body, ..
+            condition,
+            body,
+            ..
         } => {
             head(out, "while", condition)?;
             stmt(out, depth - 1, body)?;
             out.push(')')
         }
         Stmt::DoWhile {
-            body, condition, ..
+            body,
+            condition,
+            ..
         } => {
             head(out, "do", condition)?;
             stmt(out, depth - 1, body)?;

@@ -1,15 +1,22 @@
 // Texts by the shape of their trees, or by their whole refusal.
 
-use crate::shape;
-use crate::{ParseError, parse};
+use crate::{ParseError, parse, shape};
 use c_lexer::{LexError, lex};
-use c_written::Pos;
+use c_written::{Pos, Tokens};
 use std::alloc::Global;
 use std::test::Fail;
 
+// The tokens of a text, which is short.
+fn cut(alloc: Global, text: &[u8]) -> Result<Tokens, LexError> {
+    if text.len() > 4_194_304 {
+        return Err(LexError::NoMemory);
+    }
+    lex(alloc, 0, text)
+}
+
 // The shape of the tree of a text, or the line of its refusal.
 fn line(alloc: Global, text: &[u8]) -> Result<String, Fail> {
-    let tokens = lex(alloc, 0, text)?;
+    let tokens = cut(alloc, text)?;
     let mut out = String::new(alloc);
     match parse(alloc, &tokens) {
         Ok(file) => shape::file(&mut out, &file)?,
@@ -59,12 +66,21 @@ const VALUES: [(&str, &str); 54] = [
     ("a=b?c:d", "(= a (? b c d))"),
     ("a+=b<<=c", "(Plus= a (ShiftLeft= b c))"),
     ("a*=b/=c%=d", "(Multiply= a (Divide= b (Remainder= c d)))"),
-    ("a-=b>>=c&=d^=e|=g", "(Minus= a (ShiftRight= b (BitAnd= c (BitXor= d (BitOr= e g)))))"),
-    ("a!=b>c>=d<=e", "(Unequal a (AtMost (AtLeast (Greater b c) d) e))"),
+    (
+        "a-=b>>=c&=d^=e|=g",
+        "(Minus= a (ShiftRight= b (BitAnd= c (BitXor= d (BitOr= e g)))))",
+    ),
+    (
+        "a!=b>c>=d<=e",
+        "(Unequal a (AtMost (AtLeast (Greater b c) d) e))",
+    ),
     ("a/b%c", "(Remainder (Divide a b) c)"),
     ("a>>b", "(ShiftRight a b)"),
     ("++--a", "(pre++ (pre-- a))"),
-    ("&*+~a--", "(AddressOf (Deref (Plus (Complement (post-- a)))))"),
+    (
+        "&*+~a--",
+        "(AddressOf (Deref (Plus (Complement (post-- a)))))",
+    ),
     ("\"ab\" \"c\"", "\"3\""),
     ("'a'", "'97'"),
     ("'\\377'", "'255'"),
@@ -119,7 +135,10 @@ const FILES: [(&str, &str); 68] = [
         "typedef int T;int f(int x){T*x;}",
         "Typedef Int T;Int (fn f {Int x}){'T (* x);}",
     ),
-    ("int f(int T,int x){T*x;}", "Int (fn f {Int T} {Int x}){(Multiply T x);}"),
+    (
+        "int f(int T,int x){T*x;}",
+        "Int (fn f {Int T} {Int x}){(Multiply T x);}",
+    ),
     (
         "int f(int x){(T)(x);}",
         "a.c:1:17: refused: unsupported FunctionPointer",
@@ -141,15 +160,27 @@ const FILES: [(&str, &str); 68] = [
         "struct S{Int a (* b);const Char (array c 4);} s;struct S (* p);",
     ),
     ("struct{int a;}s;", "struct {Int a;} s;"),
-    ("enum E{A,B=2,C,};enum E e;enum{D};", "enum E{A,B=2,C,};enum E e;enum {D,};"),
+    (
+        "enum E{A,B=2,C,};enum E e;enum{D};",
+        "enum E{A,B=2,C,};enum E e;enum {D,};",
+    ),
     (
         "const int const*const p,*q;extern int e;static int s;",
         "const Int const (*const p) (* q);Extern Int e;Static Int s;",
     ),
-    ("void f(register int a,int[],int b[3]);", "Void (fn f {Register Int a} <Int (array _)> {Int (array b 3)});"),
-    ("int f(int(*)[2],int(a));", "Int (fn f <Int (array [(* _)] 2)> {Int [a]});"),
+    (
+        "void f(register int a,int[],int b[3]);",
+        "Void (fn f {Register Int a} <Int (array _)> {Int (array b 3)});",
+    ),
+    (
+        "int f(int(*)[2],int(a));",
+        "Int (fn f <Int (array [(* _)] 2)> {Int [a]});",
+    ),
     ("int f();", "Int (fn f);"),
-    ("int f(void);int g(void*);", "Int (fn f void);Int (fn g <Void (* _)>);"),
+    (
+        "int f(void);int g(void*);",
+        "Int (fn f void);Int (fn g <Void (* _)>);",
+    ),
     ("unsigned long int x;", "Unsigned Long Int x;"),
     (
         "void f(void){if(a)if(b);else;}",
@@ -179,26 +210,47 @@ const FILES: [(&str, &str); 68] = [
         "void f(void){do;while(0);while(1)continue;return;}",
         "Void (fn f void){(do 0 ;)(while 1 continue;)return ;}",
     ),
-    ("void f(void){int a,b=1;{int c;}a;}", "Void (fn f void){Int a b=1;{Int c;}a;}"),
+    (
+        "void f(void){int a,b=1;{int c;}a;}",
+        "Void (fn f void){Int a b=1;{Int c;}a;}",
+    ),
     ("int main(void){return 1 2;}", "a.c:1:25: refused: syntax"),
     ("int", "a.c:1:4: refused: syntax"),
     ("int main(void){", "a.c:1:16: refused: syntax"),
     ("int a", "a.c:1:6: refused: syntax"),
     ("int f(void){}int", "a.c:1:17: refused: syntax"),
     ("int a b;", "a.c:1:7: refused: syntax"),
-    ("int f(void){case 1", "a.c:1:13: refused: unsupported NestedCase"),
+    (
+        "int f(void){case 1",
+        "a.c:1:13: refused: unsupported NestedCase",
+    ),
     ("void f(void){sizeof(int x);}", "a.c:1:25: refused: syntax"),
-    ("int f(int(T));typedef int T;int g(int(T));", "a.c:1:38: refused: unsupported FunctionPointer"),
+    (
+        "int f(int(T));typedef int T;int g(int(T));",
+        "a.c:1:38: refused: unsupported FunctionPointer",
+    ),
     ("else", "a.c:1:1: refused: syntax"),
     ("int x;\n int", "a.c:2:5: refused: syntax"),
-    ("typedef int T,U[sizeof(T)];T t;U u;", "Typedef Int T (array U (sizeof [T]));'T t;'U u;"),
-    ("typedef int(*A)[2];A a;", "Typedef Int (array [(* A)] 2);'A a;"),
-    ("int const*const*x;int(*y);", "Int const (*const (* x));Int [(* y)];"),
+    (
+        "typedef int T,U[sizeof(T)];T t;U u;",
+        "Typedef Int T (array U (sizeof [T]));'T t;'U u;",
+    ),
+    (
+        "typedef int(*A)[2];A a;",
+        "Typedef Int (array [(* A)] 2);'A a;",
+    ),
+    (
+        "int const*const*x;int(*y);",
+        "Int const (*const (* x));Int [(* y)];",
+    ),
     (
         "int f(const int const*const p,const char[2],int*const);",
         "Int (fn f {const Int const (*const p)} <const Char (array _ 2)> <Int (*const _)>);",
     ),
-    ("struct S{const int*const a;};", "struct S{const Int (*const a);};"),
+    (
+        "struct S{const int*const a;};",
+        "struct S{const Int (*const a);};",
+    ),
     (
         "int f(void){const int c=1;for(const int i=0;;);}",
         "Int (fn f void){const Int c=1;(for const Int i=0;; ;)}",
@@ -207,11 +259,23 @@ const FILES: [(&str, &str); 68] = [
         "void f(void){auto int a;static int b;extern int c;register int d;}",
         "Void (fn f void){Auto Int a;Static Int b;Extern Int c;Register Int d;}",
     ),
-    ("short s;long long l;signed char c;void*v;", "Short s;Long Long l;Signed Char c;Void (* v);"),
-    ("int f(struct S*p,enum E e);", "Int (fn f {struct S (* p)} {enum E e});"),
-    ("struct{struct{int a;}b;enum E{A=1+2}e;}c;", "struct {struct {Int a;} b;enum E{A=(Plus 1 2),} e;} c;"),
+    (
+        "short s;long long l;signed char c;void*v;",
+        "Short s;Long Long l;Signed Char c;Void (* v);",
+    ),
+    (
+        "int f(struct S*p,enum E e);",
+        "Int (fn f {struct S (* p)} {enum E e});",
+    ),
+    (
+        "struct{struct{int a;}b;enum E{A=1+2}e;}c;",
+        "struct {struct {Int a;} b;enum E{A=(Plus 1 2),} e;} c;",
+    ),
     ("int a[]={1,2,},b={c};", "Int (array a)={1,2,} b={c,};"),
-    ("int f(int[2][3],char**(*)[4]);", "Int (fn f <Int (array (array _ 2) 3)> <Char (* (* (array [(* _)] 4)))>);"),
+    (
+        "int f(int[2][3],char**(*)[4]);",
+        "Int (fn f <Int (array (array _ 2) 3)> <Char (* (* (array [(* _)] 4)))>);",
+    ),
     (
         "void f(void){if(a)while(b)if(c);else;}",
         "Void (fn f void){(if a (while b (if c ; else ;)))}",
@@ -237,12 +301,24 @@ const FILES: [(&str, &str); 68] = [
     ("void f(void){do;while(0)}", "a.c:1:25: refused: syntax"),
     ("void f(void){for(;;)}", "a.c:1:21: refused: syntax"),
     ("void f(void){int a;T b;}", "a.c:1:22: refused: syntax"),
-    ("typedef int T;void f(void){T:;}", "a.c:1:29: refused: syntax"),
+    (
+        "typedef int T;void f(void){T:;}",
+        "a.c:1:29: refused: syntax",
+    ),
     ("int f(void){}}", "a.c:1:14: refused: syntax"),
     ("int f(void){return 0}", "a.c:1:21: refused: syntax"),
-    ("int f(int a)(int b);", "a.c:1:13: refused: unsupported FunctionPointer"),
-    ("int f[2](int);", "a.c:1:9: refused: unsupported FunctionPointer"),
-    ("int (f)(void);", "a.c:1:8: refused: unsupported FunctionPointer"),
+    (
+        "int f(int a)(int b);",
+        "a.c:1:13: refused: unsupported FunctionPointer",
+    ),
+    (
+        "int f[2](int);",
+        "a.c:1:9: refused: unsupported FunctionPointer",
+    ),
+    (
+        "int (f)(void);",
+        "a.c:1:8: refused: unsupported FunctionPointer",
+    ),
 ];
 
 #[test]
@@ -256,20 +332,29 @@ fn files(rt: HostRuntime) -> Result<(), Fail> {
 }
 
 const CONSTRUCTS: [(&str, &str); 40] = [
-    ("float x;int main(void){return 0;}", "1: refused: unsupported Floating"),
+    (
+        "float x;int main(void){return 0;}",
+        "1: refused: unsupported Floating",
+    ),
     ("double x;", "1: refused: unsupported Floating"),
     ("union U;", "1: refused: unsupported Union"),
     ("_Bool b;", "1: refused: unsupported Bool"),
     ("inline int f(void);", "1: refused: unsupported Inline"),
     ("_Noreturn int f(void);", "1: refused: unsupported Inline"),
-    ("_Thread_local int x;", "1: refused: unsupported ThreadLocal"),
+    (
+        "_Thread_local int x;",
+        "1: refused: unsupported ThreadLocal",
+    ),
     ("int x=_Generic(1);", "7: refused: unsupported Generic"),
     ("_Static_assert(1);", "1: refused: unsupported StaticAssert"),
     ("int volatile x;", "5: refused: unsupported Qualifier"),
     ("int*restrict x;", "5: refused: unsupported Qualifier"),
     ("_Atomic int x;", "1: refused: unsupported Qualifier"),
     ("_Alignas(1)int x;", "1: refused: unsupported AlignmentWord"),
-    ("int x=_Alignof(int);", "7: refused: unsupported AlignmentWord"),
+    (
+        "int x=_Alignof(int);",
+        "7: refused: unsupported AlignmentWord",
+    ),
     ("_Complex x;", "1: refused: unsupported Complex"),
     ("_Imaginary x;", "1: refused: unsupported Complex"),
     ("struct S{int a:3;};", "15: refused: unsupported BitField"),
@@ -277,24 +362,66 @@ const CONSTRUCTS: [(&str, &str); 40] = [
     ("int f(int,...);", "11: refused: unsupported Variadic"),
     ("int a[2]={[0]=1};", "11: refused: unsupported Designator"),
     ("int a[2]={.x=1};", "11: refused: unsupported Designator"),
-    ("int x=(int){1};", "12: refused: unsupported CompoundLiteral"),
-    ("int x=sizeof(int){1};", "18: refused: unsupported CompoundLiteral"),
-    ("int f(void){typedef int T;}", "13: refused: unsupported InnerTypedef"),
-    ("int f(void){for(typedef int T;;);}", "17: refused: unsupported InnerTypedef"),
-    ("typedef int T;T T;", "17: refused: unsupported TypedefAgain"),
-    ("typedef int T;int*T;", "19: refused: unsupported TypedefAgain"),
+    (
+        "int x=(int){1};",
+        "12: refused: unsupported CompoundLiteral",
+    ),
+    (
+        "int x=sizeof(int){1};",
+        "18: refused: unsupported CompoundLiteral",
+    ),
+    (
+        "int f(void){typedef int T;}",
+        "13: refused: unsupported InnerTypedef",
+    ),
+    (
+        "int f(void){for(typedef int T;;);}",
+        "17: refused: unsupported InnerTypedef",
+    ),
+    (
+        "typedef int T;T T;",
+        "17: refused: unsupported TypedefAgain",
+    ),
+    (
+        "typedef int T;int*T;",
+        "19: refused: unsupported TypedefAgain",
+    ),
     ("int(*f)(void);", "8: refused: unsupported FunctionPointer"),
-    ("int f(int(void));", "10: refused: unsupported FunctionPointer"),
+    (
+        "int f(int(void));",
+        "10: refused: unsupported FunctionPointer",
+    ),
     ("int x=s.f(1);", "10: refused: unsupported FunctionPointer"),
     ("int f(a,b);", "7: refused: unsupported OldParameters"),
     ("int f(int a,b);", "13: refused: unsupported OldParameters"),
-    ("int f(void){case 1:;}", "13: refused: unsupported NestedCase"),
-    ("int f(void){default:;}", "13: refused: unsupported NestedCase"),
-    ("int f(void){switch(a)case 1:;}", "22: refused: unsupported NestedCase"),
-    ("int f(void){switch(a){{case 1:;}}}", "24: refused: unsupported NestedCase"),
-    ("int f(void){switch(a){if(b)case 1:;}}", "28: refused: unsupported NestedCase"),
-    ("int f(void){switch(a)l:{case 1:;}}", "25: refused: unsupported NestedCase"),
-    ("struct S{int a[];};", "16: refused: unsupported FlexibleArray"),
+    (
+        "int f(void){case 1:;}",
+        "13: refused: unsupported NestedCase",
+    ),
+    (
+        "int f(void){default:;}",
+        "13: refused: unsupported NestedCase",
+    ),
+    (
+        "int f(void){switch(a)case 1:;}",
+        "22: refused: unsupported NestedCase",
+    ),
+    (
+        "int f(void){switch(a){{case 1:;}}}",
+        "24: refused: unsupported NestedCase",
+    ),
+    (
+        "int f(void){switch(a){if(b)case 1:;}}",
+        "28: refused: unsupported NestedCase",
+    ),
+    (
+        "int f(void){switch(a)l:{case 1:;}}",
+        "25: refused: unsupported NestedCase",
+    ),
+    (
+        "struct S{int a[];};",
+        "16: refused: unsupported FlexibleArray",
+    ),
     ("int a[];", ""),
 ];
 
@@ -336,33 +463,137 @@ fn repeated(
 }
 
 const DEEP: [(&str, &str, usize, &str, &str, &str, &str); 27] = [
-    ("int main(void){return ", "(", 200, "", "", "", "a.c:1:222: refused: nesting above 200"),
+    (
+        "int main(void){return ",
+        "(",
+        200,
+        "",
+        "",
+        "",
+        "a.c:1:222: refused: nesting above 200",
+    ),
     ("int main(void){return ", "(", 199, "0", ")", ";}", ""),
-    ("int main(void){return ", "(", 200, "0", ")", ";}", "a.c:1:222: refused: nesting above 200"),
+    (
+        "int main(void){return ",
+        "(",
+        200,
+        "0",
+        ")",
+        ";}",
+        "a.c:1:222: refused: nesting above 200",
+    ),
     ("int x=", "a+", 199, "b", "", ";", ""),
-    ("int x=", "a+", 200, "b", "", ";", "a.c:1:406: refused: nesting above 200"),
+    (
+        "int x=",
+        "a+",
+        200,
+        "b",
+        "",
+        ";",
+        "a.c:1:406: refused: nesting above 200",
+    ),
     ("int x=", "- ", 199, "b", "", ";", ""),
-    ("int x=", "- ", 200, "b", "", ";", "a.c:1:405: refused: nesting above 200"),
+    (
+        "int x=",
+        "- ",
+        200,
+        "b",
+        "",
+        ";",
+        "a.c:1:405: refused: nesting above 200",
+    ),
     ("int x=", "a=", 199, "b", "", ";", ""),
     ("int ", "*", 200, "x", "", ";", ""),
-    ("int ", "*", 201, "x", "", ";", "a.c:1:205: refused: nesting above 200"),
+    (
+        "int ",
+        "*",
+        201,
+        "x",
+        "",
+        ";",
+        "a.c:1:205: refused: nesting above 200",
+    ),
     ("int x", "[1]", 400, "", "", ";", ""),
     ("void f(void){", "if(a);else ", 199, ";", "", "}", ""),
-    ("int x=", "a=", 200, "b", "", ";", "a.c:1:406: refused: nesting above 200"),
+    (
+        "int x=",
+        "a=",
+        200,
+        "b",
+        "",
+        ";",
+        "a.c:1:406: refused: nesting above 200",
+    ),
     ("int x=", "a?b:", 199, "c", "", ";", ""),
-    ("int x=", "a?b:", 200, "c", "", ";", "a.c:1:804: refused: nesting above 200"),
+    (
+        "int x=",
+        "a?b:",
+        200,
+        "c",
+        "",
+        ";",
+        "a.c:1:804: refused: nesting above 200",
+    ),
     ("int x=a", "++", 199, "", "", ";", ""),
-    ("int x=a", "++", 200, "", "", ";", "a.c:1:406: refused: nesting above 200"),
+    (
+        "int x=a",
+        "++",
+        200,
+        "",
+        "",
+        ";",
+        "a.c:1:406: refused: nesting above 200",
+    ),
     ("int x=", "{", 199, "1", "}", ";", ""),
-    ("int x=", "{", 200, "1", "}", ";", "a.c:1:206: refused: nesting above 200"),
+    (
+        "int x=",
+        "{",
+        200,
+        "1",
+        "}",
+        ";",
+        "a.c:1:206: refused: nesting above 200",
+    ),
     ("int x=", "(int)", 198, "1", "", ";", ""),
-    ("int x=", "(int)", 199, "1", "", ";", "a.c:1:998: refused: nesting above 200"),
+    (
+        "int x=",
+        "(int)",
+        199,
+        "1",
+        "",
+        ";",
+        "a.c:1:998: refused: nesting above 200",
+    ),
     ("int x=", "f(", 99, "1", ")", ";", ""),
-    ("int x=", "f(", 100, "1", ")", ";", "a.c:1:206: refused: nesting above 200"),
+    (
+        "int x=",
+        "f(",
+        100,
+        "1",
+        ")",
+        ";",
+        "a.c:1:206: refused: nesting above 200",
+    ),
     ("void f(void)", "{", 200, "", "}", "", ""),
-    ("void f(void)", "{", 201, "", "}", "", "a.c:1:213: refused: nesting above 200"),
+    (
+        "void f(void)",
+        "{",
+        201,
+        "",
+        "}",
+        "",
+        "a.c:1:213: refused: nesting above 200",
+    ),
     ("void f(void){", "if(a)", 199, ";", "", "}", ""),
-    ("void f(void){", "if(a)", 200, ";", "", "}", "a.c:1:1011: refused: nesting above 200"),
+    (
+        "void f(void){",
+        "if(a)",
+        200,
+        ";",
+        "",
+        "}",
+        "a.c:1:1011: refused: nesting above 200",
+    ),
 ];
 
 #[test]
@@ -384,14 +615,20 @@ fn deep(rt: HostRuntime) -> Result<(), Fail> {
 const RING: [(&str, &str); 10] = [
     ("typedef unsigned char u8;", "Typedef Unsigned Char u8;"),
     ("enum { CAP = 8 };", "enum {CAP=8,};"),
-    ("enum state { IDLE, RUN, STOP };", "enum state{IDLE,RUN,STOP,};"),
+    (
+        "enum state { IDLE, RUN, STOP };",
+        "enum state{IDLE,RUN,STOP,};",
+    ),
     (
         "struct ring { u8 buf[CAP]; unsigned head, count; };",
         "struct ring{'u8 (array buf CAP);Unsigned head count;};",
     ),
     ("static struct ring q;", "Static struct ring q;"),
     ("static enum state st = IDLE;", "Static enum state st=IDLE;"),
-    ("static const int weight[3] = { 1, 2, 4 };", "Static const Int (array weight 3)={1,2,4,};"),
+    (
+        "static const int weight[3] = { 1, 2, 4 };",
+        "Static const Int (array weight 3)={1,2,4,};",
+    ),
     (
         "static int put(struct ring *r, u8 v) {
   if (r->count >= CAP) return 0;
@@ -431,7 +668,7 @@ const RING: [(&str, &str); 10] = [
 
 // Whether the text is refused, as pieces or as tokens.
 fn is_refused(alloc: Global, text: &[u8]) -> Result<bool, Fail> {
-    let tokens = match lex(alloc, 0, text) {
+    let tokens = match cut(alloc, text) {
         Ok(tokens) => tokens,
         Err(LexError::NoMemory) => return Err("out of memory".into()),
         Err(_) => return Ok(true),
@@ -469,7 +706,7 @@ fn ring(rt: HostRuntime) -> Result<(), Fail> {
 #[test]
 fn small_file(rt: HostRuntime) -> Result<(), Fail> {
     let alloc = rt.alloc();
-    let tokens = lex(alloc, 0, "typedef int T;T f(T x){return x;}".as_bytes())?;
+    let tokens = cut(alloc, "typedef int T;T f(T x){return x;}".as_bytes())?;
     let file = parse(alloc, &tokens)?;
     assert_eq!(rt; file.outers.as_slice().len(), 2);
     Ok(())

@@ -1,0 +1,7 @@
+use Rattle.c_parser.proofs.shape.+statements.Given as goal
+
+abbrev pub decreases-block : goal.decreases-block
+decreases-block l = l.depth
+
+abbrev pub decreases-stmt : goal.decreases-stmt
+decreases-stmt l = l.depth
