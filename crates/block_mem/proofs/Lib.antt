@@ -6,3 +6,4 @@ pub mod Loads
 pub mod Puts
 pub mod Values
 pub mod StoreLaws
+pub mod Whole

@@ -5,3 +5,4 @@ pub mod Bytes
 pub mod Moves
 pub mod Numbers
 pub mod Pieces
+pub mod Whole

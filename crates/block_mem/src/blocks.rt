@@ -32,6 +32,7 @@ impl Memory {
     ghost use Rattle.block_mem.specs.AfterStore.{ReadsParts, KeepsElsewhere};
     ghost use Rattle.block_mem.specs.Block.{new_block};
     ghost use Rattle.block_mem.specs.Bytes.{IsOf, size_of};
+    ghost use Rattle.block_mem.specs.Whole.{KeepsWhole};
     ghost use Rattle.block_mem.specs.Blocks.{with_ended, wrong_access, HasByte, load, store, copy, byte, set_byte};
 
     /// Memory without blocks.
@@ -112,6 +113,7 @@ impl Memory {
         ensures reads_back { OnOk result (load self.new at ty ≡ Ok v) }
         ensures reads_parts { OnOk result (ReadsParts self.new at v) }
         ensures elsewhere { OnOk result (KeepsElsewhere self.old self.new at (size_of ty)) }
+        ensures whole { OnOk result (KeepsWhole self.old self.new at (size_of ty)) }
     {
         let size = scalar_size(ty);
         let block = &mut self.blocks[at.block as usize];
@@ -133,6 +135,7 @@ impl Memory {
         requires source { wrong_access self.old from size 1 false ≡ None }
         ensures copied { self.new ≡ copy self.old to from size }
         ensures elsewhere { KeepsElsewhere self.old self.new to size }
+        ensures whole { KeepsWhole self.old self.new to size }
     {
         let transfer = Transfer {
             to_block: to.block as usize,

@@ -1,9 +1,10 @@
 -- Sums and products of sizes that are kept up to a bound.
-use Rattle.std.proofs.Common.{◌≡◌, ℕ, zero, suc, ◌+◌, ◌*◌, ◌<◌, ◌≤◌, min, refl, ap, sym, ◌∙◌, inl, inr, arith}
-use Rattle.std.specs.Prelude.{Option, Some, None, option_map, unwrap_or, ◌⊎◌}
+use Rattle.std.proofs.Common.{◌≡◌, ℕ, zero, suc, ◌+◌, ◌*◌, ◌<◌, ◌≤◌, ap, sym, ◌∙◌, inl, inr, arith}
+use Rattle.std.specs.Prelude.{Option, Some, None, option_map, unwrap_or}
 use Rattle.std.proofs.lemmas.Bool.{cases_lt}
 use Rattle.std.proofs.Math.Nat.{mul_comm}
 use Rattle.c_layout.specs.Kept.{kept}
+use Rattle.c_layout.specs.Layout.{padded}
 
 pub kept_twice : (n : ℕ) → kept (kept n) ≡ kept n
 kept_twice n = omega arith
@@ -41,3 +42,12 @@ kept_sum r a b m n e f g = omega arith
 pub kept-unwrap_or : (a b : Option ℕ) → a ≡ option_map kept b → kept (unwrap_or a zero) ≡ kept (unwrap_or b zero)
 kept-unwrap_or a None e = ap (λ o. kept (unwrap_or o zero)) e
 kept-unwrap_or a (Some n) e = ap (λ o. kept (unwrap_or o zero)) e ∙ kept_twice n
+
+-- so is the next multiple of an alignment
+pub kept-padded : (end at align : ℕ) → end ≡ kept at → kept (padded end align) ≡ kept (padded at align)
+kept-padded end at align e = elim (cases_lt 1099511627776 at) [
+  | inl h ↦
+      let large : 1099511627776 < end = omega arith in
+      kept_large (padded end align) (omega arith) ∙ sym (kept_large (padded at align) (omega arith))
+  | inr h ↦ ap (λ n. kept (padded n align)) (e ∙ kept_exact at h)
+]

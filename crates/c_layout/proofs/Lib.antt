@@ -2,4 +2,4 @@ pub mod Wrapping
 pub mod Keeping
 pub mod Spaces
 pub mod Offsets
-pub mod Depth
+pub mod Unfolding

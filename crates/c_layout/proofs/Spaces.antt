@@ -1,6 +1,6 @@
 -- What types take, step by step.
-use Rattle.std.proofs.Common.{◌≡◌, ℕ, zero, suc, ◌+◌, ◌*◌, ◌<◌, ◌≤◌, List, [], ◌∷◌, length, map, get_or, take, refl, ap, sym, subst, ◌∙◌, arith}
-use Rattle.std.specs.Prelude.{Option, Some, None, option_map, Bool}
+use Rattle.std.proofs.Common.{◌≡◌, ℕ, ◌+◌, ◌*◌, ◌<◌, ◌≤◌, List, [], ◌∷◌, length, map, get_or, take, refl, ap, sym, subst, ◌∙◌, arith}
+use Rattle.std.specs.Prelude.{Option, Some, None, option_map}
 use Rattle.std.specs.Prelude.{fold}
 use Rattle.std.proofs.Math.Nat.{mul_assoc}
 use Rattle.std.proofs.Math.ListN.{get_or-map}
@@ -11,8 +11,8 @@ use Rattle.c_syntax.specs.declared.types.CType.{CType}
 use Rattle.c_syntax.specs.declared.types.CType.TheVariants as types
 use Rattle.c_syntax.proofs.TypeTrees.{ctype_struct}
 use Rattle.c_syntax.specs.Types.{ctype_tree, CTypeTree, Void, Int, Pointer, Array, Struct, Function}
-use Rattle.c_syntax.specs.Program.{MemberTree, StructDefTree, member_tree}
-use Rattle.c_layout.specs.Layout.{Space, no_space, array_space, struct_space, space_by, spaces_by, members_of, members_end, strictest, padded, struct_within}
+use Rattle.c_syntax.specs.Program.{member_tree}
+use Rattle.c_layout.specs.Layout.{Space, array_space, struct_space, space_by, spaces_by, members_end, strictest, padded}
 use Rattle.c_layout.specs.Kept.{IsKept, element, element_count, element_space}
 use Rattle.c_layout.specs.declared.layout.Room.{Room}
 
@@ -41,15 +41,6 @@ space_by-element struct (Function n) = array_space-once _
 pub struct_space-full : (members : List Space) → 0 < length members → struct_space members ≡ record { size = Some (padded (members_end members) (strictest members)); align = strictest members }
 struct_space-full [] h = absurd (omega arith)
 struct_space-full (first ∷ rest) h = refl
-
-pub struct_within-none : (depth : ℕ) (structs : List StructDefTree) (n : ℕ) → depth ≡ 0 → no_space ≡ struct_within depth structs n
-unfolding struct_within
-struct_within-none zero structs n h = refl
-struct_within-none (suc depth) structs n h = absurd (omega arith)
-
-pub struct_within-step : (depth inner : ℕ) (structs : List StructDefTree) (n : ℕ) (members : List MemberTree) → depth ≡ suc inner → members ≡ members_of structs n → struct_space (spaces_by (struct_within inner structs) members) ≡ struct_within depth structs n
-unfolding struct_within
-struct_within-step depth inner structs n members d e = rw d (ap (λ ms. struct_space (spaces_by (struct_within inner structs) ms)) e)
 
 -- the space of a member that a loop has come to
 space_at : (struct : ℕ → Space) (members : List Member) (i : ℕ) (m : Member) → m ≡ get_or members i m → get_or (spaces_by struct (map member_tree members)) i (space_by struct (ctype_tree m.ty)) ≡ space_by struct (ctype_tree m.ty)

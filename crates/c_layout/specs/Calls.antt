@@ -1,11 +1,11 @@
 -- The calls of a program, and the chains that they make.
-use Rattle.std.specs.Prelude.{◌≡◌, ℕ, Bool, Option, None, Some, option_and_then, option_map, unwrap_or, List, [], ◌∷◌, ◌++◌, map, Contains, slice_get}
+use Rattle.std.specs.Prelude.{◌≡◌, ℕ, Option, None, Some, option_and_then, option_map, unwrap_or, List, [], ◌∷◌, ◌++◌, map, Contains, slice_get}
 use Rattle.std.specs.List.{flat_map}
 use Rattle.c_written.specs.declared.place.Pos.{Pos}
 use Rattle.c_syntax.specs.TypedExpr.{TExprTree, Const, Null, Load, AddressOf, Decay, Whole, Unary, Binary, Convert, Assign, AssignStruct, Compound, Step, And, Or, Cond, Comma, Call, Any, Assume, Assert, TLvalueTree, Var, Deref, Member, TExprTrees}
 use Rattle.c_syntax.specs.TypedExpr as exprs
-use Rattle.c_syntax.specs.TypedStmt.{TInitTree, Store, Copy, TStmtTree, Empty, Expr, Block, Declare, Static, If, While, DoWhile, For, Switch, Break, Continue, Goto, Return, Label, Case, Default, TStmtTrees, none, more}
-use Rattle.c_syntax.specs.Program.{TFunctionTree, TProgramTree}
+use Rattle.c_syntax.specs.TypedStmt.{TInitTree, Store, Copy, TStmtTree, Expr, Block, Declare, If, While, DoWhile, For, Switch, Return, TStmtTrees, none, more}
+use Rattle.c_syntax.specs.Program.{TProgramTree}
 
 -- a call, at the name of the function that it calls
 pub record PlacedCall : Type 0 where

@@ -1,6 +1,6 @@
 -- The labels, gotos and cases of statements, and the objects that their blocks list.
-use Rattle.std.specs.Prelude.{ℕ, ℤ, ◌+◌, Bool, List, [], ◌∷◌, ◌++◌, Contains}
-use Rattle.c_syntax.specs.TypedStmt.{TStmtTree, Empty, Expr, Block, Declare, Static, If, While, DoWhile, For, Switch, Break, Continue, Goto, Return, Label, Case, Default, TStmtTrees, none, more}
+use Rattle.std.specs.Prelude.{ℕ, ℤ, ◌+◌, List, [], ◌∷◌, ◌++◌, Contains}
+use Rattle.c_syntax.specs.TypedStmt.{TStmtTree, Block, If, While, DoWhile, For, Switch, Goto, Label, Case, Default, TStmtTrees, none, more}
 
 -- every label in a statement, in the order of the text
 unfoldable mutual

@@ -1,5 +1,5 @@
 -- Sizes, alignments and offsets of types in bytes, as whole numbers without bound.
-use Rattle.std.specs.Prelude.{ℕ, zero, suc, ◌+◌, ◌-◌, ◌*◌, ◌%◌, ◌^◌, ◌==◌, nat_le, max, if◌then◌else◌, Option, Some, None, option_map, unwrap_or, List, [], ◌∷◌, map, fold, find, take, length, slice_get}
+use Rattle.std.specs.Prelude.{ℕ, zero, suc, ◌+◌, ◌-◌, ◌*◌, ◌%◌, ◌^◌, ◌==◌, nat_le, max, if◌then◌else◌, Option, Some, None, option_map, unwrap_or, List, [], ◌∷◌, map, fold, find, take, slice_get}
 use Rattle.std.specs.Str.{bytes_eq}
 use Rattle.c_syntax.specs.Types.{CTypeTree, Void, Int, Pointer, Array, Struct, Function}
 use Rattle.c_syntax.specs.Program.{MemberTree, StructDefTree}
@@ -69,14 +69,31 @@ spaces_by struct members = map (λ member. space_by struct member.ty) members
 abbrev pub members_of : List StructDefTree → ℕ → List MemberTree
 members_of structs n = unwrap_or (option_map (λ def. def.members) (slice_get structs n)) []
 
--- a struct, where structs stand in one another at most so deep
+-- what an entry of the table tells of its struct, which is not complete without members
+abbrev pub told : List MemberTree → Space → Space
+told [] space = no_space
+told (first ∷ rest) space = space
+
+-- what the table tells of a struct: the size and the alignment that are stored there
+abbrev pub stored : List StructDefTree → ℕ → Space
+stored structs n = unwrap_or (option_map (λ def. told def.members (record { size = Some def.size; align = def.align })) (slice_get structs n)) no_space
+
+-- what the members of a struct take, where a struct among them takes what the table tells
+abbrev pub member_spaces : List StructDefTree → ℕ → List Space
+member_spaces structs n = spaces_by (stored structs) (members_of structs n)
+
+-- a struct, laid out from its members
+abbrev pub laid_out : List StructDefTree → ℕ → Space
+laid_out structs n = struct_space (member_spaces structs n)
+
+-- a type; what is stored of its own struct does not matter
+abbrev pub space_of : List StructDefTree → CTypeTree → Space
+space_of structs ty = space_by (laid_out structs) ty
+
+-- a struct read by its members down to the last, where structs stand in one another at most so deep
 unfoldable pub struct_within : ℕ → List StructDefTree → ℕ → Space
 struct_within zero structs n = no_space
 struct_within (suc depth) structs n = struct_space (spaces_by (struct_within depth structs) (members_of structs n))
-
--- a type: as no struct holds itself, they stand in one another no deeper than there are structs
-abbrev pub space_of : List StructDefTree → CTypeTree → Space
-space_of structs ty = space_by (struct_within (length structs) structs) ty
 
 -- the size, if the type is complete
 abbrev pub size_in : List StructDefTree → CTypeTree → Option ℕ
@@ -85,10 +102,6 @@ size_in structs ty = (space_of structs ty).size
 -- the alignment
 abbrev pub align_in : List StructDefTree → CTypeTree → ℕ
 align_in structs ty = (space_of structs ty).align
-
--- what the members of a struct take
-abbrev pub member_spaces : List StructDefTree → ℕ → List Space
-member_spaces structs n = map (λ member. space_of structs member.ty) (members_of structs n)
 
 -- where member k of a struct with these members stands
 abbrev pub offset_at : List Space → ℕ → Option ℕ

@@ -1,6 +1,7 @@
 pub mod Conversion
 pub mod Layout
 pub mod Rank
+pub mod LaidOut
 pub mod Kept
 pub mod RowTypes
 pub mod ProperTypes

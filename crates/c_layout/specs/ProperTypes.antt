@@ -1,5 +1,5 @@
 -- Types that a program may have, and the parts of a type.
-use Rattle.std.specs.Prelude.{◌≡◌, ◌+◌, ◌*◌, ◌^◌, ◌<◌, ◌≤◌, ℕ, Bool, Option, Some, IfSome, IsSomeAnd, List, length, slice_get}
+use Rattle.std.specs.Prelude.{◌≡◌, ◌+◌, ◌*◌, ◌^◌, ◌<◌, ◌≤◌, ℕ, Bool, Some, IfSome, IsSomeAnd, List, length, slice_get}
 use Rattle.c_syntax.specs.Types.{CTypeTree, Void, Int, Pointer, Array, Struct, Function}
 use Rattle.c_syntax.specs.Program.{StructDefTree, TProgramTree}
 use Rattle.c_layout.specs.Layout.{members_of, member_spaces, size_in, offset_at}

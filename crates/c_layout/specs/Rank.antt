@@ -26,8 +26,12 @@ held (Array of is_const n) = held of
 held (Struct n) = Some n
 held (Function n) = None
 
--- no struct holds itself, directly or through others: each has a rank, of as many as there are structs, above those of the structs that its members hold
+-- the rank falls from a struct to those that its members hold
+abbrev pub Falls : List StructDefTree → (ℕ → ℕ) → Type 0
+Falls structs rank = (n : ℕ) → All (λ member. IfSome (held member.ty) (λ k. rank k < rank n)) (members_of structs n)
+
+-- no struct holds itself, directly or through others: each has a rank, of as many as there are structs, that falls
 pub record NoneHoldsItself (structs : List StructDefTree) : Type 0 where
   pub rank : ℕ → ℕ
   pub bounded : (n : ℕ) → n < length structs → rank n < length structs
-  pub falls : (n : ℕ) → n < length structs → All (λ member. IfSome (held member.ty) (λ k. rank k < rank n)) (members_of structs n)
+  pub falls : Falls structs rank

@@ -1,5 +1,5 @@
 -- Which expressions and statements of a typed program have the types that C asks for, and name what is there.
-use Rattle.std.specs.Prelude.{◌≡◌, ◌≢◌, ◌⊎◌, ◌≤◌, ℕ, ℤ, Bool, true, false, IsTrue, Option, Some, None, option_map, unwrap_or, IfSome, IsSomeAnd, List, [], ◌∷◌, ◌++◌, map, All, AllPairs, Contains, slice_get}
+use Rattle.std.specs.Prelude.{◌≡◌, ◌≢◌, ◌⊎◌, ◌≤◌, ℕ, Bool, true, false, IsTrue, Option, Some, None, option_map, unwrap_or, IfSome, IsSomeAnd, List, [], ◌∷◌, ◌++◌, map, All, AllPairs, Contains, slice_get}
 use Rattle.c_written.specs.declared.int_type.IntType.{IntType}
 use Rattle.c_syntax.specs.Types.{CTypeTree, Void, Array, Struct}
 use Rattle.c_syntax.specs.Types as types

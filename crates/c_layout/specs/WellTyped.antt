@@ -1,25 +1,23 @@
 -- What a well typed program is.
-use Rattle.std.specs.Prelude.{◌≡◌, ◌≢◌, ◌⊎◌, ◌<◌, ◌≤◌, ◌==◌, ℕ, Bool, true, false, IsTrue, if◌then◌else◌, Option, Some, option_map, unwrap_or, IfSome, IsSomeAnd, List, [], ◌∷◌, ◌++◌, All, AllPairs, Contains, count_by, length, slice_get}
+use Rattle.std.specs.Prelude.{◌≡◌, ◌≢◌, ◌⊎◌, ◌<◌, ◌≤◌, ◌==◌, ℕ, false, IsTrue, if◌then◌else◌, Some, option_map, unwrap_or, IfSome, IsSomeAnd, List, [], ◌++◌, All, AllPairs, Contains, count_by, length, slice_get}
 use Rattle.std.specs.List.{flat_map}
 use Rattle.c_syntax.specs.declared.program.InitByte.{InitByte}
 use Rattle.c_syntax.specs.declared.program.InitByte.TheVariants.{Num, Piece}
 use Rattle.c_syntax.specs.declared.program.Initial.{Initial}
-use Rattle.c_syntax.specs.Types.{CTypeTree, Void, Struct, ObjectTree}
+use Rattle.c_syntax.specs.Types.{Void, ObjectTree}
 use Rattle.c_syntax.specs.TypedStmt.{TStmtTree}
-use Rattle.c_syntax.specs.Program.{MemberTree, StructDefTree, TFunctionTree, TProgramTree}
-use Rattle.c_layout.specs.Layout.{members_of, member_spaces, size_in, align_in, offset_at}
+use Rattle.c_syntax.specs.Program.{StructDefTree, TFunctionTree, TProgramTree}
+use Rattle.c_layout.specs.Layout.{size_in}
+use Rattle.c_layout.specs.LaidOut.{IsLaidOut}
 use Rattle.c_layout.specs.Rank.{AreNamed, NoneHoldsItself}
 use Rattle.c_layout.specs.ProperTypes.{IsProperType}
 use Rattle.c_layout.specs.RowTypes.{IsScalar}
 use Rattle.c_layout.specs.Jumps.{labels_of, gotos_of, listed_of}
 use Rattle.c_layout.specs.TypedNodes.{Spot, IsBlock, IsTypedStmt, object_type}
 
--- a struct with members has the size, the alignment and the offsets that its members give
-pub record IsLaidOut (program : TProgramTree) (n : ℕ) (def : StructDefTree) : Type 0 where
-  pub types : All (λ member. IsProperType program member.ty) def.members
-  pub size : def.members ≢ [] → size_in program.structs (Struct n) ≡ Some def.size
-  pub align : def.members ≢ [] → align_in program.structs (Struct n) ≡ def.align
-  pub offsets : (k : ℕ) → offset_at (member_spaces program.structs n) k ≡ option_map (λ member. member.offset) (slice_get def.members k)
+-- the members of a struct have types that a program may have
+abbrev pub AreTypedMembers : TProgramTree → StructDefTree → Type 0
+AreTypedMembers program def = All (λ member. IsProperType program member.ty) def.members
 
 -- an object has its type's size
 pub record IsTypedObject (program : TProgramTree) (object : ObjectTree) : Type 0 where
@@ -89,7 +87,8 @@ EachOf xs P = (k : ℕ) → IfSome (slice_get xs k) (P k)
 pub record IsWellTyped (program : TProgramTree) : Type 0 where
   pub named : AreNamed program.structs
   pub founded : NoneHoldsItself program.structs
-  pub structs : EachOf program.structs (IsLaidOut program)
+  pub members : All (AreTypedMembers program) program.structs
+  pub laid_out : IsLaidOut program.structs
   pub objects : All (IsTypedObject program) program.objects
   pub functions : All (IsTypedFunction program) program.functions
   pub listed_objects : All (λ o. o < length program.objects) (listed program)

@@ -1,12 +1,13 @@
 // Sizes, alignments and offsets of types.
 
-ghost use Rattle.std.specs.Prelude.{◌≡◌, ℕ, ◌+◌, ◌*◌, ◌^◌, ◌<◌, ◌≤◌, map, length, option_map, IfSome};
+ghost use Rattle.std.specs.Prelude.{◌≡◌, ℕ, ◌+◌, ◌*◌, ◌^◌, ◌<◌, ◌≤◌, List, map, option_map, IfSome, Some};
 ghost use Rattle.c_syntax.specs.Types.{ctype_tree};
-ghost use Rattle.c_syntax.specs.Program.{member_tree, structdef_tree};
+ghost use Rattle.c_syntax.specs.Program.{StructDefTree, member_tree, structdef_tree};
 ghost use Rattle.c_written.specs.Integer as integer;
 ghost use Rattle.c_layout.specs.Layout as layout;
-ghost use Rattle.c_layout.specs.Layout.{align_in, offset_named, padded, size_in, sized, space_by, spaces_by, strictest, struct_space, struct_within};
+ghost use Rattle.c_layout.specs.Layout.{align_in, laid_out, offset_named, padded, size_in, sized, space_by, space_of, spaces_by, stored, strictest, struct_space, told};
 ghost use Rattle.c_layout.specs.Kept.{IsKept, element, element_count, element_space, kept};
+ghost use Rattle.c_layout.specs.LaidOut.{MeansUnfolded};
 
 use c_syntax::{CType, IntType, Member, StructDef, StructDefs};
 
@@ -33,13 +34,15 @@ struct Room {
     align: u64,
 }
 
-/// The size of the type. The answer has this meaning where each struct number in the type and in
-/// the structs is that of a struct, and no struct holds itself by its members.
+/// The size of the type. A struct in it is laid out from its members, whatever is stored of its own
+/// size, and a struct among those members takes the size and the alignment that are stored with it.
+/// So each node of the type and of the members' types costs a bounded number of steps. In a table
+/// that is laid out, and in which no struct holds itself, this is the size that C gives
+/// (`stored_sizes_mean_unfolded`). A number that is no struct's counts as an incomplete type.
 pub fn size_of(ty: &CType, structs: &StructDefs) -> Sized
     ensures { result ≡ sized (size_in (map structdef_tree structs.now) (ctype_tree ty.now)) }
 {
-    let structs = structs.as_slice();
-    match room_of(ty, structs, structs.len()).size {
+    match room_of(ty, structs.as_slice()).size {
         None => Sized::Incomplete,
         Some(size) => if size > GREATEST_SIZE {
             Sized::Oversize
@@ -49,17 +52,16 @@ pub fn size_of(ty: &CType, structs: &StructDefs) -> Sized
     }
 }
 
-/// The alignment of the type in bytes, which is 1 for a type that is incomplete. The answer has this
-/// meaning where each struct number in the type and in the structs is that of a struct, and no
-/// struct holds itself by its members.
+/// The alignment of the type in bytes, which is 1 for a type that is incomplete. It is read from the
+/// table as the size is (`size_of`).
 pub fn align_of(ty: &CType, structs: &StructDefs) -> u64
     ensures { result ≡ align_in (map structdef_tree structs.now) (ctype_tree ty.now) }
 {
-    let structs = structs.as_slice();
-    room_of(ty, structs, structs.len()).align
+    room_of(ty, structs.as_slice()).align
 }
 
-/// The offset in bytes of the member of this name, or `None` where the struct has no such member.
+/// The offset in bytes that is stored with the member of this name, or `None` where the struct has
+/// no such member. In a table that is laid out it is the offset that C gives.
 pub fn offset_of(def: &StructDef, name: &[u8]) -> Option<u64>
     ensures { result ≡ offset_named (map member_tree def.now.members) name.now }
 {
@@ -72,47 +74,39 @@ pub fn offset_of(def: &StructDef, name: &[u8]) -> Option<u64>
     None
 }
 
-// What a type takes, where structs stand in one another at most so deep.
-#[cycle(rooms)]
-fn room_of(ty: &CType, structs: &[StructDef], depth: usize) -> Room
-    ensures kept { IsKept result (space_by (struct_within depth (map structdef_tree structs.now)) (ctype_tree ty.now)) }
-    ensures aligned { 0 < result.align }
-    ensures narrow { result.align ≤ 8 }
+/// In a table of structs that is laid out, and in which no struct holds itself, each type takes what
+/// it takes where the structs in it are read by their members down to the last.
+pub fn stored_sizes_mean_unfolded()
+    ensures { (structs : List StructDefTree) → MeansUnfolded structs }
+{}
+
+// What a type takes, where a struct is laid out from its members.
+fn room_of(ty: &CType, structs: &[StructDef]) -> Room
+    ensures { IsKept result (space_of (map structdef_tree structs.now) (ctype_tree ty.now)) }
 {
-    let room = element_room(element_of(ty), structs, depth);
-    array_room(count_of(ty), room)
+    array_room(count_of(ty), element_room(element_of(ty), structs))
 }
 
-// What a type takes that is no array.
-#[cycle(rooms)]
-fn element_room(ty: &CType, structs: &[StructDef], depth: usize) -> Room
-    ensures kept { IsKept result (element_space (struct_within depth (map structdef_tree structs.now)) (ctype_tree ty.now)) }
-    ensures aligned { 0 < result.align }
-    ensures narrow { result.align ≤ 8 }
+// What such a type takes that is no array.
+fn element_room(ty: &CType, structs: &[StructDef]) -> Room
+    ensures { IsKept result (element_space (laid_out (map structdef_tree structs.now)) (ctype_tree ty.now)) }
 {
     match ty {
         CType::Int(t) => scalar_room(bytes(*t)),
         CType::Pointer(_) => scalar_room(8),
-        CType::Struct(n) => if depth == 0 {
-            no_room()
-        } else {
-            members_room(members_of(structs, *n), structs, depth - 1)
-        },
+        CType::Struct(n) => members_room(members_of(structs, *n), structs),
         CType::Void | CType::Array(_, _) | CType::Function(_) => no_room(),
     }
 }
 
 // What a struct with these members takes.
-#[cycle(rooms)]
-fn members_room(members: &[Member], structs: &[StructDef], depth: usize) -> Room
-    ensures kept { IsKept result (struct_space (spaces_by (struct_within depth (map structdef_tree structs.now)) (map member_tree members.now))) }
-    ensures aligned { 0 < result.align }
-    ensures narrow { result.align ≤ 8 }
+fn members_room(members: &[Member], structs: &[StructDef]) -> Room
+    ensures { IsKept result (struct_space (spaces_by (stored (map structdef_tree structs.now)) (map member_tree members.now))) }
 {
     if members.is_empty() {
         return no_room();
     }
-    let (end, align) = members_end(members, structs, depth);
+    let (end, align) = members_end(members, structs);
     let size = padded_end(end, align);
     Room {
         size: Some(size),
@@ -121,21 +115,61 @@ fn members_room(members: &[Member], structs: &[StructDef], depth: usize) -> Room
 }
 
 // Where the last of the members ends, and their strictest alignment.
-#[cycle(rooms)]
-fn members_end(members: &[Member], structs: &[StructDef], depth: usize) -> (u64, u64)
-    ensures end { result.0 ≡ kept (layout.members_end (spaces_by (struct_within depth (map structdef_tree structs.now)) (map member_tree members.now))) }
-    ensures strictest { result.1 ≡ strictest (spaces_by (struct_within depth (map structdef_tree structs.now)) (map member_tree members.now)) }
-    ensures aligned { 0 < result.1 }
-    ensures narrow { result.1 ≤ 8 }
+fn members_end(members: &[Member], structs: &[StructDef]) -> (u64, u64)
+    ensures end { result.0 ≡ kept (layout.members_end (spaces_by (stored (map structdef_tree structs.now)) (map member_tree members.now))) }
+    ensures strictest { result.1 ≡ strictest (spaces_by (stored (map structdef_tree structs.now)) (map member_tree members.now)) }
 {
     let mut end = 0;
     let mut align: u64 = 1;
     for member in members {
-        let room = room_of(&member.ty, structs, depth);
+        let room = member_room(&member.ty, structs);
         end = end_after(end, room);
         align = align.max(room.align);
     }
     (end, align)
+}
+
+// What a member takes, where a struct takes what the table tells.
+fn member_room(ty: &CType, structs: &[StructDef]) -> Room
+    ensures { IsKept result (space_by (stored (map structdef_tree structs.now)) (ctype_tree ty.now)) }
+{
+    array_room(count_of(ty), told_room(element_of(ty), structs))
+}
+
+// What such a member takes that is no array.
+fn told_room(ty: &CType, structs: &[StructDef]) -> Room
+    ensures { IsKept result (element_space (stored (map structdef_tree structs.now)) (ctype_tree ty.now)) }
+{
+    match ty {
+        CType::Int(t) => scalar_room(bytes(*t)),
+        CType::Pointer(_) => scalar_room(8),
+        CType::Struct(n) => stored_room(structs, *n),
+        CType::Void | CType::Array(_, _) | CType::Function(_) => no_room(),
+    }
+}
+
+// What the table tells of a struct.
+fn stored_room(structs: &[StructDef], n: u64) -> Room
+    ensures { IsKept result (stored (map structdef_tree structs.now) n) }
+{
+    match structs.get(n as usize) {
+        None => no_room(),
+        Some(def) => entry_room(def),
+    }
+}
+
+// What an entry of the table tells of its struct.
+fn entry_room(def: &StructDef) -> Room
+    ensures { IsKept result (told (map member_tree def.now.members) (record { size = Some def.now.size; align = def.now.align })) }
+{
+    if def.members.as_slice().is_empty() {
+        no_room()
+    } else {
+        Room {
+            size: Some(def.size.min(TOO_LARGE)),
+            align: def.align,
+        }
+    }
 }
 
 // The innermost element of an array of arrays; another type is its own.
@@ -167,8 +201,7 @@ fn product(a: u64, b: u64) -> u64
 }
 
 fn no_room() -> Room
-    ensures kept { IsKept result layout.no_space }
-    ensures aligned { result.align ≡ 1 }
+    ensures { IsKept result layout.no_space }
 {
     Room {
         size: None,
@@ -178,8 +211,7 @@ fn no_room() -> Room
 
 fn scalar_room(size: u64) -> Room
     requires { size ≤ 8 }
-    ensures kept { IsKept result (layout.scalar_space size) }
-    ensures aligned { result.align ≡ size }
+    ensures { IsKept result (layout.scalar_space size) }
 {
     Room {
         size: Some(size),
@@ -188,8 +220,7 @@ fn scalar_room(size: u64) -> Room
 }
 
 fn array_room(count: u64, room: Room) -> Room
-    ensures kept { (n : ℕ) (space : layout.Space) → count ≡ kept n → IsKept room space → IsKept result (layout.array_space n space) }
-    ensures aligned { result.align ≡ room.align }
+    ensures { (n : ℕ) (space : layout.Space) → count ≡ kept n → IsKept room space → IsKept result (layout.array_space n space) }
 {
     let size = match room.size {
         None => None,
@@ -203,8 +234,6 @@ fn array_room(count: u64, room: Room) -> Room
 
 // Where a member ends that stands after the first bytes.
 fn end_after(end: u64, room: Room) -> u64
-    requires aligned { 0 < room.align }
-    requires narrow { room.align ≤ 8 }
     ensures { (at : ℕ) (space : layout.Space) → kept end ≡ kept at → IsKept room space → result ≡ kept (layout.member_end at space) }
 {
     let size = room.size.unwrap_or(0).min(TOO_LARGE);
@@ -213,22 +242,21 @@ fn end_after(end: u64, room: Room) -> u64
 
 // The next multiple of the alignment.
 fn padded_end(end: u64, align: u64) -> u64
-    requires aligned { 0 < align }
-    requires narrow { align ≤ 8 }
     ensures value { (at : ℕ) → kept end ≡ kept at → result ≡ kept (padded at align) }
     ensures small { result ≤ 2 ^ 40 + 1 }
 {
     let end = end.min(TOO_LARGE);
-    (end + padding(end, align)).min(TOO_LARGE)
+    end.saturating_add(padding(end, align)).min(TOO_LARGE)
 }
 
+// An alignment of 0, which only a table that is not laid out can tell, asks for none.
 fn padding(end: u64, align: u64) -> u64
-    requires { 0 < align }
-    ensures value { result ≡ layout.padding end align }
-    ensures small { result < align }
+    ensures { result ≡ layout.padding end align }
 {
-    let past = end % align;
-    if past == 0 { 0 } else { align - past }
+    match end.checked_rem(align) {
+        None | Some(0) => 0,
+        Some(past) => align - past,
+    }
 }
 
 // The members of a struct, which are none where there is no such struct.
@@ -243,7 +271,6 @@ fn members_of(structs: &[StructDef], n: u64) -> &[Member]
 
 fn bytes(t: IntType) -> u64
     ensures value { result ≡ integer.bytes t }
-    ensures some { 0 < result }
     ensures few { result ≤ 8 }
 {
     match t {
@@ -311,31 +338,95 @@ mod tests {
         Ok(definition(alloc, members, 8, 4))
     }
 
-    // struct { FIRST a; SECOND b; THIRD c; }
-    fn triple(alloc: Global, a: CType, b: CType, c: CType) -> Result<StructDef, AllocError> {
+    // struct { FIRST a; SECOND b; THIRD c; }, each with its offset, and the struct's size and alignment
+    fn triple(
+        alloc: Global,
+        a: (CType, u64),
+        b: (CType, u64),
+        c: (CType, u64),
+        size: u64,
+        align: u64,
+    ) -> Result<StructDef, AllocError> {
         let mut members = Vec::new(alloc);
-        members.push(member(alloc, "a", a, 0)?)?;
-        members.push(member(alloc, "b", b, 0)?)?;
-        members.push(member(alloc, "c", c, 0)?)?;
-        Ok(definition(alloc, members, 0, 0))
+        members.push(member(alloc, "a", a.0, a.1)?)?;
+        members.push(member(alloc, "b", b.0, b.1)?)?;
+        members.push(member(alloc, "c", c.0, c.1)?)?;
+        Ok(definition(alloc, members, size, align))
     }
 
-    // Structs 0 to 7.
+    // Structs 0 to 7, laid out by hand.
     fn structs(alloc: Global) -> Result<StructDefs, AllocError> {
         let mut defs = Vec::new(alloc);
         defs.push(pair(alloc)?)?;
-        defs.push(triple(alloc, CHAR, SHORT, CHAR)?)?;
-        defs.push(triple(alloc, CHAR, LONG, CHAR)?)?;
-        defs.push(triple(alloc, CType::Struct(0), CType::Struct(4), CHAR)?)?;
+        defs.push(triple(alloc, (CHAR, 0), (SHORT, 2), (CHAR, 4), 6, 2)?)?;
+        defs.push(triple(alloc, (CHAR, 0), (LONG, 8), (CHAR, 16), 24, 8)?)?;
+        let first = (CType::Struct(0), 0);
+        let second = (CType::Struct(4), 8);
+        defs.push(triple(alloc, first, second, (CHAR, 40), 44, 4)?)?;
         let pairs = array(alloc, CType::Struct(0), 3)?;
-        defs.push(triple(alloc, CHAR, pairs, CHAR)?)?;
+        defs.push(triple(alloc, (CHAR, 0), (pairs, 4), (CHAR, 28), 32, 4)?)?;
         defs.push(definition(alloc, Vec::new(alloc), 0, 0))?;
         let most = array(alloc, CHAR, (1 << 40) - 2)?;
-        defs.push(triple(alloc, CHAR, most, CHAR)?)?;
+        let last = (CHAR, (1 << 40) - 1);
+        defs.push(triple(alloc, (CHAR, 0), (most, 1), last, 1 << 40, 1)?)?;
         let all = array(alloc, CHAR, 1 << 40)?;
         let own = pointer(alloc, CType::Struct(7))?;
-        defs.push(triple(alloc, own, all, CHAR)?)?;
+        let last = (CHAR, (1 << 40) + 8);
+        defs.push(triple(alloc, (own, 0), (all, 8), last, (1 << 40) + 16, 8)?)?;
         Ok(StructDefs::from_vec(defs))
+    }
+
+    // struct { STRUCT a, b; } of the struct before, of which each takes so many bytes
+    fn double(alloc: Global, before: u64, bytes: u64) -> Result<StructDef, AllocError> {
+        let mut members = Vec::new(alloc);
+        members.push(member(alloc, "a", CType::Struct(before), 0)?)?;
+        members.push(member(alloc, "b", CType::Struct(before), bytes)?)?;
+        Ok(definition(alloc, members, bytes.saturating_mul(2), 1))
+    }
+
+    // Struct 0 has one char, and each of the 41 others two of the struct before.
+    fn chain(alloc: Global) -> Result<StructDefs, AllocError> {
+        let mut members = Vec::new(alloc);
+        members.push(member(alloc, "a", CHAR, 0)?)?;
+        let mut defs = Vec::new(alloc);
+        defs.push(definition(alloc, members, 1, 1))?;
+        for k in 0..41 {
+            defs.push(double(alloc, k, 1 << k)?)?;
+        }
+        Ok(StructDefs::from_vec(defs))
+    }
+
+    #[test]
+    fn sizes_of_a_chain(rt: HostRuntime) -> Result<(), Fail> {
+        let structs = chain(rt.alloc())?;
+        for k in 0..41 {
+            let size = Sized::Fits(1 << k);
+            assert_eq!(rt; size_of(&CType::Struct(k), &structs), size, "struct {k}");
+        }
+        let last = CType::Struct(41);
+        assert_eq!(rt; size_of(&last, &structs), Sized::Oversize);
+        assert_eq!(rt; align_of(&last, &structs), 1);
+        Ok(())
+    }
+
+    // A struct's own entry need not be filled in, and the entries of its members are read.
+    #[test]
+    fn entries_are_told(rt: HostRuntime) -> Result<(), Fail> {
+        let alloc = rt.alloc();
+        let mut defs = Vec::new(alloc);
+        let open = (CType::Struct(1), 8);
+        defs.push(triple(alloc, (INT, 0), open, (CHAR, 40), 0, 0)?)?;
+        defs.push(triple(alloc, (LONG, 0), (LONG, 8), (LONG, 16), 32, 8)?)?;
+        defs.push(triple(alloc, (CHAR, 0), (CHAR, 1), (CHAR, 2), u64::MAX, u64::MAX)?)?;
+        defs.push(double(alloc, 2, u64::MAX)?)?;
+        let structs = StructDefs::from_vec(defs);
+        assert_eq!(rt; size_of(&CType::Struct(0), &structs), Sized::Fits(48));
+        assert_eq!(rt; align_of(&CType::Struct(0), &structs), 8);
+        assert_eq!(rt; size_of(&CType::Struct(1), &structs), Sized::Fits(24));
+        assert_eq!(rt; size_of(&CType::Struct(2), &structs), Sized::Fits(3));
+        assert_eq!(rt; size_of(&CType::Struct(3), &structs), Sized::Oversize);
+        assert_eq!(rt; align_of(&CType::Struct(3), &structs), u64::MAX);
+        Ok(())
     }
 
     #[test]

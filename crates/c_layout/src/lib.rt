@@ -5,4 +5,4 @@ mod integer;
 mod layout;
 
 pub use integer::{balance, literal_type, promote, wrap};
-pub use layout::{Sized, align_of, offset_of, size_of};
+pub use layout::{Sized, align_of, offset_of, size_of, stored_sizes_mean_unfolded};

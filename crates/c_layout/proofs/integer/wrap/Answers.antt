@@ -1,7 +1,6 @@
-use Rattle.std.proofs.Common.{rules, ◌≡◌, ℤ, pos, ◌≤ℤ◌, ◌<ℤ◌, ◌-ℤ◌, FitsSigned, sym, ◌∙◌, arith}
+use Rattle.std.proofs.Common.{rules, ◌≡◌, pos, ◌≤ℤ◌, ◌<ℤ◌, ◌-ℤ◌, FitsSigned, sym, ◌∙◌, arith}
 use Rattle.std.specs.Int.{w128, int_rem_euclid}
 use Rattle.std.proofs.lemmas.Int.{ints, to_z-of_z}
-use Rattle.c_written.specs.Integer.{wrapped}
 use Rattle.c_layout.proofs.Wrapping.{wrapped_has, wrapped_past}
 use Rattle.c_layout.proofs.integer.wrap.Goals as goal
 

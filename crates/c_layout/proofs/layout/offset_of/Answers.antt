@@ -1,4 +1,4 @@
-use Rattle.std.proofs.Common.{◌≡◌, ◌<◌, length, map, ap, sym, ◌∙◌, true, false, arith}
+use Rattle.std.proofs.Common.{◌<◌, length, map, ap, sym, ◌∙◌, arith}
 use Rattle.std.specs.Str.{bytes_eq}
 use Rattle.c_syntax.specs.Program.{member_tree}
 use Rattle.c_layout.specs.Layout.{offset_named}

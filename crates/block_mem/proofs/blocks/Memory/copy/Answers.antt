@@ -4,9 +4,16 @@ use Rattle.block_mem.specs.Block.{BlockView}
 use Rattle.block_mem.specs.Blocks.{copy}
 use Rattle.block_mem.specs.AfterStore.{KeepsElsewhere}
 use Rattle.block_mem.proofs.StoreLaws.{elsewhere-copy}
+use Rattle.block_mem.specs.Whole.{KeepsWhole}
+use Rattle.block_mem.proofs.Whole.{whole-copy}
 use Rattle.block_mem.proofs.blocks.Memory.copy.Goals as goal
 
 pub returns-clause-elsewhere : goal.returns-clause-elsewhere
 returns-clause-elsewhere c =
     let after : take c.self.inside.blocks.len (c.copy_bytes.new.blocks ++ drop (length c.copy_bytes.new.blocks) c.self.inside.blocks.items) ≡ copy c.args.self.now c.args.to c.args.from c.args.size = grind (arith, common_steps) in
     subst (λ (m : List BlockView). KeepsElsewhere c.args.self.now m c.args.to c.args.size) (sym after) (elsewhere-copy c.args.self.now c.args.to c.args.from c.args.size c.requires.target_made c.requires.source)
+
+pub returns-clause-whole : goal.returns-clause-whole
+returns-clause-whole c =
+    let after : take c.self.inside.blocks.len (c.copy_bytes.new.blocks ++ drop (length c.copy_bytes.new.blocks) c.self.inside.blocks.items) ≡ copy c.args.self.now c.args.to c.args.from c.args.size = grind (arith, common_steps) in
+    subst (λ (m : List BlockView). KeepsWhole c.args.self.now m c.args.to c.args.size) (sym after) (whole-copy c.args.self.now c.args.to c.args.from c.args.size c.requires.target_made c.requires.target c.requires.source)

@@ -5,6 +5,8 @@ use Rattle.block_mem.specs.Blocks.{wrong_access, load, store}
 use Rattle.block_mem.specs.Bytes.{size_of}
 use Rattle.block_mem.specs.AfterStore.{ReadsParts, KeepsElsewhere}
 use Rattle.block_mem.proofs.StoreLaws.{load-store, parts-store, elsewhere-store}
+use Rattle.block_mem.specs.Whole.{KeepsWhole}
+use Rattle.block_mem.proofs.Whole.{whole-store}
 use Rattle.block_mem.proofs.blocks.Memory.store.Goals as goal
 
 pub returns-clause-reads_back : goal.returns-clause-reads_back
@@ -23,3 +25,9 @@ pub returns-clause-elsewhere : goal.returns-clause-elsewhere
 returns-clause-elsewhere c =
     let after : slice_set c.self.inside.blocks.items c.args.at.block c.store.new.self ≡ store c.args.self.now c.args.at c.args.v = grind (arith, common_steps) in
     subst (λ (m : List BlockView). KeepsElsewhere c.args.self.now m c.args.at (size_of c.args.ty)) (sym after) (elsewhere-store c.args.self.now c.args.at c.args.ty c.args.v c.requires.made c.requires.typed)
+
+pub returns-clause-whole : goal.returns-clause-whole
+returns-clause-whole c =
+    let passes : wrong_access c.args.self.now c.args.at (size_of c.args.ty) (size_of c.args.ty) true ≡ None = grind (arith, common_steps) in
+    let after : slice_set c.self.inside.blocks.items c.args.at.block c.store.new.self ≡ store c.args.self.now c.args.at c.args.v = grind (arith, common_steps) in
+    subst (λ (m : List BlockView). KeepsWhole c.args.self.now m c.args.at (size_of c.args.ty)) (sym after) (whole-store c.args.self.now c.args.at c.args.ty c.args.v c.requires.made c.requires.typed passes)
