@@ -1,4 +1,5 @@
 // Sizes, alignments and offsets of types.
+#![tactic(auto, using(c_syntax::proofs::Trees::the_trees))]
 
 ghost use Rattle.std.specs.Prelude.{◌≡◌, ℕ, ◌+◌, ◌*◌, ◌^◌, ◌<◌, ◌≤◌, List, map, option_map, IfSome, Some};
 ghost use Rattle.c_syntax.specs.Types.{ctype_tree};

@@ -1,5 +1,5 @@
 //! Sizes of types and conversions of numbers, and what a well typed program, a plan and a check are.
-#![tactic(auto, using(c_syntax::proofs::Trees::the_trees))]
+#![tactic(auto)]
 
 mod integer;
 mod layout;
