@@ -1,4 +1,6 @@
 // The built form, read on the tree of a file.
+#![tactic(auto, using(crate::proofs::Trees::the_trees))]
+
 ghost use Rattle.std.specs.Prelude.{◌≡◌, ◌≢◌, ◌∷◌, [], codes, ◌↔◌, length, IfOk, IfSome, IsTrue, MatchOption, option_map};
 ghost use Rattle.c_written.specs.Written as written;
 ghost use Rattle.c_written.specs.WrittenFile.{Statement, blockitem_tree, blockitems_tree, file_tree, outer_tree, stmt_tree};

@@ -1,5 +1,5 @@
 //! Verac: what may go wrong in a C file, from its bytes to the report.
-#![tactic(auto, using(crate::proofs::Trees::the_trees))]
+#![tactic(auto)]
 
 mod command;
 mod form;
