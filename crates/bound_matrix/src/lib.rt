@@ -15,9 +15,9 @@ mod tighten;
 mod transfer;
 
 pub use counting::Steps;
+pub use ext_int::Live;
 pub use halves::Half;
 pub use matrices::{Matrix, close, close_one};
-pub use ext_int::Live;
 pub use tighten::close_one_counted;
 
 #[cfg(test)]
