@@ -1,9 +1,10 @@
 -- Steps of the descent through expressions.
 use Rattle.std.proofs.Common.{◌≡◌, refl, sym, subst, ap, ℕ, ◌+◌, Bool, true, false, not, ◌&&◌, List, [], ◌∷◌, Bor}
-use Rattle.std.specs.Prelude.{Result, Ok, Option, Some, None, option_map}
+use Rattle.std.specs.Prelude.{Result, Ok, Err, Option, Some, None, option_map}
 use Rattle.c_written.specs.declared.place.Pos.{Pos}
 use Rattle.c_written.specs.declared.construct.Construct.TheVariants as constructs
 use Rattle.c_written.specs.declared.token.Placed.{Placed}
+use Rattle.c_written.specs.declared.token.Punctuator.{Punctuator}
 use Rattle.c_written.specs.declared.token.Punctuator.TheVariants as signs
 use Rattle.c_written.specs.declared.token.Token.{Token}
 use Rattle.c_written.specs.declared.token.Token.TheVariants as kinds
@@ -12,25 +13,26 @@ use Rattle.c_written.specs.declared.written.Expr.TheVariants as variants
 use Rattle.c_written.specs.Written.{expr_tree, ExprTree, ExprTrees, exprs_then, Word, Call}
 use Rattle.c_grammar.specs.Parts.{Scene, Part, Value, ExprPart, More, Assignment, Suffixes, AnExpr, Arguments, MoreArguments}
 use Rattle.c_grammar.specs.Parts as parts
-use Rattle.c_grammar.specs.Process.{give, token, part}
+use Rattle.c_grammar.specs.Process.{Process, give, token, part}
 use Rattle.c_grammar.specs.Classes.{sign, joint_sign}
 use Rattle.c_grammar.specs.Grammar.{expr_rule, at_start}
 use Rattle.c_grammar.specs.ExprRules as exprs
 use Rattle.c_grammar.specs.ExprRules.{operand}
 use Rattle.c_grammar.specs.Ahead.{is_open, is_close}
-use Rattle.c_grammar.specs.Refused.{Why, first_is, where_true, part_construct}
+use Rattle.c_grammar.specs.Refused.{first_is, where_true, part_construct}
 use Rattle.c_grammar.specs.Made.{is_word, joined}
 use Rattle.c_grammar.specs.Descent.{Outcome, Done, Stop, Goes, Follows, goes_on, stops, is_done}
 use Rattle.c_descent.specs.declared.fault.Fault.{Fault}
 use Rattle.c_descent.specs.declared.level.Level.{Level}
 use Rattle.c_descent.specs.declared.level.Joint.{Joint}
 use Rattle.c_descent.specs.Views.{level_view, joint_view, is_question}
-use Rattle.c_descent.specs.Answers.{Gives, Takes, SuffixComes}
+use Rattle.c_descent.specs.Answers.{Gives, Halts, Takes, SuffixComes}
+use Rattle.c_exprs.specs.Readers.{ReadsBehind}
 use Rattle.c_descent.specs.declared.kind.SuffixKind.{SuffixKind}
 use Rattle.c_descent.specs.declared.kind.SuffixKind.TheVariants as suffixes
 use Rattle.c_descent.specs.Kinds.{joint_here, suffix_at, is_no_suffix}
 use Rattle.c_descent.proofs.Choices.{Chosen, MoreTells, more_is, SuffixTells, suffix_is}
-use Rattle.c_descent.proofs.Steps.{by, take, here, stops_here, if_false}
+use Rattle.c_descent.proofs.Steps.{by, take, here, stops_here, if_false, halts, stall, step}
 
 -- the operand of a level that is known
 pub operand_at : {A : Type 0} {d : ℕ} {w : Scene} {ts : List Placed} {view : A → ExprTree} {r : Result (A × Bor (List Placed)) Fault} {l m : Level} → l ≡ m → Gives (λ o. Goes d w (AnExpr (operand (level_view m))) ts o) view r → Gives (λ o. Goes d w (AnExpr (operand (level_view l))) ts o) view r
@@ -72,11 +74,15 @@ more_at {d} {w} {l} {a} {b} {ts} {o} e g = subst (λ v. Goes d w (AnExpr (More l
 pub arguments_at : {d : ℕ} {w : Scene} {a b : ExprTrees} {ts : List Placed} {o : Outcome ExprTrees} → a ≡ b → Goes d w (MoreArguments a) ts o → Goes d w (MoreArguments b) ts o
 arguments_at {d} {w} {a} {b} {ts} {o} e g = subst (λ v. Goes d w (MoreArguments v) ts o) e g
 
+-- what stands behind the sign that is asked for
+pub behind_sign : {d : ℕ} {w : Scene} {a b : Punctuator} {x : ExprPart} {ts : List Placed} {r : Result ((Pos × Expr) × Bor (List Placed)) Fault} → a ≡ b → ReadsBehind d w a x ts r → ReadsBehind d w b x ts r
+behind_sign {d} {w} {a} {b} {x} {ts} {r} e h = subst (λ v. ReadsBehind d w v x ts r) e h
+
 -- one more joint and its operand
-pub joint_step : {d : ℕ} {w : Scene} {l : parts.Level} {j : parts.Joint} {left right whole : ExprTree} {p : Bor Placed × Bor (List Placed)} {ts after : List Placed} (o : Outcome ExprTree) → joint_here l ts ≡ Some j → Takes d w 1 (sign (joint_sign j)) ts (Ok p) → Goes (d + 1) w (AnExpr (operand l)) p.1.now (Done right after) → whole ≡ joined j p.0.now.pos left right → Goes (d + 1) w (AnExpr (More l whole)) after o → Goes d w (AnExpr (More l left)) ts o
-joint_step {d} {w} {l} {j} {left} {right} {whole} {p} {ts} {after} o e t g h k =
+pub joint_step : {d : ℕ} {w : Scene} {l : parts.Level} {j : parts.Joint} {left whole : ExprTree} {x : (Pos × Expr) × Bor (List Placed)} {ts : List Placed} (o : Outcome ExprTree) → joint_here l ts ≡ Some j → ReadsBehind d w (joint_sign j) (operand l) ts (Ok x) → whole ≡ joined j x.0.0 left (expr_tree x.0.1) → Goes (d + 1) w (AnExpr (More l whole)) x.1.now o → Goes d w (AnExpr (More l left)) ts o
+joint_step {d} {w} {l} {j} {left} {whole} {x} {ts} o e r h k =
     let m : MoreTells w l left ts (Some j) = more_is w l left ts e in
-    by (expr_rule (exprs.run_more j m.0)) refl m.1 (take t (goes_on g (tail_expr o (more_at h k))))
+    by (expr_rule (exprs.run_more j m.0)) refl m.1 (step (r (AnExpr (More l left)) (λ at right. part 1 w (AnExpr (More l (joined j at left right))) give)) o (tail_expr o (more_at h k)))
 
 pub tail_arguments : {d : ℕ} {w s : Scene} {a b : ExprTrees} {ts : List Placed} (o : Outcome ExprTrees) → Goes d s (MoreArguments a) ts o → Follows d w (MoreArguments b) (part 0 s (MoreArguments a) give) ts o
 tail_arguments (Done a mid) g = here g is_done
@@ -88,10 +94,14 @@ argument_step {d} {w} {before} {longer} {next} {p} {ts} {after} o e t g h k =
     by (expr_rule exprs.arguments_more) refl (if_false _ e) (take t (here g (tail_arguments o (arguments_at h k))))
 
 -- a stop behind a joint that comes
-pub joint_stop : {d : ℕ} {w : Scene} {l : parts.Level} {j : parts.Joint} {left : ExprTree} {ts rest : List Placed} {why : Why} → joint_here l ts ≡ Some j → Follows d w (AnExpr (More l left)) (token 1 (sign (joint_sign j)) (λ t. part 1 w (AnExpr (operand l)) (λ right. part 1 w (AnExpr (More l (joined j t.pos left right))) give))) ts (Stop why rest) → Goes d w (AnExpr (More l left)) ts (Stop why rest)
-joint_stop {d} {w} {l} {j} {left} {ts} e g =
+pub joint_stop : {d : ℕ} {w : Scene} {l : parts.Level} {j : parts.Joint} {left : ExprTree} {ts : List Placed} {f : Fault} → joint_here l ts ≡ Some j → ReadsBehind d w (joint_sign j) (operand l) ts (Err f) → Halts (λ why rest. Goes d w (AnExpr (More l left)) ts (Stop why rest)) f
+joint_stop {d} {w} {l} {j} {left} {ts} {f} e r =
     let m : MoreTells w l left ts (Some j) = more_is w l left ts e in
-    by (expr_rule (exprs.run_more j m.0)) refl m.1 g
+    halts (stall (r (AnExpr (More l left)) (λ at right. part 1 w (AnExpr (More l (joined j at left right))) give))) (λ why rest g. by (expr_rule (exprs.run_more j m.0)) refl m.1 g)
+
+-- the name of a member
+pub member_at : {d : ℕ} {w : Scene} {p : Part} (k : Pos → List ℕ → Process (Value p)) {at : Pos} {a b : List ℕ} {ts : List Placed} {o : Outcome (Value p)} → a ≡ b → Follows d w p (k at a) ts o → Follows d w p (k at b) ts o
+member_at {d} {w} {p} k {at} {a} {b} {ts} {o} e f = subst (λ v. Follows d w p (k at v) ts o) e f
 
 pub and_left : (a b : Bool) → (a && b) ≡ true → a ≡ true
 and_left true b e = refl

@@ -9,6 +9,7 @@ ghost use Rattle.c_grammar.specs.Made.{is_given};
 ghost use Rattle.c_grammar.specs.Choice.{is_const_word};
 ghost use Rattle.c_grammar.specs.Refused.{first_is, may_omit};
 ghost use Rattle.c_descent.specs.Answers.{Answers, Consts, DeclaratorStarts, DirectStarts, Extends, SizeIsMissing, TailStarts};
+ghost use Rattle.c_exprs.specs.Readers.{ReadsSize};
 ghost use Rattle.c_descent.specs.Kinds.{direct_at, is_no_tail, tail_at};
 ghost use Rattle.c_descent.specs.Views.{role_view, scene_of};
 
@@ -20,7 +21,7 @@ use c_descent::{
     one_param, open_array_declarator, param_of, params_ahead, plain_word_ahead, pointer_declarator,
     push_param, refused, tail_at, taken, type_name_ahead,
 };
-use c_written::{Construct, Declarator, Keyword, Param, Placed, Pos, Punctuator};
+use c_written::{Construct, Declarator, Expr, Keyword, Param, Placed, Pos, Punctuator};
 
 /// A declarator, or an abstract one.
 #[cycle(descent)]
@@ -263,11 +264,25 @@ fn size<'a>(
         }
         return no_size(context, role, count, at, inner, tokens);
     }
+    let (value, rest) = given_size(context, count, tokens)?;
+    let whole = array_declarator(context.alloc, at, inner, value)?;
+    Ok((whole, rest))
+}
+
+/// A size, and the bracket that closes.
+#[cycle(descent)]
+fn given_size<'a>(
+    context: &Context<'_>,
+    count: u32,
+    tokens: &'a [Placed],
+) -> Result<(Expr, &'a [Placed]), Fault<'a>>
+    ensures goes { ReadsSize count (scene_of context.now) tokens.now result }
+    ensures shorter { IfOk result (λ x. length x.1.now < length tokens.now) }
+{
     let closes = Class::Sign(Punctuator::RightBracket);
     let (value, rest) = conditional(context, count, tokens)?;
     let (_close, rest) = taken(context, count, 0, closes, rest)?;
-    let whole = array_declarator(context.alloc, at, inner, value)?;
-    Ok((whole, rest))
+    Ok((value, rest))
 }
 
 /// The bracket that closes, where there is no size.

@@ -10,6 +10,7 @@ ghost use Rattle.c_grammar.specs.Parts as part;
 ghost use Rattle.c_descent.specs.Answers.{Answers, CallComes, Steps, SuffixComes};
 ghost use Rattle.c_grammar.specs.Descent.{Goes};
 ghost use Rattle.c_grammar.specs.Refused.{first_is};
+ghost use Rattle.c_exprs.specs.Readers.{ReadsBehind, ReadsBracketed, ReadsChoices, ReadsMember};
 ghost use Rattle.c_descent.specs.Kinds.{assign_at, is_no_suffix, prefix_at, primary_at, suffix_at};
 ghost use Rattle.c_descent.specs.Views.{level_view, scene_of};
 
@@ -24,7 +25,7 @@ use c_descent::{
     type_ahead, unary_expr, unary_sign, word,
 };
 use c_written::{
-    AssignOp, Construct, Expr, Exprs, Keyword, Placed, Pos, Punctuator, StepWay, UnaryOp,
+    AssignOp, Construct, Expr, Exprs, Keyword, Name, Placed, Pos, Punctuator, StepWay, UnaryOp,
 };
 
 /// Operands of a level, and joints between them.
@@ -85,14 +86,30 @@ fn more<'a>(
     let mut rest = tokens;
     let mut depth = count;
     'joints: while let Some(joint) = joint_at(level, rest) {
-        let sign = Class::Sign(joint_sign(joint));
-        let (at, behind) = taken(context, depth, 1, sign, rest)?;
-        let (right, after) = operand(context, level, depth + 1, behind)?;
-        left = joined(context.alloc, joint, at.pos, left, right)?;
+        let ((at, right), after) = right_side(context, level, depth, joint_sign(joint), rest)?;
+        left = joined(context.alloc, joint, at, left, right)?;
         rest = after;
         depth += 1;
     }
     Ok((left, rest))
+}
+
+/// A sign, and the operand of the level behind it.
+#[cycle(descent)]
+fn right_side<'a>(
+    context: &Context<'_>,
+    level: Level,
+    count: u32,
+    sign: Punctuator,
+    tokens: &'a [Placed],
+) -> Result<((Pos, Expr), &'a [Placed]), Fault<'a>>
+    ensures goes { ReadsBehind count (scene_of context.now) sign (operand (level_view level)) tokens.now result }
+    ensures within { IfOk result (λ _. count + 1 ≤ 200) }
+    ensures shorter { IfOk result (λ x. length x.1.now < length tokens.now) }
+{
+    let (at, behind) = taken(context, count, 1, Class::Sign(sign), tokens)?;
+    let (right, rest) = operand(context, level, count + 1, behind)?;
+    Ok(((at.pos, right), rest))
 }
 
 /// An assignment, or a conditional alone.
@@ -140,9 +157,9 @@ fn plain_assigned<'a>(
     ensures goes { Answers count (scene_of context.now) (part.AnExpr (part.Assigned (expr_tree left))) tokens.now (λ e. expr_tree e) result }
     ensures shorter { IfOk result (λ x. length x.1.now ≤ length tokens.now) }
 {
-    let (at, behind) = taken(context, count, 1, Class::Sign(Punctuator::Assign), tokens)?;
-    let (right, rest) = assignment(context, count + 1, behind)?;
-    let whole = assign_expr(context.alloc, at.pos, left, right)?;
+    let sign = Punctuator::Assign;
+    let ((at, right), rest) = right_side(context, Level::Commas, count, sign, tokens)?;
+    let whole = assign_expr(context.alloc, at, left, right)?;
     Ok((whole, rest))
 }
 
@@ -159,10 +176,8 @@ fn compound_assigned<'a>(
     ensures goes { Answers count (scene_of context.now) (part.AnExpr (part.Assigned (expr_tree left))) tokens.now (λ e. expr_tree e) result }
     ensures shorter { IfOk result (λ x. length x.1.now ≤ length tokens.now) }
 {
-    let sign = Class::Sign(assign_sign(op));
-    let (at, after) = taken(context, count, 1, sign, tokens)?;
-    let (right, rest) = assignment(context, count + 1, after)?;
-    let whole = compound_expr(context.alloc, at.pos, op, left, right)?;
+    let ((at, right), rest) = right_side(context, Level::Commas, count, assign_sign(op), tokens)?;
+    let whole = compound_expr(context.alloc, at, op, left, right)?;
     Ok((whole, rest))
 }
 
@@ -195,13 +210,27 @@ fn chosen<'a>(
     if !comes(Mark::Question, tokens) {
         return Ok((condition, tokens));
     }
+    let ((at, then, otherwise), rest) = choices(context, count, tokens)?;
+    let whole = cond_expr(context.alloc, at, condition, then, otherwise)?;
+    Ok((whole, rest))
+}
+
+/// `?`, what is chosen where the condition holds, and what is chosen otherwise.
+#[cycle(descent)]
+fn choices<'a>(
+    context: &Context<'_>,
+    count: u32,
+    tokens: &'a [Placed],
+) -> Result<((Pos, Expr, Expr), &'a [Placed]), Fault<'a>>
+    ensures goes { ReadsChoices count (scene_of context.now) tokens.now result }
+    ensures shorter { IfOk result (λ x. length x.1.now < length tokens.now) }
+{
     let question = Class::Sign(Punctuator::Question);
     let (at, behind) = taken(context, count, 1, question, tokens)?;
     let (then, rest) = run(context, Level::Commas, count + 1, behind)?;
     let (_colon, behind) = taken(context, count, 1, Class::Sign(Punctuator::Colon), rest)?;
     let (otherwise, rest) = conditional(context, count + 1, behind)?;
-    let whole = cond_expr(context.alloc, at.pos, condition, then, otherwise)?;
-    Ok((whole, rest))
+    Ok(((at.pos, then, otherwise), rest))
 }
 
 /// A cast, or a unary expression.
@@ -473,13 +502,28 @@ fn index<'a>(
     ensures within { IfOk result (λ _. count + 1 ≤ 200) }
     ensures shorter { IfOk result (λ x. length x.1.now < length tokens.now) }
 {
+    let ((at, place), rest) = bracketed(context, count, tokens)?;
+    let whole = index_expr(context.alloc, at, base, place)?;
+    Ok((whole, rest))
+}
+
+/// The brackets of an index, and what stands between them.
+#[cycle(descent)]
+fn bracketed<'a>(
+    context: &Context<'_>,
+    count: u32,
+    tokens: &'a [Placed],
+) -> Result<((Pos, Expr), &'a [Placed]), Fault<'a>>
+    ensures goes { ReadsBracketed count (scene_of context.now) tokens.now result }
+    ensures within { IfOk result (λ _. count + 1 ≤ 200) }
+    ensures shorter { IfOk result (λ x. length x.1.now < length tokens.now) }
+{
     let opens = Class::Sign(Punctuator::LeftBracket);
     let closes = Class::Sign(Punctuator::RightBracket);
     let (at, behind) = taken(context, count, 2, opens, tokens)?;
-    let (index, rest) = run(context, Level::Commas, count + 2, behind)?;
+    let (place, rest) = run(context, Level::Commas, count + 2, behind)?;
     let (_close, rest) = taken(context, count, 1, closes, rest)?;
-    let whole = index_expr(context.alloc, at.pos, base, index)?;
-    Ok((whole, rest))
+    Ok(((at.pos, place), rest))
 }
 
 /// The arguments of a call.
@@ -518,11 +562,8 @@ fn dot<'a>(
     ensures within { IfOk result (λ _. count + 1 ≤ 200) }
     ensures shorter { IfOk result (λ x. length x.1.now < length tokens.now) }
 {
-    let sign = Class::Sign(Punctuator::Dot);
-    let (at, behind) = taken(context, count, 1, sign, tokens)?;
-    let (word, rest) = taken(context, count, 1, Class::AnyWord, behind)?;
-    let member = name_of(context.alloc, &word.token)?;
-    let whole = dot_expr(context.alloc, at.pos, base, member)?;
+    let ((at, name), rest) = member(context, count, Punctuator::Dot, tokens)?;
+    let whole = dot_expr(context.alloc, at, base, name)?;
     Ok((whole, rest))
 }
 
@@ -538,12 +579,26 @@ fn arrow<'a>(
     ensures within { IfOk result (λ _. count + 1 ≤ 200) }
     ensures shorter { IfOk result (λ x. length x.1.now < length tokens.now) }
 {
-    let sign = Class::Sign(Punctuator::Arrow);
-    let (at, behind) = taken(context, count, 1, sign, tokens)?;
-    let (word, rest) = taken(context, count, 1, Class::AnyWord, behind)?;
-    let member = name_of(context.alloc, &word.token)?;
-    let whole = arrow_expr(context.alloc, at.pos, base, member)?;
+    let ((at, name), rest) = member(context, count, Punctuator::Arrow, tokens)?;
+    let whole = arrow_expr(context.alloc, at, base, name)?;
     Ok((whole, rest))
+}
+
+/// A sign, and the name of the member behind it.
+fn member<'a>(
+    context: &Context<'_>,
+    count: u32,
+    sign: Punctuator,
+    tokens: &'a [Placed],
+) -> Result<((Pos, Name), &'a [Placed]), Fault<'a>>
+    ensures goes { ReadsMember count (scene_of context.now) sign tokens.now result }
+    ensures within { IfOk result (λ _. count + 1 ≤ 200) }
+    ensures shorter { IfOk result (λ x. length x.1.now < length tokens.now) }
+{
+    let (at, behind) = taken(context, count, 1, Class::Sign(sign), tokens)?;
+    let (word, rest) = taken(context, count, 1, Class::AnyWord, behind)?;
+    let name = name_of(context.alloc, &word.token)?;
+    Ok(((at.pos, name), rest))
 }
 
 /// `++` or `--` behind an expression.

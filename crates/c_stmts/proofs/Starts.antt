@@ -1,7 +1,6 @@
 -- Which production the descent takes where the first token is known.
-use Rattle.std.proofs.Common.{◌≡◌, ℕ, Bool, true, false, List, [], ◌∷◌, refl, sym, ap, ◌∙◌, subst}
-use Rattle.std.specs.Prelude.{if◌then◌else◌, Option, Some, None}
-use Rattle.c_written.specs.declared.construct.Construct.{Construct}
+use Rattle.std.proofs.Common.{◌≡◌, ℕ, Bool, true, false, List, [], ◌∷◌, refl, ap, ◌∙◌}
+use Rattle.std.specs.Prelude.{Option, Some}
 use Rattle.c_written.specs.declared.token.Placed.{Placed}
 use Rattle.c_written.specs.declared.token.Keyword.{Keyword}
 use Rattle.c_written.specs.declared.token.Keyword.TheVariants as keywords
@@ -9,14 +8,14 @@ use Rattle.c_written.specs.declared.token.Punctuator.{Punctuator}
 use Rattle.c_written.specs.declared.token.Punctuator.TheVariants as signs
 use Rattle.c_written.specs.declared.token.Token.{Token}
 use Rattle.c_written.specs.declared.token.Token.TheVariants as kinds
-use Rattle.c_grammar.specs.Parts.{Scene, Part, AStmt, Statement, Value}
+use Rattle.c_grammar.specs.Parts.{Scene, AStmt, Statement, Value}
 use Rattle.c_grammar.specs.Process.{Process}
 use Rattle.c_grammar.specs.Grammar.{Produces, file_rule}
 use Rattle.c_grammar.specs.FileRules as files
 use Rattle.c_grammar.specs.Ahead.{label_ahead}
-use Rattle.c_grammar.specs.Refused.{begins_designator, first_is, is_brace, where_true}
+use Rattle.c_grammar.specs.Refused.{begins_designator, first_is, is_brace}
 use Rattle.c_grammar.specs.Choice.{ARule, this, choose, statement_choice, statement_word_choice}
-use Rattle.c_grammar.specs.Descent.{Outcome, Goes}
+use Rattle.c_grammar.specs.Descent.{Goes}
 use Rattle.c_descent.proofs.Steps.{if_false, if_true}
 use Rattle.c_stmts.specs.declared.stmt_kind.StatementKind.{StatementKind}
 use Rattle.c_stmts.specs.declared.stmt_kind.StatementKind.TheVariants as statements

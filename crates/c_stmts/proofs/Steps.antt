@@ -1,6 +1,6 @@
 -- From what a callee answered to what its caller answers: a way through a production, token by token and part
 -- by part.
-use Rattle.std.proofs.Common.{◌≡◌, ℕ, ◌+◌, List, [], ◌∷◌, ◌++◌, refl, sym, ap, ◌∙◌, subst, Bor, arith}
+use Rattle.std.proofs.Common.{◌≡◌, ℕ, ◌+◌, List, [], ◌∷◌, ◌++◌, sym, subst, Bor, arith}
 use Rattle.std.specs.Prelude.{Bool, true, Option, Some, None, Result, Ok, Err, IsErrAnd, option_map}
 use Rattle.c_written.specs.declared.construct.Construct.{Construct}
 use Rattle.c_written.specs.declared.token.Placed.{Placed}
@@ -19,7 +19,7 @@ use Rattle.c_grammar.specs.Choice.{choose}
 use Rattle.c_grammar.specs.Descent.{Outcome, Done, Stop, barred, Goes, Follows, is_barred, by_rule, is_done, goes_on, stops, passes}
 use Rattle.c_descent.specs.declared.fault.Fault.{Fault}
 use Rattle.c_descent.specs.declared.fault.Fault.TheVariants as faults
-use Rattle.c_descent.specs.Answers.{IsStop, Halts, no_memory, syntax, unsupported, too_deep, Gives, given, halted, Takes, taken, refused, Steps, stepped, stalled}
+use Rattle.c_descent.specs.Answers.{IsStop, Halts, no_memory, syntax, unsupported, too_deep, Gives, given, halted, Takes, taken, refused, Steps}
 use Rattle.c_descent.proofs.Steps.{stall, step}
 use Rattle.c_stmts.specs.Answers.{Initialised}
 use Rattle.c_stmts.specs.declared.stmt_leaf.ForHead.{ForHead}

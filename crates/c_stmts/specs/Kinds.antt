@@ -1,5 +1,5 @@
 -- What kind of statement comes, and how its head is read.
-use Rattle.std.specs.Prelude.{◌≡◌, ℕ, Bool, true, false, List, [], ◌∷◌, option_map, Result, Ok, Err}
+use Rattle.std.specs.Prelude.{◌≡◌, ℕ, Bool, false, List, [], ◌∷◌, option_map, Result, Ok, Err}
 use Rattle.std.specs.declared.alloc.Global.{Global}
 use Rattle.std.specs.declared.boxed.Box.{Box}
 use Rattle.std.proofs.Common.{Bor}
@@ -18,7 +18,6 @@ use Rattle.c_grammar.specs.Ahead.{label_ahead}
 use Rattle.c_grammar.specs.Classes.{sign}
 use Rattle.c_grammar.specs.Process.{Process, give, token, part}
 use Rattle.c_grammar.specs.ExprRules.{Expression}
-use Rattle.c_grammar.specs.Refused.{Why}
 use Rattle.c_grammar.specs.Descent.{Outcome, Stop, Goes, Follows}
 use Rattle.c_descent.specs.declared.fault.Fault.{Fault}
 use Rattle.c_descent.specs.Answers.{Halts, Steps}

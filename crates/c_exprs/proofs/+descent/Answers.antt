@@ -1,18 +1,19 @@
 -- How the functions of the cycle read their parts.
 use Rattle.std.proofs.Common.{refl, sym, ap, ◌∙◌, not, arith}
 use Rattle.c_written.specs.Written as trees
-use Rattle.c_written.specs.Written.{expr_tree, exprs_from, exprs_tree}
+use Rattle.c_written.specs.Written.{declarator_tree, expr_tree, exprs_from, exprs_tree}
 use Rattle.c_written.proofs.WrittenTrees.{expr_word, expr_call, spec_struct, spec_struct_body, spec_enum, spec_enum_body, enumerator_plain}
 use Rattle.c_grammar.specs.Parts as part
+use Rattle.c_grammar.specs.Process as process
 use Rattle.c_grammar.specs.Grammar.{expr_rule, type_rule}
 use Rattle.c_grammar.specs.ExprRules as rule
 use Rattle.c_grammar.specs.TypeRules as kind
 use Rattle.c_grammar.specs.Descent.{goes_on, stops, is_done, is_barred, no_rule, passes, fails}
-use Rattle.c_descent.specs.Views.{scene_of, level_view}
+use Rattle.c_descent.specs.Views.{scene_of, level_view, role_view}
 use Rattle.c_descent.specs.Answers.{given, halted, stepped}
 use Rattle.c_descent.proofs.Steps.{halts, failed, starved, stalls, starves, answer, halt, take, refuse, step, stall, stopped, by, here, stops_here, done, if_true, if_false, borne, unborne, sign_is}
 use Rattle.c_descent.proofs.Choices.{primary_is, prefix_is, suffix_is, assign_is, more_is}
-use Rattle.c_exprs.proofs.ExprSteps.{operand_at, not_question, is_question_ahead, suffix_free, tail_expr, suffixes_at, joint_step, joint_stop, argument_step, arguments_at, and_left, nothing_of, call_by, no_other, no_joint}
+use Rattle.c_exprs.proofs.ExprSteps.{operand_at, not_question, is_question_ahead, suffix_free, tail_expr, suffixes_at, behind_sign, joint_step, joint_stop, argument_step, arguments_at, and_left, nothing_of, call_by, no_other, no_joint}
 use Rattle.c_grammar.specs.Made.{function_of}
 use Rattle.c_descent.proofs.TypeSteps.{spec_is, structure_is, enumeration_is, specs_at, members_at, declarators_at, enumerators_at, structure_tagged_at, enumeration_tagged_at, value_at, again_is, spec_step, member_step, declarator_step, next_step, enumerator_step, carried, one_type, more_type}
 use Rattle.c_exprs.proofs.DeclaratorSteps.{direct_is, tail_is, no_tail, tails_at, tails_named, tails_absent, parameters_at, tail_declarator, parameter_step, both_true, first_false}
@@ -73,28 +74,22 @@ pub exprs::assigned-returns-in-Nothing-clause-goes : goal.exprs::assigned-return
 exprs::assigned-returns-in-Nothing-clause-goes t c = given (by (expr_rule rule.not_assigned) refl (assign_is (scene_of c.args.context.now) (expr_tree c.args.left) c.args.tokens.now (sym c.in-Nothing.ensures)) is_done)
 
 pub exprs::plain_assigned-returns-in_err-at-clause-goes : goal.exprs::plain_assigned-returns-in_err-at-clause-goes
-exprs::plain_assigned-returns-in_err-at-clause-goes t c = failed c.from_residual.ensures.1 (halts (refuse c.in_err-at.ensures.goes) (λ why rest g. by (expr_rule rule.assigned) (refl) (assign_is (scene_of c.args.context.now) (expr_tree c.args.left) c.args.tokens.now c.requires) (g _ _)))
-
-pub exprs::plain_assigned-returns-in_err-right-clause-goes : goal.exprs::plain_assigned-returns-in_err-right-clause-goes
-exprs::plain_assigned-returns-in_err-right-clause-goes t c = failed c.from_residual-in_err-right.ensures.1 (halts (halt c.in_err-right.ensures.goes) (λ why rest g. by (expr_rule rule.assigned) (refl) (assign_is (scene_of c.args.context.now) (expr_tree c.args.left) c.args.tokens.now c.requires) (take c.in_ok-at.ensures.goes (stops g))))
+exprs::plain_assigned-returns-in_err-at-clause-goes t c = failed c.from_residual.ensures.1 (halts (stall (c.in_err-at.ensures.goes (part.AnExpr (part.Assigned (expr_tree c.args.left))) (λ at right. process.give (trees.Assign at (expr_tree c.args.left) right)))) (λ why rest g. by (expr_rule rule.assigned) refl (assign_is (scene_of c.args.context.now) (expr_tree c.args.left) c.args.tokens.now c.requires) g))
 
 pub exprs::plain_assigned-returns-in_err-whole-clause-goes : goal.exprs::plain_assigned-returns-in_err-whole-clause-goes
 exprs::plain_assigned-returns-in_err-whole-clause-goes t c = starved c.from_residual-in_err-whole.ensures.1
 
 pub exprs::plain_assigned-returns-clause-goes : goal.exprs::plain_assigned-returns-clause-goes
-exprs::plain_assigned-returns-clause-goes t c = given (by (expr_rule rule.assigned) (refl) (assign_is (scene_of c.args.context.now) (expr_tree c.args.left) c.args.tokens.now c.requires) (take c.in_ok-at.ensures.goes (goes_on (answer c.in_ok-right.ensures.goes) (done c.in_ok-whole.ensures))))
+exprs::plain_assigned-returns-clause-goes t c = given (by (expr_rule rule.assigned) refl (assign_is (scene_of c.args.context.now) (expr_tree c.args.left) c.args.tokens.now c.requires) (step (c.in_ok-at.ensures.goes (part.AnExpr (part.Assigned (expr_tree c.args.left))) (λ at right. process.give (trees.Assign at (expr_tree c.args.left) right))) _ (done c.in_ok-whole.ensures)))
 
 pub exprs::compound_assigned-returns-in_err-at-clause-goes : goal.exprs::compound_assigned-returns-in_err-at-clause-goes
-exprs::compound_assigned-returns-in_err-at-clause-goes t c = failed c.from_residual.ensures.1 (halts (refuse (sign_is c.assign_sign.ensures c.in_err-at.ensures.goes)) (λ why rest g. by (expr_rule (rule.compound c.args.op)) (refl) (assign_is (scene_of c.args.context.now) (expr_tree c.args.left) c.args.tokens.now c.requires) (g _ _)))
-
-pub exprs::compound_assigned-returns-in_err-right-clause-goes : goal.exprs::compound_assigned-returns-in_err-right-clause-goes
-exprs::compound_assigned-returns-in_err-right-clause-goes t c = failed c.from_residual-in_err-right.ensures.1 (halts (halt c.in_err-right.ensures.goes) (λ why rest g. by (expr_rule (rule.compound c.args.op)) (refl) (assign_is (scene_of c.args.context.now) (expr_tree c.args.left) c.args.tokens.now c.requires) (take (sign_is c.assign_sign.ensures c.in_ok-at.ensures.goes) (stops g))))
+exprs::compound_assigned-returns-in_err-at-clause-goes t c = failed c.from_residual.ensures.1 (halts (stall (behind_sign c.assign_sign.ensures c.in_err-at.ensures.goes (part.AnExpr (part.Assigned (expr_tree c.args.left))) (λ at right. process.give (trees.Compound at c.args.op (expr_tree c.args.left) right)))) (λ why rest g. by (expr_rule (rule.compound c.args.op)) refl (assign_is (scene_of c.args.context.now) (expr_tree c.args.left) c.args.tokens.now c.requires) g))
 
 pub exprs::compound_assigned-returns-in_err-whole-clause-goes : goal.exprs::compound_assigned-returns-in_err-whole-clause-goes
 exprs::compound_assigned-returns-in_err-whole-clause-goes t c = starved c.from_residual-in_err-whole.ensures.1
 
 pub exprs::compound_assigned-returns-clause-goes : goal.exprs::compound_assigned-returns-clause-goes
-exprs::compound_assigned-returns-clause-goes t c = given (by (expr_rule (rule.compound c.args.op)) (refl) (assign_is (scene_of c.args.context.now) (expr_tree c.args.left) c.args.tokens.now c.requires) (take (sign_is c.assign_sign.ensures c.in_ok-at.ensures.goes) (goes_on (answer c.in_ok-right.ensures.goes) (done c.in_ok-whole.ensures))))
+exprs::compound_assigned-returns-clause-goes t c = given (by (expr_rule (rule.compound c.args.op)) refl (assign_is (scene_of c.args.context.now) (expr_tree c.args.left) c.args.tokens.now c.requires) (step (behind_sign c.assign_sign.ensures c.in_ok-at.ensures.goes (part.AnExpr (part.Assigned (expr_tree c.args.left))) (λ at right. process.give (trees.Compound at c.args.op (expr_tree c.args.left) right))) _ (done c.in_ok-whole.ensures)))
 
 pub exprs::conditional-returns-in_err-condition-clause-goes : goal.exprs::conditional-returns-in_err-condition-clause-goes
 exprs::conditional-returns-in_err-condition-clause-goes t c = failed c.from_residual.ensures.1 (halts (halt c.in_err-condition.ensures.goes) (λ why rest g. by (expr_rule rule.conditional) (refl) (refl) (stops_here g)))
@@ -109,22 +104,28 @@ pub exprs::chosen-returns-then-not-comes-clause-goes : goal.exprs::chosen-return
 exprs::chosen-returns-then-not-comes-clause-goes t c = given (by (expr_rule rule.not_chosen) refl (not_question (scene_of c.args.context.now) (expr_tree c.args.condition) c.args.tokens.now (sym c.if-not-comes.ensures)) is_done)
 
 pub exprs::chosen-returns-in_err-at-clause-goes : goal.exprs::chosen-returns-in_err-at-clause-goes
-exprs::chosen-returns-in_err-at-clause-goes t c = failed c.from_residual.ensures.1 (halts (refuse c.in_err-at.ensures.goes) (λ why rest g. by (expr_rule rule.chosen) (refl) (is_question_ahead (scene_of c.args.context.now) (expr_tree c.args.condition) c.args.tokens.now (sym c.if-not-comes.ensures)) (g _ _)))
-
-pub exprs::chosen-returns-in_err-then-clause-goes : goal.exprs::chosen-returns-in_err-then-clause-goes
-exprs::chosen-returns-in_err-then-clause-goes t c = failed c.from_residual-in_err-then.ensures.1 (halts (halt c.in_err-then.ensures.goes) (λ why rest g. by (expr_rule rule.chosen) (refl) (is_question_ahead (scene_of c.args.context.now) (expr_tree c.args.condition) c.args.tokens.now (sym c.if-not-comes.ensures)) (take c.in_ok-at.ensures.goes (stops g))))
-
-pub exprs::chosen-returns-in_err-_colon-clause-goes : goal.exprs::chosen-returns-in_err-_colon-clause-goes
-exprs::chosen-returns-in_err-_colon-clause-goes t c = failed c.from_residual-in_err-_colon.ensures.1 (halts (refuse c.in_err-_colon.ensures.goes) (λ why rest g. by (expr_rule rule.chosen) (refl) (is_question_ahead (scene_of c.args.context.now) (expr_tree c.args.condition) c.args.tokens.now (sym c.if-not-comes.ensures)) (take c.in_ok-at.ensures.goes (goes_on (answer c.in_ok-then.ensures.goes) (g _ _)))))
-
-pub exprs::chosen-returns-in_err-otherwise-clause-goes : goal.exprs::chosen-returns-in_err-otherwise-clause-goes
-exprs::chosen-returns-in_err-otherwise-clause-goes t c = failed c.from_residual-in_err-otherwise.ensures.1 (halts (halt c.in_err-otherwise.ensures.goes) (λ why rest g. by (expr_rule rule.chosen) (refl) (is_question_ahead (scene_of c.args.context.now) (expr_tree c.args.condition) c.args.tokens.now (sym c.if-not-comes.ensures)) (take c.in_ok-at.ensures.goes (goes_on (answer c.in_ok-then.ensures.goes) (take c.in_ok-_colon.ensures.goes (stops g))))))
+exprs::chosen-returns-in_err-at-clause-goes t c = failed c.from_residual.ensures.1 (halts (stall (c.in_err-at.ensures.goes (part.AnExpr (part.Chosen (expr_tree c.args.condition))) (λ at first second. process.give (trees.Cond at (expr_tree c.args.condition) first second)))) (λ why rest g. by (expr_rule rule.chosen) refl (is_question_ahead (scene_of c.args.context.now) (expr_tree c.args.condition) c.args.tokens.now (sym c.if-not-comes.ensures)) g))
 
 pub exprs::chosen-returns-in_err-whole-clause-goes : goal.exprs::chosen-returns-in_err-whole-clause-goes
 exprs::chosen-returns-in_err-whole-clause-goes t c = starved c.from_residual-in_err-whole.ensures.1
 
 pub exprs::chosen-returns-clause-goes : goal.exprs::chosen-returns-clause-goes
-exprs::chosen-returns-clause-goes t c = given (by (expr_rule rule.chosen) (refl) (is_question_ahead (scene_of c.args.context.now) (expr_tree c.args.condition) c.args.tokens.now (sym c.if-not-comes.ensures)) (take c.in_ok-at.ensures.goes (goes_on (answer c.in_ok-then.ensures.goes) (take c.in_ok-_colon.ensures.goes (goes_on (answer c.in_ok-otherwise.ensures.goes) (done c.in_ok-whole.ensures))))))
+exprs::chosen-returns-clause-goes t c = given (by (expr_rule rule.chosen) refl (is_question_ahead (scene_of c.args.context.now) (expr_tree c.args.condition) c.args.tokens.now (sym c.if-not-comes.ensures)) (step (c.in_ok-at.ensures.goes (part.AnExpr (part.Chosen (expr_tree c.args.condition))) (λ at first second. process.give (trees.Cond at (expr_tree c.args.condition) first second))) _ (done c.in_ok-whole.ensures)))
+
+pub exprs::choices-returns-in_err-at-clause-goes : goal.exprs::choices-returns-in_err-at-clause-goes
+exprs::choices-returns-in_err-at-clause-goes t c = λ p k. stalls c.from_residual.ensures.1 (halts (refuse c.in_err-at.ensures.goes) (λ why rest g. g _ _))
+
+pub exprs::choices-returns-in_err-then-clause-goes : goal.exprs::choices-returns-in_err-then-clause-goes
+exprs::choices-returns-in_err-then-clause-goes t c = λ p k. stalls c.from_residual-in_err-then.ensures.1 (halts (halt c.in_err-then.ensures.goes) (λ why rest g. take c.in_ok-at.ensures.goes (stops g)))
+
+pub exprs::choices-returns-in_err-_colon-clause-goes : goal.exprs::choices-returns-in_err-_colon-clause-goes
+exprs::choices-returns-in_err-_colon-clause-goes t c = λ p k. stalls c.from_residual-in_err-_colon.ensures.1 (halts (refuse c.in_err-_colon.ensures.goes) (λ why rest g. take c.in_ok-at.ensures.goes (goes_on (answer c.in_ok-then.ensures.goes) (g _ _))))
+
+pub exprs::choices-returns-in_err-otherwise-clause-goes : goal.exprs::choices-returns-in_err-otherwise-clause-goes
+exprs::choices-returns-in_err-otherwise-clause-goes t c = λ p k. stalls c.from_residual-in_err-otherwise.ensures.1 (halts (halt c.in_err-otherwise.ensures.goes) (λ why rest g. take c.in_ok-at.ensures.goes (goes_on (answer c.in_ok-then.ensures.goes) (take c.in_ok-_colon.ensures.goes (stops g)))))
+
+pub exprs::choices-returns-clause-goes : goal.exprs::choices-returns-clause-goes
+exprs::choices-returns-clause-goes t c = λ p k. stepped (λ o h. take c.in_ok-at.ensures.goes (goes_on (answer c.in_ok-then.ensures.goes) (take c.in_ok-_colon.ensures.goes (goes_on (answer c.in_ok-otherwise.ensures.goes) h))))
 
 pub exprs::cast_form-returns-in_err-at-clause-goes : goal.exprs::cast_form-returns-in_err-at-clause-goes
 exprs::cast_form-returns-in_err-at-clause-goes t c = failed c.from_residual.ensures.1 (halts (refuse c.in_err-at.ensures.goes) (λ why rest g. by (expr_rule rule.cast) (refl) (if_true _ c.requires) (passes (c.requires) (g _ _))))
@@ -250,19 +251,25 @@ pub exprs::primary-returns-in-Neither-clause-goes : goal.exprs::primary-returns-
 exprs::primary-returns-in-Neither-clause-goes t c = halted (stopped c.refused.ensures (no_rule refl (primary_is (scene_of c.args.context.now) c.args.tokens.now (sym c.in-Neither.ensures))))
 
 pub exprs::index-returns-in_err-at-clause-goes : goal.exprs::index-returns-in_err-at-clause-goes
-exprs::index-returns-in_err-at-clause-goes t c = stalls c.from_residual.ensures.1 (halts (refuse c.in_err-at.ensures.goes) (λ why rest g. by (expr_rule rule.index) (suffix_free (scene_of c.args.context.now) (expr_tree c.args.base) c.args.tokens.now (suffix_is (scene_of c.args.context.now) (expr_tree c.args.base) c.args.tokens.now c.requires).1) ((suffix_is (scene_of c.args.context.now) (expr_tree c.args.base) c.args.tokens.now c.requires).0) (g _ _)))
-
-pub exprs::index-returns-in_err-index-clause-goes : goal.exprs::index-returns-in_err-index-clause-goes
-exprs::index-returns-in_err-index-clause-goes t c = stalls c.from_residual-in_err-index.ensures.1 (halts (halt c.in_err-index.ensures.goes) (λ why rest g. by (expr_rule rule.index) (suffix_free (scene_of c.args.context.now) (expr_tree c.args.base) c.args.tokens.now (suffix_is (scene_of c.args.context.now) (expr_tree c.args.base) c.args.tokens.now c.requires).1) ((suffix_is (scene_of c.args.context.now) (expr_tree c.args.base) c.args.tokens.now c.requires).0) (take c.in_ok-at.ensures.goes (stops g))))
-
-pub exprs::index-returns-in_err-_close-clause-goes : goal.exprs::index-returns-in_err-_close-clause-goes
-exprs::index-returns-in_err-_close-clause-goes t c = stalls c.from_residual-in_err-_close.ensures.1 (halts (refuse c.in_err-_close.ensures.goes) (λ why rest g. by (expr_rule rule.index) (suffix_free (scene_of c.args.context.now) (expr_tree c.args.base) c.args.tokens.now (suffix_is (scene_of c.args.context.now) (expr_tree c.args.base) c.args.tokens.now c.requires).1) ((suffix_is (scene_of c.args.context.now) (expr_tree c.args.base) c.args.tokens.now c.requires).0) (take c.in_ok-at.ensures.goes (goes_on (answer c.in_ok-index.ensures.goes) (g _ _)))))
+exprs::index-returns-in_err-at-clause-goes t c = stalls c.from_residual.ensures.1 (halts (stall (c.in_err-at.ensures.goes (part.AnExpr (part.Suffixes (expr_tree c.args.base))) (λ at place. process.part 1 (scene_of c.args.context.now) (part.AnExpr (part.Suffixes (trees.Index at (expr_tree c.args.base) place))) process.give))) (λ why rest g. by (expr_rule rule.index) (suffix_free (scene_of c.args.context.now) (expr_tree c.args.base) c.args.tokens.now (suffix_is (scene_of c.args.context.now) (expr_tree c.args.base) c.args.tokens.now c.requires).1) ((suffix_is (scene_of c.args.context.now) (expr_tree c.args.base) c.args.tokens.now c.requires).0) g))
 
 pub exprs::index-returns-in_err-whole-clause-goes : goal.exprs::index-returns-in_err-whole-clause-goes
 exprs::index-returns-in_err-whole-clause-goes t c = starves c.from_residual-in_err-whole.ensures.1
 
 pub exprs::index-returns-clause-goes : goal.exprs::index-returns-clause-goes
-exprs::index-returns-clause-goes t c = stepped (λ o h. by (expr_rule rule.index) (suffix_free (scene_of c.args.context.now) (expr_tree c.args.base) c.args.tokens.now (suffix_is (scene_of c.args.context.now) (expr_tree c.args.base) c.args.tokens.now c.requires).1) ((suffix_is (scene_of c.args.context.now) (expr_tree c.args.base) c.args.tokens.now c.requires).0) (take c.in_ok-at.ensures.goes (goes_on (answer c.in_ok-index.ensures.goes) (take c.in_ok-_close.ensures.goes (tail_expr o (suffixes_at c.in_ok-whole.ensures h))))))
+exprs::index-returns-clause-goes t c = stepped (λ o h. by (expr_rule rule.index) (suffix_free (scene_of c.args.context.now) (expr_tree c.args.base) c.args.tokens.now (suffix_is (scene_of c.args.context.now) (expr_tree c.args.base) c.args.tokens.now c.requires).1) ((suffix_is (scene_of c.args.context.now) (expr_tree c.args.base) c.args.tokens.now c.requires).0) (step (c.in_ok-at.ensures.goes (part.AnExpr (part.Suffixes (expr_tree c.args.base))) (λ at place. process.part 1 (scene_of c.args.context.now) (part.AnExpr (part.Suffixes (trees.Index at (expr_tree c.args.base) place))) process.give)) o (tail_expr o (suffixes_at c.in_ok-whole.ensures h))))
+
+pub exprs::bracketed-returns-in_err-at-clause-goes : goal.exprs::bracketed-returns-in_err-at-clause-goes
+exprs::bracketed-returns-in_err-at-clause-goes t c = λ p k. stalls c.from_residual.ensures.1 (halts (refuse c.in_err-at.ensures.goes) (λ why rest g. g _ _))
+
+pub exprs::bracketed-returns-in_err-place-clause-goes : goal.exprs::bracketed-returns-in_err-place-clause-goes
+exprs::bracketed-returns-in_err-place-clause-goes t c = λ p k. stalls c.from_residual-in_err-place.ensures.1 (halts (halt c.in_err-place.ensures.goes) (λ why rest g. take c.in_ok-at.ensures.goes (stops g)))
+
+pub exprs::bracketed-returns-in_err-_close-clause-goes : goal.exprs::bracketed-returns-in_err-_close-clause-goes
+exprs::bracketed-returns-in_err-_close-clause-goes t c = λ p k. stalls c.from_residual-in_err-_close.ensures.1 (halts (refuse c.in_err-_close.ensures.goes) (λ why rest g. take c.in_ok-at.ensures.goes (goes_on (answer c.in_ok-place.ensures.goes) (g _ _))))
+
+pub exprs::bracketed-returns-clause-goes : goal.exprs::bracketed-returns-clause-goes
+exprs::bracketed-returns-clause-goes t c = λ p k. stepped (λ o h. take c.in_ok-at.ensures.goes (goes_on (answer c.in_ok-place.ensures.goes) (take c.in_ok-_close.ensures.goes h)))
 
 pub exprs::suffixes-returns-then-calls_no_word-clause-goes : goal.exprs::suffixes-returns-then-calls_no_word-clause-goes
 exprs::suffixes-returns-then-calls_no_word-clause-goes t c = halted (stopped (c.barred_call.ensures (expr_tree c.forms.base) (and_left _ _ (sym c.if-calls_no_word.ensures))) (c.forms.invariant.0 _ (is_barred (borne _ (sym c.if-calls_no_word.ensures)))))
@@ -319,7 +326,22 @@ pub exprs::call-unreachable-requires : goal.exprs::call-unreachable-requires
 exprs::call-unreachable-requires t c = no_other c.args.base c.requires.1 (λ at name e. c.in_default.not-Word at name e)
 
 pub exprs::more-joints-preserved : goal.exprs::more-joints-preserved
-exprs::more-joints-preserved t c = ((λ o g. c.joints.invariant.0 o (joint_step o (sym c.in-Some.ensures) (sign_is c.joint_sign.ensures c.in_ok-at.ensures.goes) (answer c.in_ok-right.ensures.goes) c.in_ok-left.ensures g)), omega (arith, c.in_ok-at.ensures.shorter, c.in_ok-right.ensures.shorter))
+exprs::more-joints-preserved t c = ((λ o g. c.joints.invariant.0 o (joint_step o (sym c.in-Some.ensures) (behind_sign c.joint_sign.ensures c.in_ok-at.ensures.goes) c.in_ok-left.ensures g)), omega (arith, c.in_ok-at.ensures.shorter))
+
+pub exprs::more-returns-in_err-at-clause-goes : goal.exprs::more-returns-in_err-at-clause-goes
+exprs::more-returns-in_err-at-clause-goes t c = failed c.from_residual.ensures.1 (halts (joint_stop (sym c.in-Some.ensures) (behind_sign c.joint_sign.ensures c.in_err-at.ensures.goes)) (λ why rest g. c.joints.invariant.0 _ g))
+
+pub exprs::more-returns-in_err-left-clause-goes : goal.exprs::more-returns-in_err-left-clause-goes
+exprs::more-returns-in_err-left-clause-goes t c = starved c.from_residual-in_err-left.ensures.1
+
+pub exprs::right_side-returns-in_err-at-clause-goes : goal.exprs::right_side-returns-in_err-at-clause-goes
+exprs::right_side-returns-in_err-at-clause-goes t c = λ p k. stalls c.from_residual.ensures.1 (halts (refuse c.in_err-at.ensures.goes) (λ why rest g. g _ _))
+
+pub exprs::right_side-returns-in_err-right-clause-goes : goal.exprs::right_side-returns-in_err-right-clause-goes
+exprs::right_side-returns-in_err-right-clause-goes t c = λ p k. stalls c.from_residual-in_err-right.ensures.1 (halts (halt c.in_err-right.ensures.goes) (λ why rest g. take c.in_ok-at.ensures.goes (stops g)))
+
+pub exprs::right_side-returns-clause-goes : goal.exprs::right_side-returns-clause-goes
+exprs::right_side-returns-clause-goes t c = λ p k. stepped (λ o h. take c.in_ok-at.ensures.goes (goes_on (answer c.in_ok-right.ensures.goes) h))
 
 pub exprs::sized_type-returns-then-comes-clause-goes : goal.exprs::sized_type-returns-then-comes-clause-goes
 exprs::sized_type-returns-then-comes-clause-goes t c = halted (stopped c.barred.ensures (by (expr_rule rule.size_of_type) refl (if_true _ c.requires) (passes c.requires (take c.in_ok-_opening.ensures.goes (goes_on (answer c.in_ok-words.ensures.goes) (goes_on (answer c.in_ok-shape.ensures.goes) (take c.in_ok-_close.ensures.goes (stops_here {i = part.AfterType} (is_barred (borne _ (sym c.if-comes.ensures)))))))))))
@@ -329,15 +351,6 @@ exprs::sized_type-returns-in_err-whole-clause-goes t c = starved c.from_residual
 
 pub exprs::sized_type-returns-clause-goes : goal.exprs::sized_type-returns-clause-goes
 exprs::sized_type-returns-clause-goes t c = given (by (expr_rule rule.size_of_type) refl (if_true _ c.requires) (passes c.requires (take c.in_ok-_opening.ensures.goes (goes_on (answer c.in_ok-words.ensures.goes) (goes_on (answer c.in_ok-shape.ensures.goes) (take c.in_ok-_close.ensures.goes (here (by (expr_rule rule.after_type) (unborne _ (sym c.if-comes.ensures)) refl is_done) (done c.in_ok-whole.ensures))))))))
-
-pub exprs::more-returns-in_err-at-clause-goes : goal.exprs::more-returns-in_err-at-clause-goes
-exprs::more-returns-in_err-at-clause-goes t c = failed c.from_residual.ensures.1 (halts (refuse (sign_is c.joint_sign.ensures c.in_err-at.ensures.goes)) (λ why rest g. c.joints.invariant.0 _ (joint_stop (sym c.in-Some.ensures) (g _ _))))
-
-pub exprs::more-returns-in_err-right-clause-goes : goal.exprs::more-returns-in_err-right-clause-goes
-exprs::more-returns-in_err-right-clause-goes t c = failed c.from_residual-in_err-right.ensures.1 (halts (halt c.in_err-right.ensures.goes) (λ why rest g. c.joints.invariant.0 _ (joint_stop (sym c.in-Some.ensures) (take (sign_is c.joint_sign.ensures c.in_ok-at.ensures.goes) (stops g)))))
-
-pub exprs::more-returns-in_err-left-clause-goes : goal.exprs::more-returns-in_err-left-clause-goes
-exprs::more-returns-in_err-left-clause-goes t c = starved c.from_residual-in_err-left.ensures.1
 
 pub exprs::more-returns-clause-goes : goal.exprs::more-returns-clause-goes
 exprs::more-returns-clause-goes t c = given (c.joints.invariant.0 _ (by (expr_rule rule.run_end) refl (more_is (scene_of c.args.context.now) (level_view c.args.level) (expr_tree c.joints.left) c.joints.rest.now (no_joint c.joint_at.result (λ j e. c.in_default.not-Some j e) c.joint_at.ensures)) is_done))
@@ -685,16 +698,22 @@ pub declarators::size-returns-then-is_member-clause-goes : goal.declarators::siz
 declarators::size-returns-then-is_member-clause-goes t c = halted (stopped c.barred.ensures (is_barred (borne _ (both_true (sym c.if-comes.ensures) (sym c.if-is_member.ensures)))))
 
 pub declarators::size-returns-in_err-value-clause-goes : goal.declarators::size-returns-in_err-value-clause-goes
-declarators::size-returns-in_err-value-clause-goes t c = failed c.from_residual.ensures.1 (halts (halt c.in_err-value.ensures.goes) (λ why rest g. by (type_rule kind.size) (unborne _ (first_false _ (sym c.if-comes.ensures))) (if_false _ (sym c.if-comes.ensures)) (stops_here g)))
-
-pub declarators::size-returns-in_err-_close-clause-goes : goal.declarators::size-returns-in_err-_close-clause-goes
-declarators::size-returns-in_err-_close-clause-goes t c = failed c.from_residual-in_err-_close.ensures.1 (halts (refuse c.in_err-_close.ensures.goes) (λ why rest g. by (type_rule kind.size) (unborne _ (first_false _ (sym c.if-comes.ensures))) (if_false _ (sym c.if-comes.ensures)) (here (answer c.in_ok-value.ensures.goes) (g _ _))))
+declarators::size-returns-in_err-value-clause-goes t c = failed c.from_residual.ensures.1 (halts (stall (c.in_err-value.ensures.goes (part.ADeclarator (part.Size (role_view c.args.role) c.args.at (declarator_tree c.args.inner))) (λ e. process.give (trees.Array c.args.at (declarator_tree c.args.inner) e)))) (λ why rest g. by (type_rule kind.size) (unborne _ (first_false _ (sym c.if-comes.ensures))) (if_false _ (sym c.if-comes.ensures)) g))
 
 pub declarators::size-returns-in_err-whole-clause-goes : goal.declarators::size-returns-in_err-whole-clause-goes
 declarators::size-returns-in_err-whole-clause-goes t c = starved c.from_residual-in_err-whole.ensures.1
 
 pub declarators::size-returns-clause-goes : goal.declarators::size-returns-clause-goes
-declarators::size-returns-clause-goes t c = given (by (type_rule kind.size) (unborne _ (first_false _ (sym c.if-comes.ensures))) (if_false _ (sym c.if-comes.ensures)) (here (answer c.in_ok-value.ensures.goes) (take c.in_ok-_close.ensures.goes (done c.in_ok-whole.ensures))))
+declarators::size-returns-clause-goes t c = given (by (type_rule kind.size) (unborne _ (first_false _ (sym c.if-comes.ensures))) (if_false _ (sym c.if-comes.ensures)) (step (c.in_ok-value.ensures.goes (part.ADeclarator (part.Size (role_view c.args.role) c.args.at (declarator_tree c.args.inner))) (λ e. process.give (trees.Array c.args.at (declarator_tree c.args.inner) e))) _ (done c.in_ok-whole.ensures)))
+
+pub declarators::given_size-returns-in_err-value-clause-goes : goal.declarators::given_size-returns-in_err-value-clause-goes
+declarators::given_size-returns-in_err-value-clause-goes t c = λ p k. stalls c.from_residual.ensures.1 (halts (halt c.in_err-value.ensures.goes) (λ why rest g. stops_here g))
+
+pub declarators::given_size-returns-in_err-_close-clause-goes : goal.declarators::given_size-returns-in_err-_close-clause-goes
+declarators::given_size-returns-in_err-_close-clause-goes t c = λ p k. stalls c.from_residual-in_err-_close.ensures.1 (halts (refuse c.in_err-_close.ensures.goes) (λ why rest g. here (answer c.in_ok-value.ensures.goes) (g _ _)))
+
+pub declarators::given_size-returns-clause-goes : goal.declarators::given_size-returns-clause-goes
+declarators::given_size-returns-clause-goes t c = λ p k. stepped (λ o h. here (answer c.in_ok-value.ensures.goes) (take c.in_ok-_close.ensures.goes h))
 
 pub declarators::parameters-returns-in_err-first-clause-goes : goal.declarators::parameters-returns-in_err-first-clause-goes
 declarators::parameters-returns-in_err-first-clause-goes t c = failed c.from_residual.ensures.1 (halts (halt c.in_err-first.ensures.goes) (λ why rest g. by (type_rule kind.parameters) (refl) (if_false _ (sym c.if-comes.ensures)) (stops_here g)))

@@ -14,13 +14,13 @@ abbrev pub decreases-exprs::enclosed : goal.decreases-exprs::enclosed
 decreases-exprs::enclosed l = 64 * length l.tokens.now + 0
 
 abbrev pub decreases-exprs::suffixes : goal.decreases-exprs::suffixes
-decreases-exprs::suffixes l = 64 * length l.tokens.now + 2
+decreases-exprs::suffixes l = 64 * length l.tokens.now + 3
 
 abbrev pub decreases-exprs::suffix : goal.decreases-exprs::suffix
-decreases-exprs::suffix l = 64 * length l.tokens.now + 1
+decreases-exprs::suffix l = 64 * length l.tokens.now + 2
 
 abbrev pub decreases-exprs::index : goal.decreases-exprs::index
-decreases-exprs::index l = 64 * length l.tokens.now + 0
+decreases-exprs::index l = 64 * length l.tokens.now + 1
 
 abbrev pub decreases-exprs::call : goal.decreases-exprs::call
 decreases-exprs::call l = 64 * length l.tokens.now + 0
@@ -65,19 +65,19 @@ abbrev pub decreases-exprs::assignment : goal.decreases-exprs::assignment
 decreases-exprs::assignment l = 64 * length l.tokens.now + 29
 
 abbrev pub decreases-exprs::assigned : goal.decreases-exprs::assigned
-decreases-exprs::assigned l = 64 * length l.tokens.now + 1
+decreases-exprs::assigned l = 64 * length l.tokens.now + 2
 
 abbrev pub decreases-exprs::plain_assigned : goal.decreases-exprs::plain_assigned
-decreases-exprs::plain_assigned l = 64 * length l.tokens.now + 0
+decreases-exprs::plain_assigned l = 64 * length l.tokens.now + 1
 
 abbrev pub decreases-exprs::compound_assigned : goal.decreases-exprs::compound_assigned
-decreases-exprs::compound_assigned l = 64 * length l.tokens.now + 0
+decreases-exprs::compound_assigned l = 64 * length l.tokens.now + 1
 
 abbrev pub decreases-exprs::chosen : goal.decreases-exprs::chosen
-decreases-exprs::chosen l = 64 * length l.tokens.now + 0
+decreases-exprs::chosen l = 64 * length l.tokens.now + 1
 
 abbrev pub decreases-exprs::more : goal.decreases-exprs::more
-decreases-exprs::more l = 64 * length l.tokens.now + 0
+decreases-exprs::more l = 64 * length l.tokens.now + 1
 
 abbrev pub decreases-exprs::arguments : goal.decreases-exprs::arguments
 decreases-exprs::arguments l = 64 * length l.tokens.now + 32
@@ -186,6 +186,18 @@ decreases-declarators::more_parameters l = 64 * length l.tokens.now + 0
 
 abbrev pub decreases-declarators::parameter : goal.decreases-declarators::parameter
 decreases-declarators::parameter l = 64 * length l.tokens.now + 3
+
+abbrev pub decreases-exprs::right_side : goal.decreases-exprs::right_side
+decreases-exprs::right_side l = 64 * length l.tokens.now + 0
+
+abbrev pub decreases-exprs::choices : goal.decreases-exprs::choices
+decreases-exprs::choices l = 64 * length l.tokens.now + 0
+
+abbrev pub decreases-exprs::bracketed : goal.decreases-exprs::bracketed
+decreases-exprs::bracketed l = 64 * length l.tokens.now + 0
+
+abbrev pub decreases-declarators::given_size : goal.decreases-declarators::given_size
+decreases-declarators::given_size l = 64 * length l.tokens.now + 30
 
 abbrev pub decreases-exprs::run : goal.decreases-exprs::run
 decreases-exprs::run l = 64 * length l.tokens.now + (9 + rank l.level)

@@ -1,4 +1,4 @@
-use Rattle.std.proofs.Common.{ℕ, ◌+◌, ◌*◌, ◌≤◌, length}
+use Rattle.std.proofs.Common.{◌+◌, ◌*◌, ◌≤◌, length}
 use Rattle.c_written.specs.WrittenDecl.{InitTrees, inits_from}
 use Rattle.c_grammar.specs.Parts.{MoreInitialisers}
 use Rattle.c_grammar.specs.Descent.{Outcome, Goes}

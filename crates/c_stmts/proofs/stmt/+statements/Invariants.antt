@@ -1,4 +1,4 @@
-use Rattle.std.proofs.Common.{ℕ, ◌+◌, ◌*◌, ◌≤◌, length}
+use Rattle.std.proofs.Common.{◌+◌, ◌*◌, ◌≤◌, length}
 use Rattle.c_written.specs.WrittenFile.{BlockItemTrees, blockitems_from, none}
 use Rattle.c_grammar.specs.Parts.{Items}
 use Rattle.c_grammar.specs.Descent.{Outcome, Goes}
