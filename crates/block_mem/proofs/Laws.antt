@@ -1,12 +1,12 @@
 -- What is read after a store.
-use Rattle.std.proofs.Common.{ℕ, ℤ, pos, negsuc, zero, suc, ◌≡◌, ◌+◌, ◌-◌, ◌*◌, ◌/◌, ◌%◌, ◌^◌, ◌<◌, ◌≤◌, ◌<ℤ◌, ◌≤ℤ◌, Bool, true, false, cond, not, ◌&&◌, ◌⊎◌, inl, inr, List, [], ◌∷◌, ◌++◌, length, take, drop, get_or, Option, Some, None, Result, Ok, Err, refl, sym, subst, ap, ◌∙◌, arith, eq-eqb, length-drop, FitsSigned, MatchBool, option_map}
-use Rattle.std.specs.Int.{Width, w8, w16, w32, w64, byte_len, cast_signed, cast_unsigned, FitsUnsigned}
+use Rattle.std.proofs.Common.{ℕ, ℤ, pos, negsuc, zero, suc, ◌≡◌, ◌+◌, ◌-◌, ◌*◌, ◌/◌, ◌%◌, ◌^◌, ◌<◌, ◌≤◌, Bool, true, false, cond, ◌⊎◌, inl, inr, List, [], ◌∷◌, length, take, drop, get_or, Some, None, refl, sym, subst, ap, ◌∙◌, arith, eq-eqb, FitsSigned, MatchBool, option_map}
+use Rattle.std.specs.Int.{Width, byte_len, cast_signed, cast_unsigned, FitsUnsigned}
 use Rattle.std.specs.Ordering.{int_eq}
-use Rattle.std.proofs.Math.Nat.{pow-suc, mod-eq_of_lt}
+use Rattle.std.proofs.Math.Nat.{mod-eq_of_lt}
 use Rattle.std.proofs.Math.Facts.{Fits-of_z, Fits-lt-pow}
 use Rattle.std.proofs.lemmas.Int.{to_z-of_z, ints}
 use Rattle.std.proofs.lemmas.Nat.{mod-pow-add, shr-shr}
-use Rattle.std.proofs.lemmas.List.{get_or-take, get_or-drop, length-take-le, ext_get_or}
+use Rattle.std.proofs.lemmas.List.{get_or-take, get_or-drop, ext_get_or}
 use Rattle.std.proofs.lemmas.Bool.Decides.{Decides-int_eq}
 use mir.Val.{bits}
 use Rattle.c_written.specs.declared.int_type.IntType.{IntType}
@@ -20,10 +20,10 @@ use Rattle.block_mem.specs.declared.types.Scalar.{Scalar}
 use Rattle.block_mem.specs.declared.types.Scalar.TheVariants as scalars
 use Rattle.c_written.specs.Integer.{std_width, is_signed, HasNumber}
 use Rattle.block_mem.specs.Numbers.{bits_in, number_in, low_bytes, low_first, number_of}
-use Rattle.block_mem.specs.Pieces.{pieces, is_piece, are_pieces, by_place, is_cut, cut_byte, cut, get_bytes, put_bytes, stored}
+use Rattle.block_mem.specs.Pieces.{pieces, is_piece, are_pieces, is_cut, cut_byte, cut, get_bytes, put_bytes, stored}
 use Rattle.block_mem.specs.Bytes.{size_of, IsOf, bytes_of, has_undef, value_of, pointer_of}
 use Rattle.block_mem.proofs.Puts.{length-put, get-put_low, get-put_high, length-by_place, get-by_place, length-get}
-use Rattle.block_mem.proofs.Values.{take-low_bytes, int_size_le}
+use Rattle.block_mem.proofs.Values.{take-low_bytes}
 
 -- ---- numbers
 

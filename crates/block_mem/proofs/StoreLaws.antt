@@ -1,5 +1,5 @@
 -- Memory after a store.
-use Rattle.std.proofs.Common.{ℕ, ℤ, pos, negsuc, zero, suc, ◌≡◌, ◌≢◌, ◌+◌, ◌-◌, ◌*◌, ◌/◌, ◌%◌, ◌^◌, ◌<◌, ◌≤◌, Bool, true, false, cond, not, ◌&&◌, ◌⊎◌, List, length, take, drop, get_or, Option, Some, None, Result, Ok, Err, refl, sym, subst, ap, ◌∙◌, arith, option_map, unwrap_or, MatchOption}
+use Rattle.std.proofs.Common.{ℕ, ℤ, pos, negsuc, ◌≡◌, ◌+◌, ◌-◌, ◌*◌, ◌/◌, ◌%◌, ◌^◌, ◌<◌, ◌≤◌, Bool, true, false, cond, not, ◌&&◌, ◌⊎◌, List, length, take, drop, get_or, Option, Some, None, Ok, Err, refl, sym, subst, ap, ◌∙◌, arith, option_map, unwrap_or, MatchOption}
 use Rattle.std.specs.Int.{byte_len}
 use Rattle.std.specs.Option.{ok_or}
 use Rattle.std.proofs.lemmas.Bool.{leb-true}
@@ -15,9 +15,9 @@ use Rattle.block_mem.specs.declared.types.Value.TheVariants as values
 use Rattle.block_mem.specs.declared.types.Scalar.{Scalar}
 use Rattle.block_mem.specs.declared.types.Scalar.TheVariants as scalars
 use Rattle.c_written.specs.Integer.{std_width}
-use Rattle.block_mem.specs.Numbers.{bits_in, number_in, low_bytes, number_of}
+use Rattle.block_mem.specs.Numbers.{bits_in, number_in, low_bytes}
 use Rattle.block_mem.specs.Pieces.{get_bytes, stored, taken, cut_byte}
-use Rattle.block_mem.specs.Bytes.{size_of, IsOf, bytes_of, has_undef, value_of}
+use Rattle.block_mem.specs.Bytes.{size_of, IsOf, bytes_of, value_of}
 use Rattle.block_mem.specs.Block.{BlockView, place_of, is_inside, is_aligned, wrong_in}
 use Rattle.block_mem.specs.Blocks.{block_at, with_bytes, place, bytes_at, wrong_access, loaded, after_access, load, store, copy}
 use Rattle.block_mem.specs.AfterStore.{ReadsParts, KeepsElsewhere}

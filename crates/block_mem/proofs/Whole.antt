@@ -1,5 +1,5 @@
 -- Where pointers are whole, a cut by places is one by contents, and writes leave them whole.
-use Rattle.std.proofs.Common.{ℕ, zero, suc, ◌≡◌, ◌+◌, ◌-◌, ◌<◌, ◌≤◌, max, Bool, true, false, cond, not, ◌&&◌, ◌⊎◌, inl, inr, List, length, take, drop, get_or, refl, sym, subst, ap, ◌∙◌, arith}
+use Rattle.std.proofs.Common.{ℕ, zero, suc, ◌≡◌, ◌+◌, ◌-◌, ◌<◌, ◌≤◌, max, Bool, true, false, cond, not, ◌&&◌, ◌⊎◌, inl, inr, List, length, drop, get_or, refl, sym, subst, ap, ◌∙◌, arith}
 use Rattle.std.specs.Prelude.{◌/◌, None, nat_lt}
 use Rattle.std.proofs.lemmas.Bool.{cases_lt, cases_eq}
 use Rattle.std.proofs.lemmas.Bool.Decides.{nat_tests}
@@ -13,14 +13,14 @@ use Rattle.block_mem.specs.declared.types.Scalar.{Scalar}
 use Rattle.c_written.specs.Integer.{std_width}
 use Rattle.std.specs.Int.{byte_len}
 use Rattle.block_mem.specs.Numbers.{bits_in, low_bytes}
-use Rattle.block_mem.specs.Pieces.{pieces, is_cut, cut_byte, cut, is_whole, taken_byte, get_bytes, taken, put_bytes, stored}
+use Rattle.block_mem.specs.Pieces.{pieces, is_cut, cut_byte, cut, is_whole, taken_byte, taken, put_bytes, stored}
 use Rattle.block_mem.specs.Bytes.{size_of, IsOf, bytes_of}
 use Rattle.block_mem.specs.Block.{BlockView}
 use Rattle.block_mem.specs.Blocks.{block_at, with_bytes, place, wrong_access, store, copy}
-use Rattle.block_mem.specs.Whole.{HoldsPiece, HoldsAll, PointersAreWhole, IsOutside, HasPart, IsLost, IsLeft, AreWhole, KeepsWhole}
+use Rattle.block_mem.specs.Whole.{HoldsPiece, HoldsAll, PointersAreWhole, IsOutside, IsLost, IsLeft, AreWhole, KeepsWhole}
 use Rattle.block_mem.proofs.Puts.{length-by_place, get-by_place, get-put_low, get-put_high, length-taken, get-taken}
-use Rattle.block_mem.proofs.Laws.{length-pieces, length-value, get-stored, length-stored}
-use Rattle.block_mem.proofs.Copies.{block-same, block-other, bytes-same}
+use Rattle.block_mem.proofs.Laws.{length-pieces, length-value, get-stored}
+use Rattle.block_mem.proofs.Copies.{block-other, bytes-same}
 use Rattle.block_mem.proofs.StoreLaws.{inside_access}
 
 -- ---- places

@@ -101,7 +101,7 @@ impl Memory {
     }
 
     /// Stores a value of a type. Pointers that are overwritten in part leave Undef behind. A store
-    /// that is refused changes nothing.
+    /// that is refused changes nothing. Where all pointers were whole, all are whole again.
     pub fn store(&mut self, at: Pointer, ty: Scalar, v: Value) -> Result<(), WrongKind>
         requires made { at.block < length self.old }
         requires typed { IsOf ty v }
@@ -127,7 +127,7 @@ impl Memory {
 
     /// Copies `size` bytes. All are read before any is written, so the ranges may overlap. A piece
     /// of a pointer that is not copied whole becomes Undef, and so does what is left of a pointer
-    /// that is overwritten in part.
+    /// that is overwritten in part. Where all pointers were whole, all are whole again.
     pub fn copy(&mut self, to: Pointer, from: Pointer, size: u64)
         requires target_made { to.block < length self.old }
         requires source_made { from.block < length self.old }
