@@ -8,7 +8,6 @@ mod copy;
 mod expr_node;
 mod fault;
 mod kind;
-mod leaf;
 mod level;
 mod look;
 #[cfg(test)]
@@ -19,7 +18,7 @@ mod type_node;
 
 pub use class::Class;
 pub use context::{Context, Setting};
-pub use copy::name_of;
+pub use copy::{byte_of, bytes_of, constant_of, name_of, push_bytes};
 pub use expr_node::{
     arrow_expr, assign_expr, cast_expr, compound_expr, cond_expr, dot_expr, enclosed_expr,
     index_expr, is_word, joined, one_expr, post_step_expr, pre_step_expr, push_expr, sizeof_expr,
@@ -30,7 +29,6 @@ pub use kind::{
     AssignKind, PrefixKind, PrimaryKind, SuffixKind, assign_at, assign_sign, prefix_at, primary_at,
     step_sign, suffix_at, unary_sign,
 };
-pub use leaf::{basic, character, constant, number, storage, strings, typedef_name, word};
 pub use level::{Joint, Level, joint_at, joint_sign};
 pub use look::{
     Mark, comes, designator_ahead, label_ahead, params_ahead, plain_word_ahead, spec_ahead,
@@ -38,7 +36,8 @@ pub use look::{
 };
 pub use token::{barred, barred_call, first, refused, taken};
 pub use type_kind::{
-    DirectKind, Role, SpecKind, TagKind, TailKind, direct_at, spec_at, tag_at, tail_at,
+    DirectKind, Role, SpecKind, TagKind, TailKind, direct_at, spec_at, storage_word, tag_at,
+    tail_at, type_word,
 };
 pub use type_node::{
     array_declarator, declared_word, empty_declarator, function_declarator, grouped_declarator,

@@ -1,3 +1,1 @@
 pub mod Ranks
-pub mod DeclaratorSteps
-pub mod ExprSteps

@@ -1,27 +1,24 @@
 // Declarators and parameters.
 #![tactic(auto, using(c_written::proofs::Trees::the_written_trees))]
 
-ghost use Rattle.std.specs.Prelude.{◌≡◌, ℕ, ◌+◌, ◌<◌, ◌≤◌, Bool, true, false, not, ◌&&◌, List, length, IfOk};
+ghost use Rattle.std.specs.Prelude.{◌≡◌, ◌<◌, ◌≤◌, length, IfOk};
 ghost use Rattle.c_written.specs.Written.{declarator_tree, param_tree, params_from};
-ghost use Rattle.c_grammar.specs.Ahead.{is_close, is_open, params_ahead};
 ghost use Rattle.c_grammar.specs.Parts as part;
-ghost use Rattle.c_grammar.specs.Made.{is_given};
-ghost use Rattle.c_grammar.specs.Choice.{is_const_word};
-ghost use Rattle.c_grammar.specs.Refused.{first_is, may_omit};
-ghost use Rattle.c_descent.specs.Answers.{Answers, Consts, DeclaratorStarts, DirectStarts, Extends, SizeIsMissing, TailStarts};
-ghost use Rattle.c_exprs.specs.Readers.{ReadsSize};
-ghost use Rattle.c_descent.specs.Kinds.{direct_at, is_no_tail, tail_at};
+ghost use Rattle.c_descent.specs.Answers.{Answers, DeclaratorStarts, DirectStarts, Extends, TailStarts};
+ghost use Rattle.c_leaves.specs.Readers.{ReadsSize};
+ghost use Rattle.c_descent.specs.Kinds.{tail_at};
 ghost use Rattle.c_descent.specs.Views.{role_view, scene_of};
 
 use crate::exprs::conditional;
 use crate::types::specs;
 use c_descent::{
     Class, Context, DirectKind, Fault, Mark, Role, TailKind, array_declarator, barred, comes,
-    direct_at, empty_declarator, function_declarator, grouped_declarator, is_given, name_of,
-    one_param, open_array_declarator, param_of, params_ahead, plain_word_ahead, pointer_declarator,
-    push_param, refused, tail_at, taken, type_name_ahead,
+    direct_at, first, function_declarator, grouped_declarator, is_given, name_of, one_param,
+    param_of, plain_word_ahead, pointer_declarator, push_param, refused, tail_at, taken,
+    type_name_ahead,
 };
-use c_written::{Construct, Declarator, Expr, Keyword, Param, Placed, Pos, Punctuator};
+use c_leaves::{calls_no_name, consts, is_no_tail, no_parameters, no_size, params_come, word};
+use c_written::{Construct, Declarator, Expr, Mark, Name, Param, Placed, Pos, Punctuator};
 
 /// A declarator, or an abstract one.
 #[cycle(descent)]
@@ -62,28 +59,6 @@ fn pointer<'a>(
     let (inner, rest) = declarator(context, role, count + 1, after)?;
     let whole = pointer_declarator(context.alloc, at.pos, is_const, inner)?;
     Ok((whole, rest))
-}
-
-/// The words `const` behind a `*`, and whether there is one.
-fn consts<'a>(
-    context: &Context<'_>,
-    role: Role,
-    count: u32,
-    at: Pos,
-    tokens: &'a [Placed],
-) -> Result<(bool, &'a [Placed]), Fault<'a>>
-    ensures goes { Consts count (scene_of context.now) (role_view role) at tokens.now result }
-    ensures ended { IfOk result (λ x. first_is is_const_word x.1.now ≡ false) }
-    ensures shorter { IfOk result (λ x. length x.1.now ≤ length tokens.now) }
-{
-    let mut is_const = false;
-    let mut rest = tokens;
-    'words: while comes(Mark::Const, rest) {
-        let (_word, after) = taken(context, count, 0, Class::Keyword(Keyword::Const), rest)?;
-        is_const = true;
-        rest = after;
-    }
-    Ok((is_const, rest))
 }
 
 /// A declarator behind its stars.
@@ -285,25 +260,6 @@ fn given_size<'a>(
     Ok((value, rest))
 }
 
-/// The bracket that closes, where there is no size.
-fn no_size<'a>(
-    context: &Context<'_>,
-    role: Role,
-    count: u32,
-    at: Pos,
-    inner: Declarator,
-    tokens: &'a [Placed],
-) -> Result<(Declarator, &'a [Placed]), Fault<'a>>
-    requires { SizeIsMissing (role_view role) tokens.now }
-    ensures goes { Answers count (scene_of context.now) (part.ADeclarator (part.Size (role_view role) at (declarator_tree inner))) tokens.now (λ d. declarator_tree d) result }
-    ensures shorter { IfOk result (λ x. length x.1.now < length tokens.now) }
-{
-    let closes = Class::Sign(Punctuator::RightBracket);
-    let (_close, rest) = taken(context, count, 0, closes, tokens)?;
-    let whole = open_array_declarator(context.alloc, at, inner)?;
-    Ok((whole, rest))
-}
-
 /// What follows the parenthesis that opens parameters.
 #[cycle(descent)]
 fn parameters<'a>(
@@ -322,24 +278,6 @@ fn parameters<'a>(
     let (first, rest) = parameter(context, count, tokens)?;
     let params = one_param(context.alloc, first)?;
     let (whole, rest) = more_parameters(context, count, at, inner, params, rest)?;
-    Ok((whole, rest))
-}
-
-/// The parenthesis that closes, where there are no parameters.
-fn no_parameters<'a>(
-    context: &Context<'_>,
-    count: u32,
-    at: Pos,
-    inner: Declarator,
-    tokens: &'a [Placed],
-) -> Result<(Declarator, &'a [Placed]), Fault<'a>>
-    requires { first_is is_close tokens.now ≡ true }
-    ensures goes { Answers count (scene_of context.now) (part.ADeclarator (part.Parameters at (declarator_tree inner))) tokens.now (λ d. declarator_tree d) result }
-    ensures shorter { IfOk result (λ x. length x.1.now < length tokens.now) }
-{
-    let closes = Class::Sign(Punctuator::RightParenthesis);
-    let (_close, rest) = taken(context, count, 0, closes, tokens)?;
-    let whole = empty_declarator(context.alloc, at, inner)?;
     Ok((whole, rest))
 }
 
@@ -386,24 +324,4 @@ fn parameter<'a>(
     let (words, rest) = specs(context, count, tokens)?;
     let (shape, rest) = declarator(context, Role::OfParameter, count, rest)?;
     Ok((param_of(words, shape), rest))
-}
-
-// Parameters come where a name is missing.
-fn params_come(context: &Context<'_>, role: Role, tokens: &[Placed]) -> bool
-    ensures { result ≡ (may_omit (role_view role) && params_ahead (scene_of context.now) tokens.now) }
-{
-    role.may_omit() && params_ahead(context, tokens)
-}
-
-// The parenthesis of parameters comes, and no plain word stands before it.
-fn calls_no_name(is_plain: bool, inner: &Declarator, tokens: &[Placed]) -> bool
-    ensures { result ≡ (first_is is_open tokens.now && (not is_plain && is_given (declarator_tree inner.now))) }
-{
-    comes(Mark::Open, tokens) && !is_plain && is_given(inner)
-}
-
-fn is_no_tail(kind: TailKind) -> bool
-    ensures { result ≡ is_no_tail kind }
-{
-    matches!(kind, TailKind::Nothing)
 }

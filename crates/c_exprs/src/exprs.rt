@@ -1,31 +1,32 @@
 // Expressions.
 #![tactic(auto, using(c_written::proofs::Trees::the_written_trees))]
 
-ghost use Rattle.std.specs.Prelude.{◌≡◌, ℕ, ◌+◌, ◌<◌, ◌≤◌, Bool, true, not, ◌&&◌, List, length, IfOk};
+ghost use Rattle.std.specs.Prelude.{◌≡◌, ◌+◌, ◌<◌, ◌≤◌, true, length, IfOk};
 ghost use Rattle.c_written.specs.Written.{expr_tree, exprs_from, exprs_tree};
-ghost use Rattle.c_grammar.specs.Ahead.{is_close, is_open, type_ahead};
-ghost use Rattle.c_grammar.specs.Made.{is_word};
+ghost use Rattle.c_grammar.specs.Ahead.{type_ahead};
 ghost use Rattle.c_grammar.specs.ExprRules.{operand};
 ghost use Rattle.c_grammar.specs.Parts as part;
 ghost use Rattle.c_descent.specs.Answers.{Answers, CallComes, Steps, SuffixComes};
 ghost use Rattle.c_grammar.specs.Descent.{Goes};
-ghost use Rattle.c_grammar.specs.Refused.{first_is};
-ghost use Rattle.c_exprs.specs.Readers.{ReadsBehind, ReadsBracketed, ReadsChoices, ReadsMember};
-ghost use Rattle.c_descent.specs.Kinds.{assign_at, is_no_suffix, prefix_at, primary_at, suffix_at};
+ghost use Rattle.c_leaves.specs.Readers.{ReadsBehind, ReadsBracketed, ReadsChoices};
+ghost use Rattle.c_descent.specs.Kinds.{assign_at, prefix_at, primary_at, suffix_at};
 ghost use Rattle.c_descent.specs.Views.{level_view, scene_of};
 
 use crate::declarators::declarator;
 use crate::types::specs;
 use c_descent::{
     AssignKind, Class, Context, Fault, Level, Mark, PrefixKind, PrimaryKind, Role, SuffixKind,
-    arrow_expr, assign_at, assign_expr, assign_sign, barred, barred_call, cast_expr, character,
-    comes, compound_expr, cond_expr, dot_expr, enclosed_expr, index_expr, is_word, joined,
-    joint_at, joint_sign, name_of, number, one_expr, post_step_expr, pre_step_expr, prefix_at,
-    primary_at, push_expr, refused, sizeof_expr, sizeof_type, step_sign, strings, suffix_at, taken,
-    type_ahead, unary_expr, unary_sign, word,
+    assign_at, assign_expr, assign_sign, barred, barred_call, cast_expr, comes, compound_expr,
+    cond_expr, enclosed_expr, first, index_expr, joined, joint_at, joint_sign, one_expr,
+    pre_step_expr, prefix_at, primary_at, push_expr, refused, sizeof_expr, sizeof_type, step_sign,
+    suffix_at, taken, type_ahead, unary_expr, unary_sign,
+};
+use c_leaves::{
+    arrow, calls_no_word, character, dot, is_no_suffix, no_arguments, number, post_step, strings,
+    word,
 };
 use c_written::{
-    AssignOp, Construct, Expr, Exprs, Keyword, Name, Placed, Pos, Punctuator, StepWay, UnaryOp,
+    AssignOp, Construct, Expr, Exprs, Keyword, Mark, Placed, Pos, Punctuator, StepWay, UnaryOp,
 };
 
 /// Operands of a level, and joints between them.
@@ -550,76 +551,6 @@ fn call<'a>(
     }
 }
 
-/// `.` and a member.
-fn dot<'a>(
-    context: &Context<'_>,
-    count: u32,
-    base: Expr,
-    tokens: &'a [Placed],
-) -> Result<(Expr, &'a [Placed]), Fault<'a>>
-    requires { suffix_at tokens.now ≡ SuffixKind.Dot }
-    ensures goes { Steps (λ o. Goes count (scene_of context.now) (part.AnExpr (part.Suffixes (expr_tree base))) tokens.now o) (λ e rest o. Goes (count + 1) (scene_of context.now) (part.AnExpr (part.Suffixes (expr_tree e))) rest o) result }
-    ensures within { IfOk result (λ _. count + 1 ≤ 200) }
-    ensures shorter { IfOk result (λ x. length x.1.now < length tokens.now) }
-{
-    let ((at, name), rest) = member(context, count, Punctuator::Dot, tokens)?;
-    let whole = dot_expr(context.alloc, at, base, name)?;
-    Ok((whole, rest))
-}
-
-/// `->` and a member.
-fn arrow<'a>(
-    context: &Context<'_>,
-    count: u32,
-    base: Expr,
-    tokens: &'a [Placed],
-) -> Result<(Expr, &'a [Placed]), Fault<'a>>
-    requires { suffix_at tokens.now ≡ SuffixKind.Arrow }
-    ensures goes { Steps (λ o. Goes count (scene_of context.now) (part.AnExpr (part.Suffixes (expr_tree base))) tokens.now o) (λ e rest o. Goes (count + 1) (scene_of context.now) (part.AnExpr (part.Suffixes (expr_tree e))) rest o) result }
-    ensures within { IfOk result (λ _. count + 1 ≤ 200) }
-    ensures shorter { IfOk result (λ x. length x.1.now < length tokens.now) }
-{
-    let ((at, name), rest) = member(context, count, Punctuator::Arrow, tokens)?;
-    let whole = arrow_expr(context.alloc, at, base, name)?;
-    Ok((whole, rest))
-}
-
-/// A sign, and the name of the member behind it.
-fn member<'a>(
-    context: &Context<'_>,
-    count: u32,
-    sign: Punctuator,
-    tokens: &'a [Placed],
-) -> Result<((Pos, Name), &'a [Placed]), Fault<'a>>
-    ensures goes { ReadsMember count (scene_of context.now) sign tokens.now result }
-    ensures within { IfOk result (λ _. count + 1 ≤ 200) }
-    ensures shorter { IfOk result (λ x. length x.1.now < length tokens.now) }
-{
-    let (at, behind) = taken(context, count, 1, Class::Sign(sign), tokens)?;
-    let (word, rest) = taken(context, count, 1, Class::AnyWord, behind)?;
-    let name = name_of(context.alloc, &word.token)?;
-    Ok(((at.pos, name), rest))
-}
-
-/// `++` or `--` behind an expression.
-fn post_step<'a>(
-    context: &Context<'_>,
-    count: u32,
-    way: StepWay,
-    base: Expr,
-    tokens: &'a [Placed],
-) -> Result<(Expr, &'a [Placed]), Fault<'a>>
-    requires { suffix_at tokens.now ≡ SuffixKind.Step way }
-    ensures goes { Steps (λ o. Goes count (scene_of context.now) (part.AnExpr (part.Suffixes (expr_tree base))) tokens.now o) (λ e rest o. Goes (count + 1) (scene_of context.now) (part.AnExpr (part.Suffixes (expr_tree e))) rest o) result }
-    ensures within { IfOk result (λ _. count + 1 ≤ 200) }
-    ensures shorter { IfOk result (λ x. length x.1.now < length tokens.now) }
-{
-    let sign = Class::Sign(step_sign(way));
-    let (at, rest) = taken(context, count, 1, sign, tokens)?;
-    let whole = post_step_expr(context.alloc, at.pos, way, base)?;
-    Ok((whole, rest))
-}
-
 /// A primary expression.
 #[cycle(descent)]
 fn primary<'a>(
@@ -701,32 +632,4 @@ fn more_arguments<'a>(
     let closes = Class::Sign(Punctuator::RightParenthesis);
     let (_close, rest) = taken(context, count, 0, closes, rest)?;
     Ok((Exprs::from_vec(args), rest))
-}
-
-/// No arguments.
-fn no_arguments<'a>(
-    context: &Context<'_>,
-    count: u32,
-    tokens: &'a [Placed],
-) -> Result<(Exprs, &'a [Placed]), Fault<'a>>
-    requires { first_is is_close tokens.now ≡ true }
-    ensures goes { Answers count (scene_of context.now) part.Arguments tokens.now (λ a. exprs_tree a) result }
-    ensures shorter { IfOk result (λ x. length x.1.now < length tokens.now) }
-{
-    let closes = Class::Sign(Punctuator::RightParenthesis);
-    let (_close, rest) = taken(context, count, 0, closes, tokens)?;
-    Ok((Exprs::new(context.alloc), rest))
-}
-
-// The parenthesis of a call comes, and no plain word stands before it.
-fn calls_no_word(base: &Expr, tokens: &[Placed]) -> bool
-    ensures { result ≡ (first_is is_open tokens.now && not (is_word (expr_tree base.now))) }
-{
-    comes(Mark::Open, tokens) && !is_word(base)
-}
-
-fn is_no_suffix(kind: SuffixKind) -> bool
-    ensures { result ≡ is_no_suffix kind }
-{
-    matches!(kind, SuffixKind::Nothing)
 }

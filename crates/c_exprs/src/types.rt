@@ -1,12 +1,10 @@
 // Specs: the words and types that begin a declaration.
 #![tactic(auto, using(c_written::proofs::Trees::the_written_trees))]
 
-ghost use Rattle.std.specs.Prelude.{◌≡◌, ℕ, ◌+◌, ◌<◌, ◌≤◌, Bool, true, ◌&&◌, ◌||◌, List, length, IfOk, option_map};
+ghost use Rattle.std.specs.Prelude.{◌≡◌, ◌<◌, ◌≤◌, length, IfOk};
 ghost use Rattle.c_written.specs.Written.{enumerator_tree, enumerators_from, enumerators_tree, declarators_from, memberdecl_tree, memberdecls_from, memberdecls_tree, spec_tree, specs_from, specs_tree};
-ghost use Rattle.c_grammar.specs.Choice.{is_right_brace, is_semicolon};
-ghost use Rattle.c_grammar.specs.Made.{has_type, is_type};
+ghost use Rattle.c_grammar.specs.Made.{has_type};
 ghost use Rattle.c_grammar.specs.Parts as part;
-ghost use Rattle.c_grammar.specs.Refused.{first_is, is_type_name};
 ghost use Rattle.c_descent.specs.Answers.{Answers};
 ghost use Rattle.c_descent.specs.Kinds.{spec_at, tag_at};
 ghost use Rattle.c_descent.specs.Views.{scene_of};
@@ -14,14 +12,17 @@ ghost use Rattle.c_descent.specs.Views.{scene_of};
 use crate::declarators::declarator;
 use crate::exprs::conditional;
 use c_descent::{
-    Class, Context, Fault, Mark, Role, SpecKind, TagKind, barred, basic, comes, constant, is_type,
-    name_of, one_declarator, one_enumerator, one_member, one_spec, push_declarator,
-    push_enumerator, push_member, push_spec, refused, spec_ahead, spec_at, specs_pos, storage,
-    tag_at, taken, type_name_ahead, typedef_name, valued_enumerator,
+    Class, Context, Fault, Mark, Role, SpecKind, TagKind, barred, comes, first, is_type, name_of,
+    one_declarator, one_enumerator, one_member, one_spec, push_declarator, push_enumerator,
+    push_member, push_spec, refused, spec_ahead, spec_at, tag_at, taken, valued_enumerator,
+};
+use c_leaves::{
+    basic, comma_end, constant, members_end, storage, tells_type, type_comes_again, typedef_name,
+    word,
 };
 use c_written::{
-    Construct, Declarator, Declarators, Enumerator, Enumerators, Keyword, MemberDecl, MemberDecls,
-    Name, Placed, Pos, Punctuator, Spec, Specs, Tag,
+    Construct, Declarator, Enumerator, Enumerators, Keyword, Mark, MemberDecl, MemberDecls, Name,
+    Placed, Pos, Punctuator, Spec, Specs, Tag,
 };
 
 /// Specs, as many as there are.
@@ -396,30 +397,6 @@ fn more_declarators<'a>(
     }
 }
 
-/// The semicolon behind the declarators of members.
-fn members_end<'a>(
-    context: &Context<'_>,
-    count: u32,
-    specs: Specs,
-    declarators: Vec<Declarator>,
-    tokens: &'a [Placed],
-) -> Result<(MemberDecl, &'a [Placed]), Fault<'a>>
-    requires { first_is is_semicolon tokens.now ≡ true }
-    ensures goes { Answers count (scene_of context.now) (part.MoreDeclarators (specs_tree specs) (declarators_from declarators.items)) tokens.now (λ m. memberdecl_tree m) result }
-    ensures shorter { IfOk result (λ x. length x.1.now < length tokens.now) }
-{
-    let semicolon = Class::Sign(Punctuator::Semicolon);
-    let (_end, rest) = taken(context, count, 0, semicolon, tokens)?;
-    Ok((
-        MemberDecl::Members {
-            pos: specs_pos(&specs),
-            specs,
-            declarators: Declarators::from_vec(declarators),
-        },
-        rest,
-    ))
-}
-
 /// The constants of an enumeration, up to the brace that closes them.
 #[cycle(descent)]
 fn enumerators<'a>(
@@ -463,22 +440,6 @@ fn more_enumerators<'a>(
     Ok((Enumerators::from_vec(items), rest))
 }
 
-/// The brace behind a last comma.
-fn comma_end<'a>(
-    context: &Context<'_>,
-    count: u32,
-    items: Vec<Enumerator>,
-    tokens: &'a [Placed],
-) -> Result<(Enumerators, &'a [Placed]), Fault<'a>>
-    requires { first_is is_right_brace tokens.now ≡ true }
-    ensures goes { Answers count (scene_of context.now) (part.NextEnumerator (enumerators_from items.items)) tokens.now (λ e. enumerators_tree e) result }
-    ensures shorter { IfOk result (λ x. length x.1.now < length tokens.now) }
-{
-    let closes = Class::Sign(Punctuator::RightBrace);
-    let (_close, rest) = taken(context, count, 0, closes, tokens)?;
-    Ok((Enumerators::from_vec(items), rest))
-}
-
 /// A constant of an enumeration.
 #[cycle(descent)]
 fn enumerator<'a>(
@@ -515,18 +476,4 @@ fn enumerator_value<'a>(
     let (value, rest) = conditional(context, count + 1, behind)?;
     let whole = valued_enumerator(context.alloc, at, name, value)?;
     Ok((whole, rest))
-}
-
-// A typedef name comes behind specs that tell a type.
-fn type_comes_again(context: &Context<'_>, has_type: bool, tokens: &[Placed]) -> bool
-    ensures { result ≡ (first_is (is_type_name (scene_of context.now)) tokens.now && has_type) }
-{
-    type_name_ahead(context, tokens) && has_type
-}
-
-// Whether specs tell a type, with one more.
-fn tells_type(before: bool, next: &Spec) -> bool
-    ensures { result ≡ (before || is_type (spec_tree next.now)) }
-{
-    before || is_type(next)
 }

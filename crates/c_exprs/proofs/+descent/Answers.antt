@@ -13,10 +13,10 @@ use Rattle.c_descent.specs.Views.{scene_of, level_view, role_view}
 use Rattle.c_descent.specs.Answers.{given, halted, stepped}
 use Rattle.c_descent.proofs.Steps.{halts, failed, starved, stalls, starves, answer, halt, take, refuse, step, stall, stopped, by, here, stops_here, done, if_true, if_false, borne, unborne, sign_is}
 use Rattle.c_descent.proofs.Choices.{primary_is, prefix_is, suffix_is, assign_is, more_is}
-use Rattle.c_exprs.proofs.ExprSteps.{operand_at, not_question, is_question_ahead, suffix_free, tail_expr, suffixes_at, behind_sign, joint_step, joint_stop, argument_step, arguments_at, and_left, nothing_of, call_by, no_other, no_joint}
+use Rattle.c_leaves.proofs.ExprSteps.{operand_at, not_question, is_question_ahead, suffix_free, tail_expr, suffixes_at, behind_sign, joint_step, joint_stop, argument_step, arguments_at, and_left, nothing_of, call_by, no_other, no_joint}
 use Rattle.c_grammar.specs.Made.{function_of}
 use Rattle.c_descent.proofs.TypeSteps.{spec_is, structure_is, enumeration_is, specs_at, members_at, declarators_at, enumerators_at, structure_tagged_at, enumeration_tagged_at, value_at, again_is, spec_step, member_step, declarator_step, next_step, enumerator_step, carried, one_type, more_type}
-use Rattle.c_exprs.proofs.DeclaratorSteps.{direct_is, tail_is, no_tail, tails_at, tails_named, tails_absent, parameters_at, tail_declarator, parameter_step, both_true, first_false}
+use Rattle.c_leaves.proofs.DeclaratorSteps.{direct_is, tail_is, no_tail, tails_at, tails_named, tails_absent, parameters_at, tail_declarator, parameter_step, both_true, first_false}
 use Rattle.c_exprs.proofs.+descent.Goals as goal
 
 pub exprs::run-returns-in_err-first-clause-goes : goal.exprs::run-returns-in_err-first-clause-goes

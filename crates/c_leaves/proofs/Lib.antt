@@ -1,0 +1,2 @@
+pub mod DeclaratorSteps
+pub mod ExprSteps

@@ -1,0 +1,190 @@
+// What one kind of token makes alone.
+#![tactic(auto, using(c_written::proofs::Trees::the_written_trees))]
+
+ghost use Rattle.std.specs.Prelude.{◌≡◌, ◌<◌, ◌≤◌, length, IfOk};
+ghost use Rattle.c_written.specs.Written.{expr_tree, spec_tree};
+ghost use Rattle.c_grammar.specs.Parts as part;
+ghost use Rattle.c_descent.specs.Views.{scene_of};
+ghost use Rattle.c_descent.specs.Kinds.{primary_at, spec_at};
+ghost use Rattle.c_descent.specs.Answers.{Answers};
+
+use c_descent::{
+    Class, Context, Fault, Mark, byte_of, bytes_of, comes, constant_of, name_of, push_bytes,
+    storage_word, taken, type_word,
+};
+use c_written::{Bytes, Expr, Keyword, Mark, Placed, Pos, Spec, StorageWord, TypeWord};
+
+/// A word.
+pub fn word<'a>(
+    context: &Context<'_>,
+    count: u32,
+    tokens: &'a [Placed],
+) -> Result<(Expr, &'a [Placed]), Fault<'a>>
+    requires { primary_at (scene_of context.now) tokens.now ≡ PrimaryKind.Word }
+    ensures goes { Answers count (scene_of context.now) (part.AnExpr part.Primary) tokens.now (λ e. expr_tree e) result }
+    ensures shorter { IfOk result (λ x. length x.1.now < length tokens.now) }
+{
+    let (word, rest) = taken(context, count, 0, Class::Word, tokens)?;
+    let name = name_of(context.alloc, &word.token)?;
+    Ok((
+        Expr::Word {
+            pos: word.pos,
+            name,
+        },
+        rest,
+    ))
+}
+
+/// A number.
+pub fn number<'a>(
+    context: &Context<'_>,
+    count: u32,
+    tokens: &'a [Placed],
+) -> Result<(Expr, &'a [Placed]), Fault<'a>>
+    requires { primary_at (scene_of context.now) tokens.now ≡ PrimaryKind.Number }
+    ensures goes { Answers count (scene_of context.now) (part.AnExpr part.Primary) tokens.now (λ e. expr_tree e) result }
+    ensures shorter { IfOk result (λ x. length x.1.now < length tokens.now) }
+{
+    let (number, rest) = taken(context, count, 0, Class::Number, tokens)?;
+    Ok((
+        Expr::Number {
+            pos: number.pos,
+            constant: constant_of(&number.token),
+        },
+        rest,
+    ))
+}
+
+/// A character constant.
+pub fn character<'a>(
+    context: &Context<'_>,
+    count: u32,
+    tokens: &'a [Placed],
+) -> Result<(Expr, &'a [Placed]), Fault<'a>>
+    requires { primary_at (scene_of context.now) tokens.now ≡ PrimaryKind.Character }
+    ensures goes { Answers count (scene_of context.now) (part.AnExpr part.Primary) tokens.now (λ e. expr_tree e) result }
+    ensures shorter { IfOk result (λ x. length x.1.now < length tokens.now) }
+{
+    let (character, rest) = taken(context, count, 0, Class::Character, tokens)?;
+    Ok((
+        Expr::Character {
+            pos: character.pos,
+            byte: byte_of(&character.token),
+        },
+        rest,
+    ))
+}
+
+/// Strings that stand next to each other, which are one literal.
+pub fn strings<'a>(
+    context: &Context<'_>,
+    count: u32,
+    tokens: &'a [Placed],
+) -> Result<(Expr, &'a [Placed]), Fault<'a>>
+    requires { primary_at (scene_of context.now) tokens.now ≡ PrimaryKind.Text }
+    ensures goes { Answers count (scene_of context.now) (part.AnExpr part.Primary) tokens.now (λ e. expr_tree e) result }
+    ensures shorter { IfOk result (λ x. length x.1.now < length tokens.now) }
+{
+    let (text, rest) = taken(context, count, 0, Class::Text, tokens)?;
+    let bytes = bytes_of(context.alloc, &text.token)?;
+    let (literal, rest) = more_strings(context, count, text.pos, bytes, rest)?;
+    Ok((literal, rest))
+}
+
+// The strings behind the first.
+fn more_strings<'a>(
+    context: &Context<'_>,
+    count: u32,
+    pos: Pos,
+    before: Vec<u8>,
+    tokens: &'a [Placed],
+) -> Result<(Expr, &'a [Placed]), Fault<'a>>
+    ensures goes { Answers count (scene_of context.now) (part.AnExpr (part.Texts pos before.items)) tokens.now (λ e. expr_tree e) result }
+    ensures shorter { IfOk result (λ x. length x.1.now ≤ length tokens.now) }
+{
+    let mut bytes = before;
+    let mut rest = tokens;
+    'texts: while comes(Mark::Text, rest) {
+        let (text, after) = taken(context, count, 0, Class::Text, rest)?;
+        push_bytes(&mut bytes, &text.token)?;
+        rest = after;
+    }
+    Ok((
+        Expr::Strings {
+            pos,
+            bytes: Bytes::from_vec(bytes),
+        },
+        rest,
+    ))
+}
+
+/// A typedef name.
+pub fn typedef_name<'a>(
+    context: &Context<'_>,
+    count: u32,
+    tokens: &'a [Placed],
+) -> Result<(Spec, &'a [Placed]), Fault<'a>>
+    requires { spec_at (scene_of context.now) tokens.now ≡ SpecKind.TypedefName }
+    ensures goes { Answers count (scene_of context.now) (part.ASpec part.Spec) tokens.now (λ s. spec_tree s) result }
+    ensures shorter { IfOk result (λ x. length x.1.now < length tokens.now) }
+{
+    let (word, rest) = taken(context, count, 0, Class::TypeName, tokens)?;
+    let name = name_of(context.alloc, &word.token)?;
+    Ok((
+        Spec::TypedefName {
+            pos: word.pos,
+            name,
+        },
+        rest,
+    ))
+}
+
+/// A storage word.
+pub fn storage<'a>(
+    context: &Context<'_>,
+    count: u32,
+    word: StorageWord,
+    tokens: &'a [Placed],
+) -> Result<(Spec, &'a [Placed]), Fault<'a>>
+    requires { spec_at (scene_of context.now) tokens.now ≡ SpecKind.Storage word }
+    ensures goes { Answers count (scene_of context.now) (part.ASpec part.Spec) tokens.now (λ s. spec_tree s) result }
+    ensures shorter { IfOk result (λ x. length x.1.now < length tokens.now) }
+{
+    let (at, rest) = taken(
+        context,
+        count,
+        0,
+        Class::Keyword(storage_word(word)),
+        tokens,
+    )?;
+    Ok((Spec::Storage { pos: at.pos, word }, rest))
+}
+
+/// `const`.
+pub fn constant<'a>(
+    context: &Context<'_>,
+    count: u32,
+    tokens: &'a [Placed],
+) -> Result<(Spec, &'a [Placed]), Fault<'a>>
+    requires { spec_at (scene_of context.now) tokens.now ≡ SpecKind.Const }
+    ensures goes { Answers count (scene_of context.now) (part.ASpec part.Spec) tokens.now (λ s. spec_tree s) result }
+    ensures shorter { IfOk result (λ x. length x.1.now < length tokens.now) }
+{
+    let (at, rest) = taken(context, count, 0, Class::Keyword(Keyword::Const), tokens)?;
+    Ok((Spec::Const { pos: at.pos }, rest))
+}
+
+/// A type word.
+pub fn basic<'a>(
+    context: &Context<'_>,
+    count: u32,
+    word: TypeWord,
+    tokens: &'a [Placed],
+) -> Result<(Spec, &'a [Placed]), Fault<'a>>
+    requires { spec_at (scene_of context.now) tokens.now ≡ SpecKind.Basic word }
+    ensures goes { Answers count (scene_of context.now) (part.ASpec part.Spec) tokens.now (λ s. spec_tree s) result }
+    ensures shorter { IfOk result (λ x. length x.1.now < length tokens.now) }
+{
+    let (at, rest) = taken(context, count, 0, Class::Keyword(type_word(word)), tokens)?;
+    Ok((Spec::Basic { pos: at.pos, word }, rest))
+}

@@ -1,0 +1,13 @@
+//! What the parser of expressions reads that holds no expression: words, constants and literals,
+//! members, and how lists end.
+#![tactic(auto)]
+
+mod ends;
+mod leaf;
+mod suffix;
+mod tail;
+
+pub use ends::{comma_end, members_end, tells_type, type_comes_again};
+pub use leaf::{basic, character, constant, number, storage, strings, typedef_name, word};
+pub use suffix::{arrow, calls_no_word, dot, is_no_suffix, no_arguments, post_step};
+pub use tail::{calls_no_name, consts, is_no_tail, no_parameters, no_size, params_come};

@@ -1,0 +1,118 @@
+// What may follow an operand and holds no expression.
+#![tactic(auto, using(c_written::proofs::Trees::the_written_trees))]
+
+ghost use Rattle.std.specs.Prelude.{◌≡◌, ◌+◌, ◌<◌, ◌≤◌, true, not, ◌&&◌, length, IfOk};
+ghost use Rattle.c_written.specs.Written.{expr_tree, exprs_tree};
+ghost use Rattle.c_grammar.specs.Ahead.{is_close, is_open};
+ghost use Rattle.c_grammar.specs.Made.{is_word};
+ghost use Rattle.c_grammar.specs.Parts as part;
+ghost use Rattle.c_descent.specs.Answers.{Answers, Steps};
+ghost use Rattle.c_grammar.specs.Descent.{Goes};
+ghost use Rattle.c_grammar.specs.Refused.{first_is};
+ghost use Rattle.c_leaves.specs.Readers.{ReadsMember};
+ghost use Rattle.c_descent.specs.Kinds.{is_no_suffix, suffix_at};
+ghost use Rattle.c_descent.specs.Views.{scene_of};
+
+use c_descent::{
+    Class, Context, Fault, Mark, SuffixKind, arrow_expr, comes, dot_expr, is_word, name_of,
+    post_step_expr, step_sign, taken,
+};
+use c_written::{Expr, Exprs, Mark, Name, Placed, Pos, Punctuator, StepWay};
+
+/// `.` and a member.
+pub fn dot<'a>(
+    context: &Context<'_>,
+    count: u32,
+    base: Expr,
+    tokens: &'a [Placed],
+) -> Result<(Expr, &'a [Placed]), Fault<'a>>
+    requires { suffix_at tokens.now ≡ SuffixKind.Dot }
+    ensures goes { Steps (λ o. Goes count (scene_of context.now) (part.AnExpr (part.Suffixes (expr_tree base))) tokens.now o) (λ e rest o. Goes (count + 1) (scene_of context.now) (part.AnExpr (part.Suffixes (expr_tree e))) rest o) result }
+    ensures within { IfOk result (λ _. count + 1 ≤ 200) }
+    ensures shorter { IfOk result (λ x. length x.1.now < length tokens.now) }
+{
+    let ((at, name), rest) = member(context, count, Punctuator::Dot, tokens)?;
+    let whole = dot_expr(context.alloc, at, base, name)?;
+    Ok((whole, rest))
+}
+
+/// `->` and a member.
+pub fn arrow<'a>(
+    context: &Context<'_>,
+    count: u32,
+    base: Expr,
+    tokens: &'a [Placed],
+) -> Result<(Expr, &'a [Placed]), Fault<'a>>
+    requires { suffix_at tokens.now ≡ SuffixKind.Arrow }
+    ensures goes { Steps (λ o. Goes count (scene_of context.now) (part.AnExpr (part.Suffixes (expr_tree base))) tokens.now o) (λ e rest o. Goes (count + 1) (scene_of context.now) (part.AnExpr (part.Suffixes (expr_tree e))) rest o) result }
+    ensures within { IfOk result (λ _. count + 1 ≤ 200) }
+    ensures shorter { IfOk result (λ x. length x.1.now < length tokens.now) }
+{
+    let ((at, name), rest) = member(context, count, Punctuator::Arrow, tokens)?;
+    let whole = arrow_expr(context.alloc, at, base, name)?;
+    Ok((whole, rest))
+}
+
+/// A sign, and the name of the member behind it.
+pub fn member<'a>(
+    context: &Context<'_>,
+    count: u32,
+    sign: Punctuator,
+    tokens: &'a [Placed],
+) -> Result<((Pos, Name), &'a [Placed]), Fault<'a>>
+    ensures goes { ReadsMember count (scene_of context.now) sign tokens.now result }
+    ensures within { IfOk result (λ _. count + 1 ≤ 200) }
+    ensures shorter { IfOk result (λ x. length x.1.now < length tokens.now) }
+{
+    let (at, behind) = taken(context, count, 1, Class::Sign(sign), tokens)?;
+    let (word, rest) = taken(context, count, 1, Class::AnyWord, behind)?;
+    let name = name_of(context.alloc, &word.token)?;
+    Ok(((at.pos, name), rest))
+}
+
+/// `++` or `--` behind an expression.
+pub fn post_step<'a>(
+    context: &Context<'_>,
+    count: u32,
+    way: StepWay,
+    base: Expr,
+    tokens: &'a [Placed],
+) -> Result<(Expr, &'a [Placed]), Fault<'a>>
+    requires { suffix_at tokens.now ≡ SuffixKind.Step way }
+    ensures goes { Steps (λ o. Goes count (scene_of context.now) (part.AnExpr (part.Suffixes (expr_tree base))) tokens.now o) (λ e rest o. Goes (count + 1) (scene_of context.now) (part.AnExpr (part.Suffixes (expr_tree e))) rest o) result }
+    ensures within { IfOk result (λ _. count + 1 ≤ 200) }
+    ensures shorter { IfOk result (λ x. length x.1.now < length tokens.now) }
+{
+    let sign = Class::Sign(step_sign(way));
+    let (at, rest) = taken(context, count, 1, sign, tokens)?;
+    let whole = post_step_expr(context.alloc, at.pos, way, base)?;
+    Ok((whole, rest))
+}
+
+/// No arguments.
+pub fn no_arguments<'a>(
+    context: &Context<'_>,
+    count: u32,
+    tokens: &'a [Placed],
+) -> Result<(Exprs, &'a [Placed]), Fault<'a>>
+    requires { first_is is_close tokens.now ≡ true }
+    ensures goes { Answers count (scene_of context.now) part.Arguments tokens.now (λ a. exprs_tree a) result }
+    ensures shorter { IfOk result (λ x. length x.1.now < length tokens.now) }
+{
+    let closes = Class::Sign(Punctuator::RightParenthesis);
+    let (_close, rest) = taken(context, count, 0, closes, tokens)?;
+    Ok((Exprs::new(context.alloc), rest))
+}
+
+// The parenthesis of a call comes, and no plain word stands before it.
+pub fn calls_no_word(base: &Expr, tokens: &[Placed]) -> bool
+    ensures { result ≡ (first_is is_open tokens.now && not (is_word (expr_tree base.now))) }
+{
+    comes(Mark::Open, tokens) && !is_word(base)
+}
+
+pub fn is_no_suffix(kind: SuffixKind) -> bool
+    ensures { result ≡ is_no_suffix kind }
+{
+    matches!(kind, SuffixKind::Nothing)
+}
