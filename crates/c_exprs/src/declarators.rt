@@ -13,12 +13,11 @@ use crate::exprs::conditional;
 use crate::types::specs;
 use c_descent::{
     Class, Context, DirectKind, Fault, Mark, Role, TailKind, array_declarator, barred, comes,
-    direct_at, first, function_declarator, grouped_declarator, is_given, name_of, one_param,
-    param_of, plain_word_ahead, pointer_declarator, push_param, refused, tail_at, taken,
-    type_name_ahead,
+    direct_at, function_declarator, grouped_declarator, is_given, name_of, one_param, param_of,
+    plain_word_ahead, pointer_declarator, push_param, refused, tail_at, taken, type_name_ahead,
 };
-use c_leaves::{calls_no_name, consts, is_no_tail, no_parameters, no_size, params_come, word};
-use c_written::{Construct, Declarator, Expr, Mark, Name, Param, Placed, Pos, Punctuator};
+use c_leaves::{calls_no_name, consts, is_no_tail, no_parameters, no_size, params_come};
+use c_written::{Construct, Declarator, Expr, Name, Param, Placed, Pos, Punctuator};
 
 /// A declarator, or an abstract one.
 #[cycle(descent)]

@@ -17,16 +17,16 @@ use crate::types::specs;
 use c_descent::{
     AssignKind, Class, Context, Fault, Level, Mark, PrefixKind, PrimaryKind, Role, SuffixKind,
     assign_at, assign_expr, assign_sign, barred, barred_call, cast_expr, comes, compound_expr,
-    cond_expr, enclosed_expr, first, index_expr, joined, joint_at, joint_sign, one_expr,
-    pre_step_expr, prefix_at, primary_at, push_expr, refused, sizeof_expr, sizeof_type, step_sign,
-    suffix_at, taken, type_ahead, unary_expr, unary_sign,
+    cond_expr, enclosed_expr, index_expr, joined, joint_at, joint_sign, one_expr, pre_step_expr,
+    prefix_at, primary_at, push_expr, refused, sizeof_expr, sizeof_type, step_sign, suffix_at,
+    taken, type_ahead, unary_expr, unary_sign,
 };
 use c_leaves::{
     arrow, calls_no_word, character, dot, is_no_suffix, no_arguments, number, post_step, strings,
     word,
 };
 use c_written::{
-    AssignOp, Construct, Expr, Exprs, Keyword, Mark, Placed, Pos, Punctuator, StepWay, UnaryOp,
+    AssignOp, Construct, Expr, Exprs, Keyword, Placed, Pos, Punctuator, StepWay, UnaryOp,
 };
 
 /// Operands of a level, and joints between them.

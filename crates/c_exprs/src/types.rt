@@ -12,17 +12,16 @@ ghost use Rattle.c_descent.specs.Views.{scene_of};
 use crate::declarators::declarator;
 use crate::exprs::conditional;
 use c_descent::{
-    Class, Context, Fault, Mark, Role, SpecKind, TagKind, barred, comes, first, is_type, name_of,
+    Class, Context, Fault, Mark, Role, SpecKind, TagKind, barred, comes, is_type, name_of,
     one_declarator, one_enumerator, one_member, one_spec, push_declarator, push_enumerator,
     push_member, push_spec, refused, spec_ahead, spec_at, tag_at, taken, valued_enumerator,
 };
 use c_leaves::{
     basic, comma_end, constant, members_end, storage, tells_type, type_comes_again, typedef_name,
-    word,
 };
 use c_written::{
-    Construct, Declarator, Enumerator, Enumerators, Keyword, Mark, MemberDecl, MemberDecls, Name,
-    Placed, Pos, Punctuator, Spec, Specs, Tag,
+    Construct, Declarator, Enumerator, Enumerators, Keyword, MemberDecl, MemberDecls, Name, Placed,
+    Pos, Punctuator, Spec, Specs, Tag,
 };
 
 /// Specs, as many as there are.

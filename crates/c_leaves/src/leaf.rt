@@ -12,7 +12,7 @@ use c_descent::{
     Class, Context, Fault, Mark, byte_of, bytes_of, comes, constant_of, name_of, push_bytes,
     storage_word, taken, type_word,
 };
-use c_written::{Bytes, Expr, Keyword, Mark, Placed, Pos, Spec, StorageWord, TypeWord};
+use c_written::{Bytes, Expr, Keyword, Placed, Pos, Spec, StorageWord, TypeWord};
 
 /// A word.
 pub fn word<'a>(

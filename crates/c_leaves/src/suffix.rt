@@ -17,7 +17,7 @@ use c_descent::{
     Class, Context, Fault, Mark, SuffixKind, arrow_expr, comes, dot_expr, is_word, name_of,
     post_step_expr, step_sign, taken,
 };
-use c_written::{Expr, Exprs, Mark, Name, Placed, Pos, Punctuator, StepWay};
+use c_written::{Expr, Exprs, Name, Placed, Pos, Punctuator, StepWay};
 
 /// `.` and a member.
 pub fn dot<'a>(

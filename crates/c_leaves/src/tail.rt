@@ -16,7 +16,7 @@ use c_descent::{
     Class, Context, Fault, Mark, Role, TailKind, comes, empty_declarator, is_given,
     open_array_declarator, params_ahead, taken,
 };
-use c_written::{Declarator, Keyword, Mark, Placed, Pos, Punctuator};
+use c_written::{Declarator, Keyword, Placed, Pos, Punctuator};
 
 /// The words `const` behind a `*`, and whether there is one.
 pub fn consts<'a>(
