@@ -54,7 +54,7 @@ pub fn arrow<'a>(
 }
 
 /// A sign, and the name of the member behind it.
-pub fn member<'a>(
+fn member<'a>(
     context: &Context<'_>,
     count: u32,
     sign: Punctuator,
