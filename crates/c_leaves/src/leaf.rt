@@ -9,8 +9,8 @@ ghost use Rattle.c_descent.specs.Kinds.{primary_at, spec_at};
 ghost use Rattle.c_descent.specs.Answers.{Answers};
 
 use c_descent::{
-    Class, Context, Fault, Mark, byte_of, bytes_of, comes, constant_of, name_of, push_bytes,
-    storage_word, taken, type_word,
+    Class, Context, Fault, Mark, PrimaryKind, SpecKind, byte_of, bytes_of, comes, constant_of,
+    name_of, push_bytes, storage_word, taken, type_word,
 };
 use c_written::{Bytes, Expr, Keyword, Placed, Pos, Spec, StorageWord, TypeWord};
 
