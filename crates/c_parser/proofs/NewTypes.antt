@@ -16,7 +16,7 @@ use Rattle.c_written.specs.WrittenDecl.{initdeclarator_tree}
 use Rattle.c_written.specs.WrittenFile.{outer_tree}
 use Rattle.c_written.proofs.WrittenFileTrees.{outer_declared, outer_function}
 use Rattle.c_grammar.specs.Made.{declared_word, declared_words, has_typedef, is_typedef, new_types, with_word}
-use Rattle.c_stmts.proofs.Starts.{if_false}
+use Rattle.c_descent.proofs.Steps.{if_false}
 
 abbrev pub typedef_among : List Spec → Bool
 typedef_among specs = has_typedef (specs_from specs)
@@ -75,7 +75,7 @@ pub words_added : (before all : List (List ℕ)) (items : List InitDeclarator) (
 words_added before all items i l f = sym (no_more_words before) ∙ ap (λ (v : List (List ℕ)). before ++ v) (sym (at_drop_all words_of items i l)) ∙ f
 
 pub declares_no_type : (decl : Decl) → has_typedef (specs_tree decl.specs) ≡ false → new_types (outer_tree (outers.Declared decl)) ≡ []
-declares_no_type decl h = ap new_types (outer_declared decl) ∙ if_false _ _ h
+declares_no_type decl h = ap new_types (outer_declared decl) ∙ if_false _ h
 
 pub function_names_no_type : (at : Pos) (specs : Specs) (declarator : Declarator) (brace : Pos) (body : BlockItems) → new_types (outer_tree (outers.Function at specs declarator brace body)) ≡ []
 function_names_no_type at specs declarator brace body = ap new_types (outer_function at specs declarator brace body)

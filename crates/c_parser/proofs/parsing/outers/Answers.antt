@@ -1,6 +1,6 @@
 use Rattle.std.proofs.Common.{sym, ap, ◌∙◌}
 use Rattle.std.specs.Result.{is_ok}
-use Rattle.c_stmts.proofs.Starts.{if_true}
+use Rattle.c_descent.proofs.Steps.{if_true}
 use Rattle.c_descent.specs.Answers.{no_memory}
 use Rattle.c_parser.proofs.Answered.{fault_passed, outers_begin, outers_end, outers_more, outer_added, outer_refused, read_with}
 use Rattle.c_parser.proofs.parsing.outers.Goals as goal
@@ -18,7 +18,7 @@ pub returns-in_err-push : goal.returns-in_err-push
 returns-in_err-push c = fault_passed _ _ _ c.from_residual-in_err-push.ensures.1 no_memory
 
 pub loop-rest-preserved : goal.loop-rest-preserved
-loop-rest-preserved c = λ o g. outer_added _ _ (outers_more c.loop-rest.invariant (sym c.is_empty.ensures ∙ c.loop-rest-test.true)) (read_with c.as_slice.ensures.value c.in_ok-next.ensures.goes) c.in_ok-push_types.ensures (c.push.ensures.items ∙ if_true _ _ (ap is_ok c.in_ok-push.was)) g
+loop-rest-preserved c = λ o g. outer_added _ _ (outers_more c.loop-rest.invariant (sym c.is_empty.ensures ∙ c.loop-rest-test.true)) (read_with c.as_slice.ensures.value c.in_ok-next.ensures.goes) c.in_ok-push_types.ensures (c.push.ensures.items ∙ if_true _ (ap is_ok c.in_ok-push.was)) g
 
 pub returns : goal.returns
 returns c = c.loop-rest.invariant _ (outers_end (sym c.is_empty.ensures ∙ c.loop-rest-test.false))
