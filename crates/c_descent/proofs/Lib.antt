@@ -1,5 +1,6 @@
 pub mod NodeSteps
 pub mod Steps
+pub mod Paths
 pub mod Bars
 pub mod Choices
 pub mod TypeSteps

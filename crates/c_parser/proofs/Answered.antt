@@ -14,14 +14,15 @@ use Rattle.c_grammar.specs.Choice.{choose, this}
 use Rattle.c_grammar.specs.Made.{new_types}
 use Rattle.c_grammar.specs.Grammar.{at_start, file_rule}
 use Rattle.c_grammar.specs.Refused.{Why, Syntax, Unsupported, TooDeep, IsFile, IsRefused}
-use Rattle.c_grammar.specs.Descent.{Outcome, Done, Stop, Goes, by_rule, is_done, passes, stops}
+use Rattle.c_grammar.specs.Descent.{Outcome, Done, Stop, Goes, Follows, by_rule, is_done, passes}
 use Rattle.c_grammar.proofs.Laws.{found, file_only, refusal_only}
 use Rattle.c_descent.specs.declared.fault.Fault.{Fault}
 use Rattle.c_descent.specs.declared.fault.Fault.TheVariants as faults
 use Rattle.c_descent.specs.Answers.{Gives, Halts, syntax, unsupported, too_deep}
 use Rattle.c_parser.specs.declared.parsing.ParseError.{ParseError}
 use Rattle.c_parser.specs.declared.parsing.ParseError.TheVariants as errors
-use Rattle.c_stmts.proofs.Steps.{Path, begin, behind, goes_so, halts_for, halts_of, last_outers, same_count}
+use Rattle.c_descent.proofs.Steps.{halt, halts, here, stops_here}
+use Rattle.c_descent.proofs.Paths.{Path, begin, behind, goes_so}
 use Rattle.c_parser.specs.Refusals.{IsError, IsErrorOf, TellsRefused}
 
 -- the descent through the file ends so
@@ -101,6 +102,11 @@ scene_with types = record { types = types; setting = AtFile }
 pub outers_begin : {types : List (List ℕ)} (outers : List Outer) {ts : List Placed} {o : Outcome (List OuterTree)} → types ≡ [] → outers ≡ [] → Goes 0 (scene_with types) (Outers (map (λ o. outer_tree o) outers)) ts o → Reads ts o
 outers_begin outers {ts} {o} e f g = subst (λ (v : List Outer). Goes 0 at_start (Outers (map (λ o. outer_tree o) v)) ts o) f (subst (λ (v : List (List ℕ)). Goes 0 (scene_with v) (Outers (map (λ o. outer_tree o) outers)) ts o) e g)
 
+-- the file goes on with its next declarations
+last_outers : {before more : List OuterTree} {d : ℕ} {w s : Scene} {ts : List Placed} (o : Outcome (List OuterTree)) → Goes d s (Outers more) ts o → Follows d w (Outers before) (part 0 s (Outers more) give) ts o
+last_outers (Done v r) g = here g is_done
+last_outers (Stop why r) g = stops_here g
+
 map_one_more : (xs : List Outer) (x : Outer) → map (λ o. outer_tree o) (xs ++ x ∷ []) ≡ map (λ o. outer_tree o) xs ++ outer_tree x ∷ []
 map_one_more [] x = refl
 map_one_more (y ∷ ys) x = ap (λ v. outer_tree y ∷ v) (map_one_more ys x)
@@ -131,4 +137,4 @@ outer_added {types = types} {more} outers longer {x = x} {o} path h e f g = goes
 
 -- one more declaration was refused
 pub outer_refused : {goes : Outcome (List OuterTree) → Type 0} {w : Scene} {before : List OuterTree} {ts : List Placed} {f : Fault} → Path (Outers before) goes 0 w (part 0 w (AnOuter parts.Outer) (λ next. part 0 (after_outer w next) (Outers (before ++ next ∷ [])) give)) ts → Gives {A = Outer} (λ o. Goes 0 w (AnOuter parts.Outer) ts o) (λ o. outer_tree o) (Err f) → Halts (λ why rest. goes (Stop why rest)) f
-outer_refused path g = halts_for (λ why rest h. goes_so path _ (stops (same_count h))) (halts_of g)
+outer_refused path g = halts (halt g) (λ why rest h. goes_so path _ (stops_here h))

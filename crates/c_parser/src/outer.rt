@@ -11,9 +11,10 @@ ghost use Rattle.c_grammar.specs.Refused.{first_is, is_brace};
 ghost use Rattle.c_descent.specs.Answers.{Answers};
 ghost use Rattle.c_descent.specs.Views.{scene_of};
 
+use c_decls::{initial, no_declarators};
 use c_descent::{Class, Context, Fault, Mark, Role, comes, declared_word, specs_pos, taken};
 use c_exprs::{declarator, specs};
-use c_stmts::{block_items, initial, no_declarators};
+use c_stmts::block_items;
 use c_written::{
     Declarator, InitDeclarator, Name, Outer, Placed, Punctuator, Spec, Specs, StorageWord,
 };

@@ -1,11 +1,7 @@
-//! The descent through declarations and statements.
+//! The descent through statements and blocks.
 #![tactic(auto)]
 
-mod decl;
-mod init;
+mod for_head;
 mod stmt;
-mod stmt_kind;
-mod stmt_leaf;
 
-pub use decl::{initial, no_declarators};
 pub use stmt::block_items;

@@ -12,17 +12,19 @@ ghost use Rattle.c_grammar.specs.Parts as part;
 ghost use Rattle.c_grammar.specs.Refused.{first_is};
 ghost use Rattle.c_descent.specs.Answers.{Answers};
 ghost use Rattle.c_descent.specs.Views.{scene_of, setting_of};
-ghost use Rattle.c_stmts.specs.Kinds.{StatementStarts, boxed_tree};
+ghost use Rattle.c_simple.specs.Kinds.{StatementStarts};
+ghost use Rattle.c_stmts.specs.Kinds.{boxed_tree};
 
-use crate::decl::declaration;
-use crate::stmt_kind::{StatementKind, ends_open, statement_at};
-use crate::stmt_leaf::{
-    condition, empty, expression, for_head, for_stmt, goto, leave, next_turn, return_statement,
-};
+use crate::for_head::{for_head, for_stmt};
+use c_decls::declaration;
 use c_descent::{
     Class, Context, Fault, Mark, Setting, comes, label_ahead, name_of, spec_ahead, taken,
 };
 use c_exprs::conditional;
+use c_simple::{
+    StatementKind, condition, empty, ends_open, expression, goto, leave, next_turn,
+    return_statement, statement_at,
+};
 use c_written::{BlockItem, BlockItems, Expr, Keyword, Placed, Pos, Punctuator, Stmt};
 use std::alloc::AllocError;
 
