@@ -37,8 +37,7 @@ pub fn specs<'a>(
     let (first, rest) = spec(context, count, tokens)?;
     let typed = is_type(&first);
     let items = one_spec(context.alloc, first)?;
-    let (whole, rest) = more_specs(context, count, typed, items, rest)?;
-    Ok((whole, rest))
+    more_specs(context, count, typed, items, rest)
 }
 
 /// The specs behind the first. `typed` tells that those before tell a type.
@@ -105,8 +104,7 @@ fn structure<'a>(
 {
     let keyword = Class::Keyword(Keyword::Struct);
     let (at, behind) = taken(context, count, 0, keyword, tokens)?;
-    let (whole, rest) = structure_form(context, count, at.pos, behind)?;
-    Ok((whole, rest))
+    structure_form(context, count, at.pos, behind)
 }
 
 /// What follows `struct`.
@@ -145,8 +143,7 @@ fn structure_tag<'a>(
         pos: word.pos,
         name,
     };
-    let (whole, rest) = structure_tagged(context, count, at, tag, behind)?;
-    Ok((whole, rest))
+    structure_tagged(context, count, at, tag, behind)
 }
 
 /// Braces without a tag.
@@ -215,8 +212,7 @@ fn enumeration<'a>(
 {
     let keyword = Class::Keyword(Keyword::Enum);
     let (at, behind) = taken(context, count, 0, keyword, tokens)?;
-    let (whole, rest) = enumeration_form(context, count, at.pos, behind)?;
-    Ok((whole, rest))
+    enumeration_form(context, count, at.pos, behind)
 }
 
 /// What follows `enum`.
@@ -255,8 +251,7 @@ fn enumeration_tag<'a>(
         pos: word.pos,
         name,
     };
-    let (whole, rest) = enumeration_tagged(context, count, at, tag, behind)?;
-    Ok((whole, rest))
+    enumeration_tagged(context, count, at, tag, behind)
 }
 
 /// Braces without a tag.
@@ -324,8 +319,7 @@ fn members<'a>(
 {
     let (first, rest) = member(context, count, tokens)?;
     let items = one_member(context.alloc, first)?;
-    let (whole, rest) = more_members(context, count, items, rest)?;
-    Ok((whole, rest))
+    more_members(context, count, items, rest)
 }
 
 /// The members behind the first.
@@ -364,8 +358,7 @@ fn member<'a>(
     let (words, rest) = specs(context, count, tokens)?;
     let (first, rest) = declarator(context, Role::OfMember, count, rest)?;
     let items = one_declarator(context.alloc, first)?;
-    let (whole, rest) = more_declarators(context, count, words, items, rest)?;
-    Ok((whole, rest))
+    more_declarators(context, count, words, items, rest)
 }
 
 /// The declarators of members behind the first.
@@ -408,8 +401,7 @@ fn enumerators<'a>(
 {
     let (first, rest) = enumerator(context, count, tokens)?;
     let items = one_enumerator(context.alloc, first)?;
-    let (whole, rest) = more_enumerators(context, count, items, rest)?;
-    Ok((whole, rest))
+    more_enumerators(context, count, items, rest)
 }
 
 /// The constants behind the first.
@@ -451,8 +443,7 @@ fn enumerator<'a>(
 {
     let (word, behind) = taken(context, count, 0, Class::Word, tokens)?;
     let name = name_of(context.alloc, &word.token)?;
-    let (whole, rest) = enumerator_value(context, count, word.pos, name, behind)?;
-    Ok((whole, rest))
+    enumerator_value(context, count, word.pos, name, behind)
 }
 
 /// The value of a constant, where it is given.
@@ -473,6 +464,5 @@ fn enumerator_value<'a>(
     let sign = Class::Sign(Punctuator::Assign);
     let (_equals, behind) = taken(context, count, 1, sign, tokens)?;
     let (value, rest) = conditional(context, count + 1, behind)?;
-    let whole = valued_enumerator(context.alloc, at, name, value)?;
-    Ok((whole, rest))
+    Ok((valued_enumerator(at, name, value), rest))
 }

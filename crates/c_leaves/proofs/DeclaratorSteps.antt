@@ -7,6 +7,7 @@ use Rattle.c_written.specs.declared.token.Keyword.TheVariants as keywords
 use Rattle.c_written.specs.declared.token.Punctuator.TheVariants as signs
 use Rattle.c_written.specs.declared.token.Token.{Token}
 use Rattle.c_written.specs.declared.token.Token.TheVariants as kinds
+use Rattle.c_written.specs.declared.written.Declarator.{Declarator}
 use Rattle.c_written.specs.declared.written.Declarator.TheVariants as declarators
 use Rattle.c_written.proofs.WrittenTrees.{declarator_absent, declarator_name}
 use Rattle.c_written.specs.Written.{DeclaratorTree, Absent, Name, declarator_tree, ParamTree, ParamTrees, params_then}
@@ -104,11 +105,11 @@ tail_is w r p d ts e = subst (λ v. TailTells w r p d ts v) e (tail_tells w r p 
 pub tails_at : {d : ℕ} {w : Scene} {r : Role} {p : Bool} {a b : DeclaratorTree} {ts : List Placed} {o : Outcome DeclaratorTree} → a ≡ b → Goes d w (ADeclarator (Tails r p a)) ts o → Goes d w (ADeclarator (Tails r p b)) ts o
 tails_at {d} {w} {r} {p} {a} {b} {ts} {o} e g = subst (λ v. Goes d w (ADeclarator (Tails r p v)) ts o) e g
 
-pub tails_named : {d : ℕ} {w : Scene} {r : Role} {p : Bool} {place : Pos} {a b : List ℕ} {ts : List Placed} {o : Outcome DeclaratorTree} → a ≡ b → Goes d w (ADeclarator (Tails r p (declarator_tree (declarators.Name place a)))) ts o → Goes d w (ADeclarator (Tails r p (Name place b))) ts o
-tails_named {d} {w} {r} {p} {place} {a} {b} {ts} {o} e g = tails_at (declarator_name place a ∙ ap (Name place) e) g
+pub tails_named : {d : ℕ} {w : Scene} {r : Role} {p : Bool} {place : Pos} {a b : List ℕ} {v : Declarator} {ts : List Placed} {o : Outcome DeclaratorTree} → v ≡ declarators.Name place a → a ≡ b → Goes d w (ADeclarator (Tails r p (declarator_tree v))) ts o → Goes d w (ADeclarator (Tails r p (Name place b))) ts o
+tails_named {d} {w} {r} {p} {place} {a} {b} {v} {ts} {o} h e g = tails_at (ap declarator_tree h ∙ declarator_name place a ∙ ap (Name place) e) g
 
-pub tails_absent : {d : ℕ} {w : Scene} {r : Role} {p : Bool} {ts : List Placed} {o : Outcome DeclaratorTree} → Goes d w (ADeclarator (Tails r p (declarator_tree declarators.Absent))) ts o → Goes d w (ADeclarator (Tails r p Absent)) ts o
-tails_absent g = tails_at declarator_absent g
+pub tails_absent : {d : ℕ} {w : Scene} {r : Role} {p : Bool} {v : Declarator} {ts : List Placed} {o : Outcome DeclaratorTree} → v ≡ declarators.Absent → Goes d w (ADeclarator (Tails r p (declarator_tree v))) ts o → Goes d w (ADeclarator (Tails r p Absent)) ts o
+tails_absent h g = tails_at (ap declarator_tree h ∙ declarator_absent) g
 
 pub parameters_at : {d : ℕ} {w : Scene} {at : Pos} {inner : DeclaratorTree} {a b : ParamTrees} {ts : List Placed} {o : Outcome DeclaratorTree} → a ≡ b → Goes d w (ADeclarator (MoreParameters at inner a)) ts o → Goes d w (ADeclarator (MoreParameters at inner b)) ts o
 parameters_at {d} {w} {at} {inner} {a} {b} {ts} {o} e g = subst (λ v. Goes d w (ADeclarator (MoreParameters at inner v)) ts o) e g

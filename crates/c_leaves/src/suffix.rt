@@ -11,7 +11,7 @@ ghost use Rattle.c_grammar.specs.Descent.{Goes};
 ghost use Rattle.c_grammar.specs.Refused.{first_is};
 ghost use Rattle.c_leaves.specs.Readers.{ReadsMember};
 ghost use Rattle.c_descent.specs.Kinds.{is_no_suffix, suffix_at};
-ghost use Rattle.c_descent.specs.Views.{scene_of};
+ghost use Rattle.c_descent.specs.Views.{boxed_expr, scene_of};
 
 use c_descent::{
     Class, Context, Fault, Mark, SuffixKind, arrow_expr, comes, dot_expr, is_word, name_of,
@@ -23,11 +23,11 @@ use c_written::{Expr, Exprs, Name, Placed, Pos, Punctuator, StepWay};
 pub fn dot<'a>(
     context: &Context<'_>,
     count: u32,
-    base: Expr,
+    base: Box<Expr>,
     tokens: &'a [Placed],
-) -> Result<(Expr, &'a [Placed]), Fault<'a>>
+) -> Result<(Box<Expr>, &'a [Placed]), Fault<'a>>
     requires { suffix_at tokens.now ≡ SuffixKind.Dot }
-    ensures goes { Steps (λ o. Goes count (scene_of context.now) (part.AnExpr (part.Suffixes (expr_tree base))) tokens.now o) (λ e rest o. Goes (count + 1) (scene_of context.now) (part.AnExpr (part.Suffixes (expr_tree e))) rest o) result }
+    ensures goes { Steps (λ o. Goes count (scene_of context.now) (part.AnExpr (part.Suffixes (boxed_expr base))) tokens.now o) (λ e rest o. Goes (count + 1) (scene_of context.now) (part.AnExpr (part.Suffixes (boxed_expr e))) rest o) result }
     ensures within { IfOk result (λ _. count + 1 ≤ 200) }
     ensures shorter { IfOk result (λ x. length x.1.now < length tokens.now) }
 {
@@ -40,11 +40,11 @@ pub fn dot<'a>(
 pub fn arrow<'a>(
     context: &Context<'_>,
     count: u32,
-    base: Expr,
+    base: Box<Expr>,
     tokens: &'a [Placed],
-) -> Result<(Expr, &'a [Placed]), Fault<'a>>
+) -> Result<(Box<Expr>, &'a [Placed]), Fault<'a>>
     requires { suffix_at tokens.now ≡ SuffixKind.Arrow }
-    ensures goes { Steps (λ o. Goes count (scene_of context.now) (part.AnExpr (part.Suffixes (expr_tree base))) tokens.now o) (λ e rest o. Goes (count + 1) (scene_of context.now) (part.AnExpr (part.Suffixes (expr_tree e))) rest o) result }
+    ensures goes { Steps (λ o. Goes count (scene_of context.now) (part.AnExpr (part.Suffixes (boxed_expr base))) tokens.now o) (λ e rest o. Goes (count + 1) (scene_of context.now) (part.AnExpr (part.Suffixes (boxed_expr e))) rest o) result }
     ensures within { IfOk result (λ _. count + 1 ≤ 200) }
     ensures shorter { IfOk result (λ x. length x.1.now < length tokens.now) }
 {
@@ -75,11 +75,11 @@ pub fn post_step<'a>(
     context: &Context<'_>,
     count: u32,
     way: StepWay,
-    base: Expr,
+    base: Box<Expr>,
     tokens: &'a [Placed],
-) -> Result<(Expr, &'a [Placed]), Fault<'a>>
+) -> Result<(Box<Expr>, &'a [Placed]), Fault<'a>>
     requires { suffix_at tokens.now ≡ SuffixKind.Step way }
-    ensures goes { Steps (λ o. Goes count (scene_of context.now) (part.AnExpr (part.Suffixes (expr_tree base))) tokens.now o) (λ e rest o. Goes (count + 1) (scene_of context.now) (part.AnExpr (part.Suffixes (expr_tree e))) rest o) result }
+    ensures goes { Steps (λ o. Goes count (scene_of context.now) (part.AnExpr (part.Suffixes (boxed_expr base))) tokens.now o) (λ e rest o. Goes (count + 1) (scene_of context.now) (part.AnExpr (part.Suffixes (boxed_expr e))) rest o) result }
     ensures within { IfOk result (λ _. count + 1 ≤ 200) }
     ensures shorter { IfOk result (λ x. length x.1.now < length tokens.now) }
 {
