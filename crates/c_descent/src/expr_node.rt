@@ -2,7 +2,7 @@
 #![tactic(auto, using(c_written::proofs::Trees::the_written_trees))]
 
 ghost use Rattle.std.specs.Prelude.{◌≡◌, IfOk};
-ghost use Rattle.c_written.specs.Written.{exprs_from, specs_tree, expr_tree, exprs_then, more_exprs, no_exprs, Assign, Binary, Cast, Comma, Compound, Cond, Dot, Arrow, Enclosed, Index, PostStep, PreStep, SizeofExpr, SizeofType, Unary};
+ghost use Rattle.c_written.specs.Written.{exprs_from, exprs_tree, specs_tree, expr_tree, exprs_then, more_exprs, no_exprs, Assign, Binary, Call, Cast, Comma, Compound, Cond, Dot, Arrow, Enclosed, Index, PostStep, PreStep, SizeofExpr, SizeofType, Unary};
 ghost use Rattle.c_grammar.specs.Made.{is_word, joined};
 ghost use Rattle.c_descent.specs.Views.{boxed_declarator, boxed_expr, joint_view};
 
@@ -27,6 +27,13 @@ pub fn index_expr(
     ensures { IfOk result (λ e. boxed_expr e ≡ Index pos (boxed_expr base) (boxed_expr index)) }
 {
     Ok(Box::new(alloc, Expr::Index { pos, base, index })?)
+}
+
+/// A call of a word.
+pub fn call_expr(alloc: Global, pos: Pos, name: Name, args: Exprs) -> Result<Box<Expr>, AllocError>
+    ensures { IfOk result (λ e. boxed_expr e ≡ Call pos name (exprs_tree args)) }
+{
+    Ok(Box::new(alloc, Expr::Call { pos, name, args })?)
 }
 
 /// A member, by a point.

@@ -16,14 +16,14 @@ use crate::declarators::declarator;
 use crate::types::specs;
 use c_descent::{
     AssignKind, Class, Context, Fault, Level, Mark, PrefixKind, PrimaryKind, Role, SuffixKind,
-    assign_at, assign_expr, assign_sign, barred, barred_call, cast_expr, comes, compound_expr,
-    cond_expr, enclosed_expr, index_expr, joined, joint_at, joint_sign, one_expr, pre_step_expr,
-    prefix_at, primary_at, push_expr, refused, sizeof_expr, sizeof_type, step_sign, suffix_at,
-    taken, type_ahead, unary_expr, unary_sign,
+    assign_at, assign_expr, assign_sign, barred, barred_call, call_expr, cast_expr, comes,
+    compound_expr, cond_expr, enclosed_expr, index_expr, joined, joint_at, joint_sign, one_expr,
+    pre_step_expr, prefix_at, primary_at, push_expr, refused, sizeof_expr, sizeof_type, step_sign,
+    suffix_at, taken, type_ahead, unary_expr, unary_sign,
 };
 use c_leaves::{
     arrow, calls_no_word, character, dot, is_no_suffix, no_arguments, number, post_step, strings,
-    word,
+    word, word_of,
 };
 use c_written::{
     AssignOp, Construct, Expr, Exprs, Keyword, Placed, Pos, Punctuator, StepWay, UnaryOp,
@@ -519,15 +519,11 @@ fn call<'a>(
     ensures shorter { IfOk result (λ x. length x.1.now < length tokens.now) }
 {
     let opens = Class::Sign(Punctuator::LeftParenthesis);
-    match Box::into_inner(base) {
-        Expr::Word { pos, name } => {
-            let (_opening, behind) = taken(context, count, 2, opens, tokens)?;
-            let (args, rest) = arguments(context, count + 2, behind)?;
-            let whole = Box::new(context.alloc, Expr::Call { pos, name, args })?;
-            Ok((whole, rest))
-        }
-        _ => unreachable!(),
-    }
+    let (pos, name) = word_of(base);
+    let (_opening, behind) = taken(context, count, 2, opens, tokens)?;
+    let (args, rest) = arguments(context, count + 2, behind)?;
+    let whole = call_expr(context.alloc, pos, name, args)?;
+    Ok((whole, rest))
 }
 
 /// A primary expression.

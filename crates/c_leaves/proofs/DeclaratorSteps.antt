@@ -1,5 +1,5 @@
 -- Steps of the descent through declarators and parameters.
-use Rattle.std.proofs.Common.{◌≡◌, refl, sym, subst, ap, ◌∙◌, ℕ, Bool, true, false, ◌&&◌, List, [], ◌∷◌, Bor}
+use Rattle.std.proofs.Common.{◌≡◌, refl, sym, subst, ap, ◌∙◌, ℕ, Bool, true, false, not, ◌&&◌, List, [], ◌∷◌, Bor}
 use Rattle.std.specs.Prelude.{Ok, None}
 use Rattle.c_written.specs.declared.place.Pos.{Pos}
 use Rattle.c_written.specs.declared.token.Placed.{Placed}
@@ -14,6 +14,7 @@ use Rattle.c_written.specs.Written.{DeclaratorTree, Absent, Name, declarator_tre
 use Rattle.c_grammar.specs.Parts.{Scene, Role, Naming, OfMember, OfParameter, OfTypeName, Pointed, Direct, Tails, MoreParameters, ADeclarator, DeclaratorPart, Parameter}
 use Rattle.c_grammar.specs.Process.{give, part}
 use Rattle.c_grammar.specs.Classes.{sign, keyword, names_type}
+use Rattle.c_grammar.specs.Made.{is_given}
 use Rattle.c_grammar.specs.Grammar.{type_rule}
 use Rattle.c_grammar.specs.TypeRules as types
 use Rattle.c_grammar.specs.TypeRules.{MayName, MayOmit}
@@ -141,3 +142,10 @@ pub no_tail : (k : TailKind) → is_no_tail k ≡ true → k ≡ tails.Nothing
 no_tail tails.Nothing e = refl
 no_tail tails.Array e = absurd (let h : false ≡ true = e in cc)
 no_tail tails.Function e = absurd (let h : false ≡ true = e in cc)
+
+-- what was asked of a borrowed declarator holds of the declarator
+pub regiven : {b : Bool} {v u : Declarator} → v ≡ u → b ≡ is_given (declarator_tree v) → is_given (declarator_tree u) ≡ b
+regiven {b} {v} {u} e h = sym (h ∙ ap (λ x. is_given (declarator_tree x)) e)
+
+pub renamed : (a p : Bool) {b : Bool} {v u : Declarator} → v ≡ u → b ≡ (a && (not p && is_given (declarator_tree v))) → (a && (not p && is_given (declarator_tree u))) ≡ b
+renamed a p {b} {v} {u} e h = sym (h ∙ ap (λ x. a && (not p && is_given (declarator_tree x))) e)

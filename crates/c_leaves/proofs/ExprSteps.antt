@@ -1,5 +1,5 @@
 -- Steps of the descent through expressions.
-use Rattle.std.proofs.Common.{◌≡◌, refl, sym, subst, ap, ℕ, ◌+◌, Bool, true, false, not, ◌&&◌, List, [], ◌∷◌, Bor}
+use Rattle.std.proofs.Common.{◌≡◌, refl, sym, subst, ap, ◌∙◌, ℕ, ◌+◌, Bool, true, false, not, ◌&&◌, List, [], ◌∷◌, Bor}
 use Rattle.std.specs.Prelude.{Result, Ok, Err, Option, Some, None, option_map}
 use Rattle.std.specs.declared.alloc.Global.{Global}
 use Rattle.std.specs.declared.boxed.Box.{Box}
@@ -108,6 +108,10 @@ member_at {d} {w} {p} k {at} {a} {b} {ts} {o} e f = subst (λ v. Follows d w p (
 pub and_left : (a b : Bool) → (a && b) ≡ true → a ≡ true
 and_left true b e = refl
 and_left false b e = absurd (let h : false ≡ true = e in cc)
+
+-- what was asked of a borrowed expression holds of the expression
+pub rebased : (a : Bool) {b : Bool} {v u : Expr} → v ≡ u → b ≡ (a && not (is_word (expr_tree v))) → (a && not (is_word (expr_tree u))) ≡ b
+rebased a {b} {v} {u} e h = sym (h ∙ ap (λ x. a && not (is_word (expr_tree x))) e)
 
 pub nothing_of : (k : SuffixKind) → is_no_suffix k ≡ true → k ≡ suffixes.Nothing
 nothing_of suffixes.Nothing e = refl

@@ -2,7 +2,7 @@
 #![tactic(auto, using(c_written::proofs::Trees::the_written_trees))]
 
 ghost use Rattle.std.specs.Prelude.{◌≡◌, ◌+◌, ◌<◌, ◌≤◌, true, not, ◌&&◌, length, IfOk};
-ghost use Rattle.c_written.specs.Written.{expr_tree, exprs_tree};
+ghost use Rattle.c_written.specs.Written.{Word, expr_tree, exprs_tree};
 ghost use Rattle.c_grammar.specs.Ahead.{is_close, is_open};
 ghost use Rattle.c_grammar.specs.Made.{is_word};
 ghost use Rattle.c_grammar.specs.Parts as part;
@@ -102,6 +102,17 @@ pub fn no_arguments<'a>(
     let closes = Class::Sign(Punctuator::RightParenthesis);
     let (_close, rest) = taken(context, count, 0, closes, tokens)?;
     Ok((Exprs::new(context.alloc), rest))
+}
+
+/// The place and the name of a word that is called.
+pub fn word_of(base: Box<Expr>) -> (Pos, Name)
+    requires { is_word (boxed_expr base) ≡ true }
+    ensures { boxed_expr base ≡ Word result.0 result.1 }
+{
+    match Box::into_inner(base) {
+        Expr::Word { pos, name } => (pos, name),
+        _ => unreachable!(),
+    }
 }
 
 // The parenthesis of a call comes, and no plain word stands before it.

@@ -1,8 +1,8 @@
 -- How the functions of the cycle read their parts.
 use Rattle.std.proofs.Common.{refl, sym, ap, ◌∙◌, not, arith}
 use Rattle.c_written.specs.Written as trees
-use Rattle.c_written.specs.Written.{declarator_tree, expr_tree, exprs_from, exprs_tree}
-use Rattle.c_written.proofs.WrittenTrees.{expr_word, expr_call, spec_struct, spec_struct_body, spec_enum, spec_enum_body, enumerator_plain}
+use Rattle.c_written.specs.Written.{exprs_from, exprs_tree}
+use Rattle.c_written.proofs.WrittenTrees.{spec_struct, spec_struct_body, spec_enum, spec_enum_body, enumerator_plain}
 use Rattle.c_grammar.specs.Parts as part
 use Rattle.c_grammar.specs.Process as process
 use Rattle.c_grammar.specs.Grammar.{expr_rule, type_rule}
@@ -13,10 +13,10 @@ use Rattle.c_descent.specs.Views.{boxed_declarator, boxed_expr, scene_of, level_
 use Rattle.c_descent.specs.Answers.{given, halted, stepped}
 use Rattle.c_descent.proofs.Steps.{relayed, halts, failed, starved, stalls, starves, answer, halt, take, refuse, step, stall, stopped, by, here, stops_here, done, if_true, if_false, borne, unborne, sign_is}
 use Rattle.c_descent.proofs.Choices.{primary_is, prefix_is, suffix_is, assign_is, more_is}
-use Rattle.c_leaves.proofs.ExprSteps.{operand_at, not_question, is_question_ahead, suffix_free, tail_expr, suffixes_at, behind_sign, joint_step, joint_stop, argument_step, arguments_at, and_left, nothing_of, call_by, no_other, no_joint}
+use Rattle.c_leaves.proofs.ExprSteps.{operand_at, not_question, is_question_ahead, suffix_free, tail_expr, suffixes_at, behind_sign, joint_step, joint_stop, argument_step, arguments_at, and_left, rebased, nothing_of, call_by, no_joint}
 use Rattle.c_grammar.specs.Made.{function_of}
 use Rattle.c_descent.proofs.TypeSteps.{spec_is, structure_is, enumeration_is, specs_at, members_at, declarators_at, enumerators_at, structure_tagged_at, enumeration_tagged_at, value_at, again_is, spec_step, member_step, declarator_step, next_step, enumerator_step, carried, one_type, more_type}
-use Rattle.c_leaves.proofs.DeclaratorSteps.{direct_is, tail_is, no_tail, tails_at, tails_named, tails_absent, parameters_at, tail_declarator, parameter_step, both_true, first_false}
+use Rattle.c_leaves.proofs.DeclaratorSteps.{direct_is, tail_is, no_tail, tails_at, tails_named, tails_absent, parameters_at, tail_declarator, parameter_step, regiven, renamed, both_true, first_false}
 use Rattle.c_exprs.proofs.+descent.Goals as goal
 
 pub exprs::run-returns-in_err-first-clause-goes : goal.exprs::run-returns-in_err-first-clause-goes
@@ -248,10 +248,10 @@ pub exprs::bracketed-returns-clause-goes : goal.exprs::bracketed-returns-clause-
 exprs::bracketed-returns-clause-goes t c = λ p k. stepped (λ o h. take c.in_ok-at.ensures.goes (goes_on (answer c.in_ok-place.ensures.goes) (take c.in_ok-_close.ensures.goes h)))
 
 pub exprs::suffixes-returns-then-calls_no_word-clause-goes : goal.exprs::suffixes-returns-then-calls_no_word-clause-goes
-exprs::suffixes-returns-then-calls_no_word-clause-goes t c = halted (stopped (c.barred_call.ensures (boxed_expr c.forms.base) (and_left _ _ (sym c.if-calls_no_word.ensures))) (c.forms.invariant.0 _ (is_barred (borne _ (sym c.if-calls_no_word.ensures)))))
+exprs::suffixes-returns-then-calls_no_word-clause-goes t c = halted (stopped (c.barred_call.ensures (boxed_expr c.forms.base) (and_left _ _ (rebased _ c.deref.ensures c.if-calls_no_word.ensures))) (c.forms.invariant.0 _ (is_barred (borne _ (rebased _ c.deref.ensures c.if-calls_no_word.ensures)))))
 
 pub exprs::suffixes-returns-then-is_no_suffix-clause-goes : goal.exprs::suffixes-returns-then-is_no_suffix-clause-goes
-exprs::suffixes-returns-then-is_no_suffix-clause-goes t c = given (c.forms.invariant.0 _ (by (expr_rule rule.no_suffix) (unborne _ (sym c.if-calls_no_word.ensures)) (suffix_is (scene_of c.args.context.now) (boxed_expr c.forms.base) c.forms.rest.now (sym c.suffix_at-kind.ensures ∙ nothing_of _ (sym c.if-is_no_suffix.ensures))).0 is_done))
+exprs::suffixes-returns-then-is_no_suffix-clause-goes t c = given (c.forms.invariant.0 _ (by (expr_rule rule.no_suffix) (unborne _ (rebased _ c.deref.ensures c.if-calls_no_word.ensures)) (suffix_is (scene_of c.args.context.now) (boxed_expr c.forms.base) c.forms.rest.now (sym c.suffix_at-kind.ensures ∙ nothing_of _ (sym c.if-is_no_suffix.ensures))).0 is_done))
 
 pub exprs::suffixes-returns-in_err-longer-clause-goes : goal.exprs::suffixes-returns-in_err-longer-clause-goes
 exprs::suffixes-returns-in_err-longer-clause-goes t c = failed c.from_residual.ensures.1 (halts (stall c.in_err-longer.ensures.goes) (λ why rest g. c.forms.invariant.0 _ g))
@@ -286,20 +286,17 @@ exprs::more_arguments-returns-in_err-_close-clause-goes t c = failed c.from_resi
 pub exprs::more_arguments-returns-clause-goes : goal.exprs::more_arguments-returns-clause-goes
 exprs::more_arguments-returns-clause-goes t c = given (c.others.invariant.0 _ (by (expr_rule rule.arguments_end) refl (if_true _ (sym c.others-test.ensures)) (take c.in_ok-_close.ensures.goes (done c.from_vec.ensures))))
 
-pub exprs::call-returns-in_err-_opening-in-Word-clause-goes : goal.exprs::call-returns-in_err-_opening-in-Word-clause-goes
-exprs::call-returns-in_err-_opening-in-Word-clause-goes t c = stalls c.from_residual.ensures.1 (halts (refuse c.in_err-_opening-in-Word.ensures.goes) (λ why rest g. suffixes_at (sym (ap expr_tree c.in-Word.is ∙ expr_word c.in-Word.pos c.in-Word.name)) (call_by c.requires.0 (g _ _))))
+pub exprs::call-returns-in_err-_opening-clause-goes : goal.exprs::call-returns-in_err-_opening-clause-goes
+exprs::call-returns-in_err-_opening-clause-goes t c = stalls c.from_residual.ensures.1 (halts (refuse c.in_err-_opening.ensures.goes) (λ why rest g. suffixes_at (sym c.word_of.ensures) (call_by c.requires.0 (g _ _))))
 
-pub exprs::call-returns-in_err-args-in-Word-clause-goes : goal.exprs::call-returns-in_err-args-in-Word-clause-goes
-exprs::call-returns-in_err-args-in-Word-clause-goes t c = stalls c.from_residual-in_err-args-in-Word.ensures.1 (halts (halt c.in_err-args-in-Word.ensures.goes) (λ why rest g. suffixes_at (sym (ap expr_tree c.in-Word.is ∙ expr_word c.in-Word.pos c.in-Word.name)) (call_by c.requires.0 (take c.in_ok-_opening-in-Word.ensures.goes (stops g)))))
+pub exprs::call-returns-in_err-args-clause-goes : goal.exprs::call-returns-in_err-args-clause-goes
+exprs::call-returns-in_err-args-clause-goes t c = stalls c.from_residual-in_err-args.ensures.1 (halts (halt c.in_err-args.ensures.goes) (λ why rest g. suffixes_at (sym c.word_of.ensures) (call_by c.requires.0 (take c.in_ok-_opening.ensures.goes (stops g)))))
 
-pub exprs::call-returns-in_err-whole-in-Word-clause-goes : goal.exprs::call-returns-in_err-whole-in-Word-clause-goes
-exprs::call-returns-in_err-whole-in-Word-clause-goes t c = starves c.from_residual-in_err-whole-in-Word.ensures.1
+pub exprs::call-returns-in_err-whole-clause-goes : goal.exprs::call-returns-in_err-whole-clause-goes
+exprs::call-returns-in_err-whole-clause-goes t c = starves c.from_residual-in_err-whole.ensures.1
 
 pub exprs::call-returns-clause-goes : goal.exprs::call-returns-clause-goes
-exprs::call-returns-clause-goes t c = stepped (λ o h. suffixes_at (sym (ap expr_tree c.in-Word.is ∙ expr_word c.in-Word.pos c.in-Word.name)) (call_by c.requires.0 (take c.in_ok-_opening-in-Word.ensures.goes (goes_on (answer c.in_ok-args-in-Word.ensures.goes) (tail_expr o (suffixes_at (expr_call c.in-Word.pos c.in-Word.name c.in_ok-args-in-Word.args) h))))))
-
-pub exprs::call-unreachable-requires : goal.exprs::call-unreachable-requires
-exprs::call-unreachable-requires t c = no_other c.args.base c.requires.1 (λ at name e. c.in_default.not-Word at name e)
+exprs::call-returns-clause-goes t c = stepped (λ o h. suffixes_at (sym c.word_of.ensures) (call_by c.requires.0 (take c.in_ok-_opening.ensures.goes (goes_on (answer c.in_ok-args.ensures.goes) (tail_expr o (suffixes_at c.in_ok-whole.ensures h))))))
 
 pub exprs::more-joints-preserved : goal.exprs::more-joints-preserved
 exprs::more-joints-preserved t c = ((λ o g. c.joints.invariant.0 o (joint_step o (sym c.in-Some.ensures) (behind_sign c.joint_sign.ensures c.in_ok-at.ensures.goes) c.in_ok-left.ensures g)), omega (arith, c.in_ok-at.ensures.shorter))
@@ -596,28 +593,28 @@ pub declarators::grouped-returns-in_err-inner-clause-goes : goal.declarators::gr
 declarators::grouped-returns-in_err-inner-clause-goes t c = failed c.from_residual-in_err-inner.ensures.1 (halts (halt c.in_err-inner.ensures.goes) (λ why rest g. by (type_rule kind.grouped) (unborne _ c.requires.0) (direct_is _ _ _ c.requires.1) (take c.in_ok-opening.ensures.goes (stops g))))
 
 pub declarators::grouped-returns-then-not-is_given-clause-goes : goal.declarators::grouped-returns-then-not-is_given-clause-goes
-declarators::grouped-returns-then-not-is_given-clause-goes t c = halted (stopped c.refused.ensures (by (type_rule kind.grouped) (unborne _ c.requires.0) (direct_is _ _ _ c.requires.1) (take c.in_ok-opening.ensures.goes (goes_on (answer c.in_ok-inner.ensures.goes) (fails (sym c.if-not-is_given.ensures))))))
+declarators::grouped-returns-then-not-is_given-clause-goes t c = halted (stopped c.refused.ensures (by (type_rule kind.grouped) (unborne _ c.requires.0) (direct_is _ _ _ c.requires.1) (take c.in_ok-opening.ensures.goes (goes_on (answer c.in_ok-inner.ensures.goes) (fails (regiven c.deref.ensures c.if-not-is_given.ensures))))))
 
 pub declarators::grouped-returns-in_err-_close-clause-goes : goal.declarators::grouped-returns-in_err-_close-clause-goes
-declarators::grouped-returns-in_err-_close-clause-goes t c = failed c.from_residual-in_err-_close.ensures.1 (halts (refuse c.in_err-_close.ensures.goes) (λ why rest g. by (type_rule kind.grouped) (unborne _ c.requires.0) (direct_is _ _ _ c.requires.1) (take c.in_ok-opening.ensures.goes (goes_on (answer c.in_ok-inner.ensures.goes) (passes (sym c.if-not-is_given.ensures) (g _ _))))))
+declarators::grouped-returns-in_err-_close-clause-goes t c = failed c.from_residual-in_err-_close.ensures.1 (halts (refuse c.in_err-_close.ensures.goes) (λ why rest g. by (type_rule kind.grouped) (unborne _ c.requires.0) (direct_is _ _ _ c.requires.1) (take c.in_ok-opening.ensures.goes (goes_on (answer c.in_ok-inner.ensures.goes) (passes (regiven c.deref.ensures c.if-not-is_given.ensures) (g _ _))))))
 
 pub declarators::grouped-returns-in_err-first-clause-goes : goal.declarators::grouped-returns-in_err-first-clause-goes
 declarators::grouped-returns-in_err-first-clause-goes t c = starved c.from_residual-in_err-first.ensures.1
 
 pub declarators::grouped-returns-clause-goes : goal.declarators::grouped-returns-clause-goes
-declarators::grouped-returns-clause-goes t c = relayed c.tails.ensures.goes (λ x g. by (type_rule kind.grouped) (unborne _ c.requires.0) (direct_is _ _ _ c.requires.1) (take c.in_ok-opening.ensures.goes (goes_on (answer c.in_ok-inner.ensures.goes) (passes (sym c.if-not-is_given.ensures) (take c.in_ok-_close.ensures.goes (here (tails_at c.in_ok-first.ensures g) is_done)))))) (λ why rest g. by (type_rule kind.grouped) (unborne _ c.requires.0) (direct_is _ _ _ c.requires.1) (take c.in_ok-opening.ensures.goes (goes_on (answer c.in_ok-inner.ensures.goes) (passes (sym c.if-not-is_given.ensures) (take c.in_ok-_close.ensures.goes (stops_here (tails_at c.in_ok-first.ensures g)))))))
+declarators::grouped-returns-clause-goes t c = relayed c.tails.ensures.goes (λ x g. by (type_rule kind.grouped) (unborne _ c.requires.0) (direct_is _ _ _ c.requires.1) (take c.in_ok-opening.ensures.goes (goes_on (answer c.in_ok-inner.ensures.goes) (passes (regiven c.deref.ensures c.if-not-is_given.ensures) (take c.in_ok-_close.ensures.goes (here (tails_at c.in_ok-first.ensures g) is_done)))))) (λ why rest g. by (type_rule kind.grouped) (unborne _ c.requires.0) (direct_is _ _ _ c.requires.1) (take c.in_ok-opening.ensures.goes (goes_on (answer c.in_ok-inner.ensures.goes) (passes (regiven c.deref.ensures c.if-not-is_given.ensures) (take c.in_ok-_close.ensures.goes (stops_here (tails_at c.in_ok-first.ensures g)))))))
 
 pub declarators::tails-returns-then-calls_no_name-clause-goes : goal.declarators::tails-returns-then-calls_no_name-clause-goes
-declarators::tails-returns-then-calls_no_name-clause-goes t c = halted (stopped c.barred.ensures (c.forms.invariant.0 _ (is_barred (borne _ (sym c.if-calls_no_name.ensures)))))
+declarators::tails-returns-then-calls_no_name-clause-goes t c = halted (stopped c.barred.ensures (c.forms.invariant.0 _ (is_barred (borne _ (renamed _ _ c.deref.ensures c.if-calls_no_name.ensures)))))
 
 pub declarators::tails-returns-then-is_no_tail-clause-goes : goal.declarators::tails-returns-then-is_no_tail-clause-goes
-declarators::tails-returns-then-is_no_tail-clause-goes t c = given (c.forms.invariant.0 _ (by (type_rule kind.tails_end) (unborne _ (sym c.if-calls_no_name.ensures)) (tail_is _ _ _ _ _ (sym c.tail_at-kind.ensures ∙ no_tail _ (sym c.if-is_no_tail.ensures))) is_done))
+declarators::tails-returns-then-is_no_tail-clause-goes t c = given (c.forms.invariant.0 _ (by (type_rule kind.tails_end) (unborne _ (renamed _ _ c.deref.ensures c.if-calls_no_name.ensures)) (tail_is _ _ _ _ _ (sym c.tail_at-kind.ensures ∙ no_tail _ (sym c.if-is_no_tail.ensures))) is_done))
 
 pub declarators::tails-returns-in_err-longer-clause-goes : goal.declarators::tails-returns-in_err-longer-clause-goes
-declarators::tails-returns-in_err-longer-clause-goes t c = failed c.from_residual.ensures.1 (halts (stall (c.in_err-longer.ensures.goes _ (unborne _ (sym c.if-calls_no_name.ensures)))) (λ why rest g. c.forms.invariant.0 _ g))
+declarators::tails-returns-in_err-longer-clause-goes t c = failed c.from_residual.ensures.1 (halts (stall (c.in_err-longer.ensures.goes _ (unborne _ (renamed _ _ c.deref.ensures c.if-calls_no_name.ensures)))) (λ why rest g. c.forms.invariant.0 _ g))
 
 pub declarators::tails-forms-preserved : goal.declarators::tails-forms-preserved
-declarators::tails-forms-preserved t c = ((λ o g. c.forms.invariant.0 o (step (c.in_ok-longer.ensures.goes _ (unborne _ (sym c.if-calls_no_name.ensures))) o g)), omega (arith, c.in_ok-longer.ensures.shorter))
+declarators::tails-forms-preserved t c = ((λ o g. c.forms.invariant.0 o (step (c.in_ok-longer.ensures.goes _ (unborne _ (renamed _ _ c.deref.ensures c.if-calls_no_name.ensures))) o g)), omega (arith, c.in_ok-longer.ensures.shorter))
 
 pub declarators::array-returns-in_err-at-clause-goes : goal.declarators::array-returns-in_err-at-clause-goes
 declarators::array-returns-in_err-at-clause-goes t c = λ plain e. stalls c.from_residual.ensures.1 (halts (refuse c.in_err-at.ensures.goes) (λ why rest g. by (type_rule kind.array) (e) (tail_is _ _ _ _ _ c.requires) (g _ _)))
