@@ -2,7 +2,7 @@
 use Rattle.std.proofs.Common.{refl, sym, ap, ◌∙◌, not, arith}
 use Rattle.c_written.specs.Written as trees
 use Rattle.c_written.specs.Written.{exprs_from, exprs_tree}
-use Rattle.c_written.proofs.WrittenTrees.{spec_struct, spec_struct_body, spec_enum, spec_enum_body, enumerator_plain}
+use Rattle.c_written.proofs.WrittenTrees.{spec_struct_body, spec_enum_body, enumerator_plain}
 use Rattle.c_grammar.specs.Parts as part
 use Rattle.c_grammar.specs.Process as process
 use Rattle.c_grammar.specs.Grammar.{expr_rule, type_rule}
@@ -14,8 +14,9 @@ use Rattle.c_descent.specs.Answers.{given, halted, stepped}
 use Rattle.c_descent.proofs.Steps.{relayed, halts, failed, starved, stalls, starves, answer, halt, take, refuse, step, stall, stopped, by, here, stops_here, done, if_true, if_false, borne, unborne, sign_is}
 use Rattle.c_descent.proofs.Choices.{primary_is, prefix_is, suffix_is, assign_is, more_is}
 use Rattle.c_leaves.proofs.ExprSteps.{operand_at, not_question, is_question_ahead, suffix_free, tail_expr, suffixes_at, behind_sign, joint_step, joint_stop, argument_step, arguments_at, and_left, rebased, nothing_of, call_by, no_joint}
+use Rattle.c_leaves.proofs.TagSteps.{structure_alone, structure_braces, enumeration_alone, enumeration_braces}
 use Rattle.c_grammar.specs.Made.{function_of}
-use Rattle.c_descent.proofs.TypeSteps.{spec_is, structure_is, enumeration_is, specs_at, members_at, declarators_at, enumerators_at, structure_tagged_at, enumeration_tagged_at, value_at, again_is, spec_step, member_step, declarator_step, next_step, enumerator_step, carried, one_type, more_type}
+use Rattle.c_descent.proofs.TypeSteps.{spec_is, specs_at, members_at, declarators_at, enumerators_at, value_at, again_is, spec_step, member_step, declarator_step, next_step, enumerator_step, carried, one_type, more_type}
 use Rattle.c_leaves.proofs.DeclaratorSteps.{direct_is, tail_is, no_tail, tails_at, tails_named, tails_absent, parameters_at, tail_declarator, parameter_step, regiven, renamed, both_true, first_false}
 use Rattle.c_exprs.proofs.+descent.Goals as goal
 
@@ -287,16 +288,16 @@ pub exprs::more_arguments-returns-clause-goes : goal.exprs::more_arguments-retur
 exprs::more_arguments-returns-clause-goes t c = given (c.others.invariant.0 _ (by (expr_rule rule.arguments_end) refl (if_true _ (sym c.others-test.ensures)) (take c.in_ok-_close.ensures.goes (done c.from_vec.ensures))))
 
 pub exprs::call-returns-in_err-_opening-clause-goes : goal.exprs::call-returns-in_err-_opening-clause-goes
-exprs::call-returns-in_err-_opening-clause-goes t c = stalls c.from_residual.ensures.1 (halts (refuse c.in_err-_opening.ensures.goes) (λ why rest g. suffixes_at (sym c.word_of.ensures) (call_by c.requires.0 (g _ _))))
+exprs::call-returns-in_err-_opening-clause-goes t c = stalls c.from_residual.ensures.1 (halts (refuse c.in_err-_opening.ensures.goes) (λ why rest g. suffixes_at (sym c.word_of-name.ensures) (call_by c.requires.0 (g _ _))))
 
 pub exprs::call-returns-in_err-args-clause-goes : goal.exprs::call-returns-in_err-args-clause-goes
-exprs::call-returns-in_err-args-clause-goes t c = stalls c.from_residual-in_err-args.ensures.1 (halts (halt c.in_err-args.ensures.goes) (λ why rest g. suffixes_at (sym c.word_of.ensures) (call_by c.requires.0 (take c.in_ok-_opening.ensures.goes (stops g)))))
+exprs::call-returns-in_err-args-clause-goes t c = stalls c.from_residual-in_err-args.ensures.1 (halts (halt c.in_err-args.ensures.goes) (λ why rest g. suffixes_at (sym c.word_of-name.ensures) (call_by c.requires.0 (take c.in_ok-_opening.ensures.goes (stops g)))))
 
 pub exprs::call-returns-in_err-whole-clause-goes : goal.exprs::call-returns-in_err-whole-clause-goes
 exprs::call-returns-in_err-whole-clause-goes t c = starves c.from_residual-in_err-whole.ensures.1
 
 pub exprs::call-returns-clause-goes : goal.exprs::call-returns-clause-goes
-exprs::call-returns-clause-goes t c = stepped (λ o h. suffixes_at (sym c.word_of.ensures) (call_by c.requires.0 (take c.in_ok-_opening.ensures.goes (goes_on (answer c.in_ok-args.ensures.goes) (tail_expr o (suffixes_at c.in_ok-whole.ensures h))))))
+exprs::call-returns-clause-goes t c = stepped (λ o h. suffixes_at (sym c.word_of-name.ensures) (call_by c.requires.0 (take c.in_ok-_opening.ensures.goes (goes_on (answer c.in_ok-args.ensures.goes) (tail_expr o (suffixes_at c.in_ok-whole.ensures h))))))
 
 pub exprs::more-joints-preserved : goal.exprs::more-joints-preserved
 exprs::more-joints-preserved t c = ((λ o g. c.joints.invariant.0 o (joint_step o (sym c.in-Some.ensures) (behind_sign c.joint_sign.ensures c.in_ok-at.ensures.goes) c.in_ok-left.ensures g)), omega (arith, c.in_ok-at.ensures.shorter))
@@ -344,82 +345,40 @@ pub types::spec-returns-in-Neither-clause-goes : goal.types::spec-returns-in-Nei
 types::spec-returns-in-Neither-clause-goes t c = halted (stopped c.refused.ensures (no_rule refl (spec_is _ _ (sym c.in-Neither.ensures))))
 
 pub types::structure-returns-in_err-at-clause-goes : goal.types::structure-returns-in_err-at-clause-goes
-types::structure-returns-in_err-at-clause-goes t c = failed c.from_residual.ensures.1 (halts (refuse c.in_err-at.ensures.goes) (λ why rest g. by (type_rule kind.structure) (refl) (spec_is _ _ c.requires) (g _ _)))
+types::structure-returns-in_err-at-clause-goes t c = failed c.from_residual.ensures.1 (stall c.in_err-at.ensures.goes)
 
 pub types::structure-returns-clause-goes : goal.types::structure-returns-clause-goes
-types::structure-returns-clause-goes t c = relayed c.structure_form.ensures.goes (λ x g. by (type_rule kind.structure) (refl) (spec_is _ _ c.requires) (take c.in_ok-at.ensures.goes (here g (is_done)))) (λ why rest g. by (type_rule kind.structure) (refl) (spec_is _ _ c.requires) (take c.in_ok-at.ensures.goes (stops_here g)))
+types::structure-returns-clause-goes t c = carried c.structure_form.ensures.goes (λ o g. step c.in_ok-at.ensures.goes o g)
 
-pub types::structure_form-returns-in-Neither-clause-goes : goal.types::structure_form-returns-in-Neither-clause-goes
-types::structure_form-returns-in-Neither-clause-goes t c = halted (stopped c.refused.ensures (no_rule refl (structure_is _ _ _ (sym c.in-Neither.ensures))))
+pub types::structure_form-returns-then-not-comes-clause-goes : goal.types::structure_form-returns-then-not-comes-clause-goes
+types::structure_form-returns-then-not-comes-clause-goes t c = given (structure_alone c.args.at c.args.tag c.requires (sym c.if-not-comes.ensures) c.structure_of.ensures)
 
-pub types::structure_tag-returns-in_err-word-clause-goes : goal.types::structure_tag-returns-in_err-word-clause-goes
-types::structure_tag-returns-in_err-word-clause-goes t c = failed c.from_residual.ensures.1 (halts (refuse c.in_err-word.ensures.goes) (λ why rest g. by (type_rule kind.structure_tag) (refl) (structure_is _ _ _ c.requires) (g _ _)))
+pub types::structure_form-returns-in_err-_opening-clause-goes : goal.types::structure_form-returns-in_err-_opening-clause-goes
+types::structure_form-returns-in_err-_opening-clause-goes t c = failed c.from_residual.ensures.1 (halts (refuse c.in_err-_opening.ensures.goes) (λ why rest g. structure_braces c.args.tag (sym c.if-not-comes.ensures) (g _ _)))
 
-pub types::structure_tag-returns-in_err-name-clause-goes : goal.types::structure_tag-returns-in_err-name-clause-goes
-types::structure_tag-returns-in_err-name-clause-goes t c = starved c.from_residual-in_err-name.ensures.1
+pub types::structure_form-returns-in_err-members-clause-goes : goal.types::structure_form-returns-in_err-members-clause-goes
+types::structure_form-returns-in_err-members-clause-goes t c = failed c.from_residual-in_err-members.ensures.1 (halts (halt c.in_err-members.ensures.goes) (λ why rest g. structure_braces c.args.tag (sym c.if-not-comes.ensures) (take c.in_ok-_opening.ensures.goes (stops g))))
 
-pub types::structure_tag-returns-clause-goes : goal.types::structure_tag-returns-clause-goes
-types::structure_tag-returns-clause-goes t c = relayed c.structure_tagged.ensures.goes (λ x g. by (type_rule kind.structure_tag) (refl) (structure_is _ _ _ c.requires) (take c.in_ok-word.ensures.goes (here (structure_tagged_at c.in_ok-name.ensures g) (is_done)))) (λ why rest g. by (type_rule kind.structure_tag) (refl) (structure_is _ _ _ c.requires) (take c.in_ok-word.ensures.goes (stops_here (structure_tagged_at c.in_ok-name.ensures g))))
-
-pub types::structure_body-returns-in_err-_opening-clause-goes : goal.types::structure_body-returns-in_err-_opening-clause-goes
-types::structure_body-returns-in_err-_opening-clause-goes t c = failed c.from_residual.ensures.1 (halts (refuse c.in_err-_opening.ensures.goes) (λ why rest g. by (type_rule kind.structure_body) (refl) (structure_is _ _ _ c.requires) (g _ _)))
-
-pub types::structure_body-returns-in_err-members-clause-goes : goal.types::structure_body-returns-in_err-members-clause-goes
-types::structure_body-returns-in_err-members-clause-goes t c = failed c.from_residual-in_err-members.ensures.1 (halts (halt c.in_err-members.ensures.goes) (λ why rest g. by (type_rule kind.structure_body) (refl) (structure_is _ _ _ c.requires) (take c.in_ok-_opening.ensures.goes (stops g))))
-
-pub types::structure_body-returns-clause-goes : goal.types::structure_body-returns-clause-goes
-types::structure_body-returns-clause-goes t c = given (by (type_rule kind.structure_body) (refl) (structure_is _ _ _ c.requires) (take c.in_ok-_opening.ensures.goes (goes_on (answer c.in_ok-members.ensures.goes) (done (spec_struct_body _ _ _)))))
-
-pub types::structure_tagged-returns-then-not-comes-clause-goes : goal.types::structure_tagged-returns-then-not-comes-clause-goes
-types::structure_tagged-returns-then-not-comes-clause-goes t c = given (by (type_rule kind.structure_named) refl (if_false _ (sym c.if-not-comes.ensures)) (done (spec_struct _ _)))
-
-pub types::structure_tagged-returns-in_err-_opening-clause-goes : goal.types::structure_tagged-returns-in_err-_opening-clause-goes
-types::structure_tagged-returns-in_err-_opening-clause-goes t c = failed c.from_residual.ensures.1 (halts (refuse c.in_err-_opening.ensures.goes) (λ why rest g. by (type_rule kind.structure_tagged_body) (refl) (if_true _ (sym c.if-not-comes.ensures)) (g _ _)))
-
-pub types::structure_tagged-returns-in_err-members-clause-goes : goal.types::structure_tagged-returns-in_err-members-clause-goes
-types::structure_tagged-returns-in_err-members-clause-goes t c = failed c.from_residual-in_err-members.ensures.1 (halts (halt c.in_err-members.ensures.goes) (λ why rest g. by (type_rule kind.structure_tagged_body) (refl) (if_true _ (sym c.if-not-comes.ensures)) (take c.in_ok-_opening.ensures.goes (stops g))))
-
-pub types::structure_tagged-returns-clause-goes : goal.types::structure_tagged-returns-clause-goes
-types::structure_tagged-returns-clause-goes t c = given (by (type_rule kind.structure_tagged_body) (refl) (if_true _ (sym c.if-not-comes.ensures)) (take c.in_ok-_opening.ensures.goes (goes_on (answer c.in_ok-members.ensures.goes) (done (spec_struct_body _ _ _)))))
+pub types::structure_form-returns-clause-goes : goal.types::structure_form-returns-clause-goes
+types::structure_form-returns-clause-goes t c = given (structure_braces c.args.tag (sym c.if-not-comes.ensures) (take c.in_ok-_opening.ensures.goes (goes_on (answer c.in_ok-members.ensures.goes) (done (spec_struct_body _ _ _)))))
 
 pub types::enumeration-returns-in_err-at-clause-goes : goal.types::enumeration-returns-in_err-at-clause-goes
-types::enumeration-returns-in_err-at-clause-goes t c = failed c.from_residual.ensures.1 (halts (refuse c.in_err-at.ensures.goes) (λ why rest g. by (type_rule kind.enumeration) (refl) (spec_is _ _ c.requires) (g _ _)))
+types::enumeration-returns-in_err-at-clause-goes t c = failed c.from_residual.ensures.1 (stall c.in_err-at.ensures.goes)
 
 pub types::enumeration-returns-clause-goes : goal.types::enumeration-returns-clause-goes
-types::enumeration-returns-clause-goes t c = relayed c.enumeration_form.ensures.goes (λ x g. by (type_rule kind.enumeration) (refl) (spec_is _ _ c.requires) (take c.in_ok-at.ensures.goes (here g (is_done)))) (λ why rest g. by (type_rule kind.enumeration) (refl) (spec_is _ _ c.requires) (take c.in_ok-at.ensures.goes (stops_here g)))
+types::enumeration-returns-clause-goes t c = carried c.enumeration_form.ensures.goes (λ o g. step c.in_ok-at.ensures.goes o g)
 
-pub types::enumeration_form-returns-in-Neither-clause-goes : goal.types::enumeration_form-returns-in-Neither-clause-goes
-types::enumeration_form-returns-in-Neither-clause-goes t c = halted (stopped c.refused.ensures (no_rule refl (enumeration_is _ _ _ (sym c.in-Neither.ensures))))
+pub types::enumeration_form-returns-then-not-comes-clause-goes : goal.types::enumeration_form-returns-then-not-comes-clause-goes
+types::enumeration_form-returns-then-not-comes-clause-goes t c = given (enumeration_alone c.args.at c.args.tag c.requires (sym c.if-not-comes.ensures) c.enumeration_of.ensures)
 
-pub types::enumeration_tag-returns-in_err-word-clause-goes : goal.types::enumeration_tag-returns-in_err-word-clause-goes
-types::enumeration_tag-returns-in_err-word-clause-goes t c = failed c.from_residual.ensures.1 (halts (refuse c.in_err-word.ensures.goes) (λ why rest g. by (type_rule kind.enumeration_tag) (refl) (enumeration_is _ _ _ c.requires) (g _ _)))
+pub types::enumeration_form-returns-in_err-_opening-clause-goes : goal.types::enumeration_form-returns-in_err-_opening-clause-goes
+types::enumeration_form-returns-in_err-_opening-clause-goes t c = failed c.from_residual.ensures.1 (halts (refuse c.in_err-_opening.ensures.goes) (λ why rest g. enumeration_braces c.args.tag (sym c.if-not-comes.ensures) (g _ _)))
 
-pub types::enumeration_tag-returns-in_err-name-clause-goes : goal.types::enumeration_tag-returns-in_err-name-clause-goes
-types::enumeration_tag-returns-in_err-name-clause-goes t c = starved c.from_residual-in_err-name.ensures.1
+pub types::enumeration_form-returns-in_err-enumerators-clause-goes : goal.types::enumeration_form-returns-in_err-enumerators-clause-goes
+types::enumeration_form-returns-in_err-enumerators-clause-goes t c = failed c.from_residual-in_err-enumerators.ensures.1 (halts (halt c.in_err-enumerators.ensures.goes) (λ why rest g. enumeration_braces c.args.tag (sym c.if-not-comes.ensures) (take c.in_ok-_opening.ensures.goes (stops g))))
 
-pub types::enumeration_tag-returns-clause-goes : goal.types::enumeration_tag-returns-clause-goes
-types::enumeration_tag-returns-clause-goes t c = relayed c.enumeration_tagged.ensures.goes (λ x g. by (type_rule kind.enumeration_tag) (refl) (enumeration_is _ _ _ c.requires) (take c.in_ok-word.ensures.goes (here (enumeration_tagged_at c.in_ok-name.ensures g) (is_done)))) (λ why rest g. by (type_rule kind.enumeration_tag) (refl) (enumeration_is _ _ _ c.requires) (take c.in_ok-word.ensures.goes (stops_here (enumeration_tagged_at c.in_ok-name.ensures g))))
-
-pub types::enumeration_body-returns-in_err-_opening-clause-goes : goal.types::enumeration_body-returns-in_err-_opening-clause-goes
-types::enumeration_body-returns-in_err-_opening-clause-goes t c = failed c.from_residual.ensures.1 (halts (refuse c.in_err-_opening.ensures.goes) (λ why rest g. by (type_rule kind.enumeration_body) (refl) (enumeration_is _ _ _ c.requires) (g _ _)))
-
-pub types::enumeration_body-returns-in_err-enumerators-clause-goes : goal.types::enumeration_body-returns-in_err-enumerators-clause-goes
-types::enumeration_body-returns-in_err-enumerators-clause-goes t c = failed c.from_residual-in_err-enumerators.ensures.1 (halts (halt c.in_err-enumerators.ensures.goes) (λ why rest g. by (type_rule kind.enumeration_body) (refl) (enumeration_is _ _ _ c.requires) (take c.in_ok-_opening.ensures.goes (stops g))))
-
-pub types::enumeration_body-returns-clause-goes : goal.types::enumeration_body-returns-clause-goes
-types::enumeration_body-returns-clause-goes t c = given (by (type_rule kind.enumeration_body) (refl) (enumeration_is _ _ _ c.requires) (take c.in_ok-_opening.ensures.goes (goes_on (answer c.in_ok-enumerators.ensures.goes) (done (spec_enum_body _ _ _)))))
-
-pub types::enumeration_tagged-returns-then-not-comes-clause-goes : goal.types::enumeration_tagged-returns-then-not-comes-clause-goes
-types::enumeration_tagged-returns-then-not-comes-clause-goes t c = given (by (type_rule kind.enumeration_named) refl (if_false _ (sym c.if-not-comes.ensures)) (done (spec_enum _ _)))
-
-pub types::enumeration_tagged-returns-in_err-_opening-clause-goes : goal.types::enumeration_tagged-returns-in_err-_opening-clause-goes
-types::enumeration_tagged-returns-in_err-_opening-clause-goes t c = failed c.from_residual.ensures.1 (halts (refuse c.in_err-_opening.ensures.goes) (λ why rest g. by (type_rule kind.enumeration_tagged_body) (refl) (if_true _ (sym c.if-not-comes.ensures)) (g _ _)))
-
-pub types::enumeration_tagged-returns-in_err-enumerators-clause-goes : goal.types::enumeration_tagged-returns-in_err-enumerators-clause-goes
-types::enumeration_tagged-returns-in_err-enumerators-clause-goes t c = failed c.from_residual-in_err-enumerators.ensures.1 (halts (halt c.in_err-enumerators.ensures.goes) (λ why rest g. by (type_rule kind.enumeration_tagged_body) (refl) (if_true _ (sym c.if-not-comes.ensures)) (take c.in_ok-_opening.ensures.goes (stops g))))
-
-pub types::enumeration_tagged-returns-clause-goes : goal.types::enumeration_tagged-returns-clause-goes
-types::enumeration_tagged-returns-clause-goes t c = given (by (type_rule kind.enumeration_tagged_body) (refl) (if_true _ (sym c.if-not-comes.ensures)) (take c.in_ok-_opening.ensures.goes (goes_on (answer c.in_ok-enumerators.ensures.goes) (done (spec_enum_body _ _ _)))))
+pub types::enumeration_form-returns-clause-goes : goal.types::enumeration_form-returns-clause-goes
+types::enumeration_form-returns-clause-goes t c = given (enumeration_braces c.args.tag (sym c.if-not-comes.ensures) (take c.in_ok-_opening.ensures.goes (goes_on (answer c.in_ok-enumerators.ensures.goes) (done (spec_enum_body _ _ _)))))
 
 pub types::more_specs-returns-then-type_comes_again-clause-goes : goal.types::more_specs-returns-then-type_comes_again-clause-goes
 types::more_specs-returns-then-type_comes_again-clause-goes t c = halted (stopped c.barred.ensures (c.words.invariant.0 _ (is_barred (borne _ (again_is _ c.words.invariant.1 (sym c.if-type_comes_again.ensures))))))

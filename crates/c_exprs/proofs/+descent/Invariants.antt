@@ -97,29 +97,11 @@ decreases-types::structure l = 64 * length l.tokens.now + 0
 abbrev pub decreases-types::structure_form : goal.decreases-types::structure_form
 decreases-types::structure_form l = 64 * length l.tokens.now + 1
 
-abbrev pub decreases-types::structure_tag : goal.decreases-types::structure_tag
-decreases-types::structure_tag l = 64 * length l.tokens.now + 0
-
-abbrev pub decreases-types::structure_body : goal.decreases-types::structure_body
-decreases-types::structure_body l = 64 * length l.tokens.now + 0
-
-abbrev pub decreases-types::structure_tagged : goal.decreases-types::structure_tagged
-decreases-types::structure_tagged l = 64 * length l.tokens.now + 0
-
 abbrev pub decreases-types::enumeration : goal.decreases-types::enumeration
 decreases-types::enumeration l = 64 * length l.tokens.now + 0
 
 abbrev pub decreases-types::enumeration_form : goal.decreases-types::enumeration_form
 decreases-types::enumeration_form l = 64 * length l.tokens.now + 1
-
-abbrev pub decreases-types::enumeration_tag : goal.decreases-types::enumeration_tag
-decreases-types::enumeration_tag l = 64 * length l.tokens.now + 0
-
-abbrev pub decreases-types::enumeration_body : goal.decreases-types::enumeration_body
-decreases-types::enumeration_body l = 64 * length l.tokens.now + 0
-
-abbrev pub decreases-types::enumeration_tagged : goal.decreases-types::enumeration_tagged
-decreases-types::enumeration_tagged l = 64 * length l.tokens.now + 0
 
 abbrev pub decreases-types::members : goal.decreases-types::members
 decreases-types::members l = 64 * length l.tokens.now + 4
