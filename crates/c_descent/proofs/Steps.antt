@@ -48,6 +48,11 @@ starves h = stalls h no_memory
 pub answer : {A : Type 0} {d : ℕ} {w : Scene} {p : Part} {ts : List Placed} {view : A → Value p} {x : A × Bor (List Placed)} → Gives (λ o. Goes d w p ts o) view (Ok x) → Goes d w p ts (Done (view x.0) x.1.now)
 answer (given g) = g
 
+-- what the last callee answered is the caller's answer, where each of its outcomes leads to one
+pub relayed : {A V : Type 0} {d : ℕ} {w : Scene} {p : Part} {goes : Outcome V → Type 0} {ts : List Placed} {view : A → Value p} {seen : A → V} {r : Result (A × Bor (List Placed)) Fault} → Gives (λ o. Goes d w p ts o) view r → ((x : A × Bor (List Placed)) → Goes d w p ts (Done (view x.0) x.1.now) → goes (Done (seen x.0) x.1.now)) → ((why : Why) (rest : List Placed) → Goes d w p ts (Stop why rest) → goes (Stop why rest)) → Gives goes seen r
+relayed (given {x = x} g) f h = given (f x g)
+relayed (halted g) f h = halted (halts g h)
+
 pub halt : {A : Type 0} {d : ℕ} {w : Scene} {p : Part} {ts : List Placed} {view : A → Value p} {f : Fault} → Gives (λ o. Goes d w p ts o) view (Err f) → Halts (λ why rest. Goes d w p ts (Stop why rest)) f
 halt (halted h) = h
 

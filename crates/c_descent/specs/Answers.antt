@@ -11,7 +11,7 @@ use Rattle.c_grammar.specs.Refused.{Why, Syntax, Unsupported, TooDeep, first_is,
 use Rattle.c_grammar.specs.Ahead.{params_ahead}
 use Rattle.c_grammar.specs.Made.{is_word}
 use Rattle.c_grammar.specs.Choice.{is_star}
-use Rattle.c_written.specs.Written.{ExprTree, DeclaratorTree, declarator_tree}
+use Rattle.c_written.specs.Written.{ExprTree, DeclaratorTree}
 use Rattle.c_grammar.specs.Descent.{Outcome, Done, Stop, Goes, Follows}
 use Rattle.c_descent.specs.declared.fault.Fault.{Fault}
 use Rattle.c_descent.specs.declared.fault.Fault.TheVariants as faults
@@ -21,7 +21,10 @@ use Rattle.c_descent.specs.declared.type_kind.DirectKind.{DirectKind}
 use Rattle.c_descent.specs.declared.type_kind.TailKind.{TailKind}
 use Rattle.c_descent.specs.declared.type_kind.TailKind.TheVariants as tails
 use Rattle.c_descent.specs.Kinds.{suffix_at, direct_at, tail_at}
+use Rattle.std.specs.declared.alloc.Global.{Global}
+use Rattle.std.specs.declared.boxed.Box.{Box}
 use Rattle.c_written.specs.declared.written.Declarator.{Declarator}
+use Rattle.c_descent.specs.Views.{boxed_declarator}
 
 -- Memory aside, the fault is a stop of this kind.
 pub data Halts (stops : Why → List Placed → Type 0) : Fault → Type 0 where
@@ -88,8 +91,8 @@ TailStarts tokens tails.Function = tail_at tokens ≡ tails.Function
 TailStarts tokens tails.Nothing = ⊥
 
 -- the declarator goes on with brackets or parameters, where they bear no construct
-abbrev pub Extends : ℕ → Scene → Role → DeclaratorTree → List Placed → Result (Declarator × Bor (List Placed)) Fault → Type 0
-Extends count scene role inner tokens r = (plain : Bool) → part_construct scene (ADeclarator (Tails role plain inner)) tokens ≡ None → Steps (λ o. Goes count scene (ADeclarator (Tails role plain inner)) tokens o) (λ longer rest o. Goes count scene (ADeclarator (Tails role false (declarator_tree longer))) rest o) r
+abbrev pub Extends : ℕ → Scene → Role → DeclaratorTree → List Placed → Result (Box Declarator Global × Bor (List Placed)) Fault → Type 0
+Extends count scene role inner tokens r = (plain : Bool) → part_construct scene (ADeclarator (Tails role plain inner)) tokens ≡ None → Steps (λ o. Goes count scene (ADeclarator (Tails role plain inner)) tokens o) (λ longer rest o. Goes count scene (ADeclarator (Tails role false (boxed_declarator longer))) rest o) r
 
 -- brackets without a size, and not of a member
 abbrev pub SizeIsMissing : Role → List Placed → Type 0

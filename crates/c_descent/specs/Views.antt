@@ -1,5 +1,10 @@
 -- What the grammar sees of what the descent knows.
 use Rattle.std.specs.Prelude.{Bool, true, false}
+use Rattle.std.specs.declared.alloc.Global.{Global}
+use Rattle.std.specs.declared.boxed.Box.{Box}
+use Rattle.c_written.specs.declared.written.Declarator.{Declarator}
+use Rattle.c_written.specs.declared.written.Expr.{Expr}
+use Rattle.c_written.specs.Written.{DeclaratorTree, ExprTree, declarator_tree, expr_tree}
 use Rattle.c_written.specs.declared.token.Punctuator.TheVariants as signs
 use Rattle.c_written.specs.declared.token.Token.{Token}
 use Rattle.c_written.specs.declared.token.Token.TheVariants as kinds
@@ -30,6 +35,13 @@ setting_of settings.InSwitch = parts.InSwitch
 -- the scene of the tokens
 abbrev pub scene_of : Context → parts.Scene
 scene_of context = record { types = context.types.now; setting = setting_of context.setting }
+
+-- the trees of what stands in a box of its own
+abbrev pub boxed_expr : Box Expr Global → ExprTree
+boxed_expr e = expr_tree e.value
+
+abbrev pub boxed_declarator : Box Declarator Global → DeclaratorTree
+boxed_declarator d = declarator_tree d.value
 
 abbrev pub class_of : Class → classes.Class
 class_of (wanted.Keyword k) = classes.keyword k

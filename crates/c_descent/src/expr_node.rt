@@ -2,176 +2,199 @@
 #![tactic(auto, using(c_written::proofs::Trees::the_written_trees))]
 
 ghost use Rattle.std.specs.Prelude.{◌≡◌, IfOk};
-ghost use Rattle.c_written.specs.Written.{exprs_from, exprs_tree, declarator_tree, specs_tree, expr_tree, exprs_then, more_exprs, no_exprs, Assign, Binary, Cast, Comma, Compound, Cond, Dot, Arrow, Enclosed, Index, PostStep, PreStep, SizeofExpr, SizeofType, Unary};
+ghost use Rattle.c_written.specs.Written.{exprs_from, exprs_tree, specs_tree, expr_tree, exprs_then, more_exprs, no_exprs, Assign, Binary, Call, Cast, Comma, Compound, Cond, Dot, Arrow, Enclosed, Index, PostStep, PreStep, SizeofExpr, SizeofType, Unary};
 ghost use Rattle.c_grammar.specs.Made.{is_word, joined};
-ghost use Rattle.c_descent.specs.Views.{joint_view};
+ghost use Rattle.c_descent.specs.Views.{boxed_declarator, boxed_expr, joint_view};
 
 use crate::level::Joint;
 use c_written::{AssignOp, Declarator, Expr, Exprs, Name, Pos, Specs, StepWay, UnaryOp};
 use std::alloc::{AllocError, Global};
 
-pub fn enclosed_expr(alloc: Global, pos: Pos, inner: Expr) -> Result<Expr, AllocError>
-    ensures { IfOk result (λ e. expr_tree e ≡ Enclosed pos (expr_tree inner)) }
+/// An expression between parentheses.
+pub fn enclosed_expr(alloc: Global, pos: Pos, inner: Box<Expr>) -> Result<Box<Expr>, AllocError>
+    ensures { IfOk result (λ e. boxed_expr e ≡ Enclosed pos (boxed_expr inner)) }
 {
-    Ok(Expr::Enclosed {
-        pos,
-        inner: Box::new(alloc, inner)?,
-    })
+    Ok(Box::new(alloc, Expr::Enclosed { pos, inner })?)
 }
 
-pub fn index_expr(alloc: Global, pos: Pos, base: Expr, index: Expr) -> Result<Expr, AllocError>
-    ensures { IfOk result (λ e. expr_tree e ≡ Index pos (expr_tree base) (expr_tree index)) }
+/// An index.
+pub fn index_expr(
+    alloc: Global,
+    pos: Pos,
+    base: Box<Expr>,
+    index: Box<Expr>,
+) -> Result<Box<Expr>, AllocError>
+    ensures { IfOk result (λ e. boxed_expr e ≡ Index pos (boxed_expr base) (boxed_expr index)) }
 {
-    Ok(Expr::Index {
-        pos,
-        base: Box::new(alloc, base)?,
-        index: Box::new(alloc, index)?,
-    })
+    Ok(Box::new(alloc, Expr::Index { pos, base, index })?)
 }
 
-pub fn dot_expr(alloc: Global, pos: Pos, base: Expr, member: Name) -> Result<Expr, AllocError>
-    ensures { IfOk result (λ e. expr_tree e ≡ Dot pos (expr_tree base) member) }
+/// A call of a word.
+pub fn call_expr(alloc: Global, pos: Pos, name: Name, args: Exprs) -> Result<Box<Expr>, AllocError>
+    ensures { IfOk result (λ e. boxed_expr e ≡ Call pos name (exprs_tree args)) }
 {
-    Ok(Expr::Dot {
-        pos,
-        base: Box::new(alloc, base)?,
-        member,
-    })
+    Ok(Box::new(alloc, Expr::Call { pos, name, args })?)
 }
 
-pub fn arrow_expr(alloc: Global, pos: Pos, base: Expr, member: Name) -> Result<Expr, AllocError>
-    ensures { IfOk result (λ e. expr_tree e ≡ Arrow pos (expr_tree base) member) }
+/// A member, by a point.
+pub fn dot_expr(
+    alloc: Global,
+    pos: Pos,
+    base: Box<Expr>,
+    member: Name,
+) -> Result<Box<Expr>, AllocError>
+    ensures { IfOk result (λ e. boxed_expr e ≡ Dot pos (boxed_expr base) member) }
 {
-    Ok(Expr::Arrow {
-        pos,
-        base: Box::new(alloc, base)?,
-        member,
-    })
+    Ok(Box::new(alloc, Expr::Dot { pos, base, member })?)
 }
 
+/// A member, by an arrow.
+pub fn arrow_expr(
+    alloc: Global,
+    pos: Pos,
+    base: Box<Expr>,
+    member: Name,
+) -> Result<Box<Expr>, AllocError>
+    ensures { IfOk result (λ e. boxed_expr e ≡ Arrow pos (boxed_expr base) member) }
+{
+    Ok(Box::new(alloc, Expr::Arrow { pos, base, member })?)
+}
+
+/// `++` or `--` behind its operand.
 pub fn post_step_expr(
     alloc: Global,
     pos: Pos,
     way: StepWay,
-    operand: Expr,
-) -> Result<Expr, AllocError>
-    ensures { IfOk result (λ e. expr_tree e ≡ PostStep pos way (expr_tree operand)) }
+    operand: Box<Expr>,
+) -> Result<Box<Expr>, AllocError>
+    ensures { IfOk result (λ e. boxed_expr e ≡ PostStep pos way (boxed_expr operand)) }
 {
-    Ok(Expr::PostStep {
-        pos,
-        way,
-        operand: Box::new(alloc, operand)?,
-    })
+    Ok(Box::new(alloc, Expr::PostStep { pos, way, operand })?)
 }
 
+/// `++` or `--` before its operand.
 pub fn pre_step_expr(
     alloc: Global,
     pos: Pos,
     way: StepWay,
-    operand: Expr,
-) -> Result<Expr, AllocError>
-    ensures { IfOk result (λ e. expr_tree e ≡ PreStep pos way (expr_tree operand)) }
+    operand: Box<Expr>,
+) -> Result<Box<Expr>, AllocError>
+    ensures { IfOk result (λ e. boxed_expr e ≡ PreStep pos way (boxed_expr operand)) }
 {
-    Ok(Expr::PreStep {
-        pos,
-        way,
-        operand: Box::new(alloc, operand)?,
-    })
+    Ok(Box::new(alloc, Expr::PreStep { pos, way, operand })?)
 }
 
-pub fn unary_expr(alloc: Global, pos: Pos, op: UnaryOp, operand: Expr) -> Result<Expr, AllocError>
-    ensures { IfOk result (λ e. expr_tree e ≡ Unary pos op (expr_tree operand)) }
+/// A unary operator and its operand.
+pub fn unary_expr(
+    alloc: Global,
+    pos: Pos,
+    op: UnaryOp,
+    operand: Box<Expr>,
+) -> Result<Box<Expr>, AllocError>
+    ensures { IfOk result (λ e. boxed_expr e ≡ Unary pos op (boxed_expr operand)) }
 {
-    Ok(Expr::Unary {
-        pos,
-        op,
-        operand: Box::new(alloc, operand)?,
-    })
+    Ok(Box::new(alloc, Expr::Unary { pos, op, operand })?)
 }
 
-pub fn sizeof_expr(alloc: Global, pos: Pos, operand: Expr) -> Result<Expr, AllocError>
-    ensures { IfOk result (λ e. expr_tree e ≡ SizeofExpr pos (expr_tree operand)) }
+/// `sizeof` of an expression.
+pub fn sizeof_expr(alloc: Global, pos: Pos, operand: Box<Expr>) -> Result<Box<Expr>, AllocError>
+    ensures { IfOk result (λ e. boxed_expr e ≡ SizeofExpr pos (boxed_expr operand)) }
 {
-    Ok(Expr::SizeofExpr {
-        pos,
-        operand: Box::new(alloc, operand)?,
-    })
+    Ok(Box::new(alloc, Expr::SizeofExpr { pos, operand })?)
 }
 
+/// `sizeof` of a type.
 pub fn sizeof_type(
     alloc: Global,
     pos: Pos,
     specs: Specs,
-    declarator: Declarator,
-) -> Result<Expr, AllocError>
-    ensures { IfOk result (λ e. expr_tree e ≡ SizeofType pos (specs_tree specs) (declarator_tree declarator)) }
+    declarator: Box<Declarator>,
+) -> Result<Box<Expr>, AllocError>
+    ensures { IfOk result (λ e. boxed_expr e ≡ SizeofType pos (specs_tree specs) (boxed_declarator declarator)) }
 {
-    Ok(Expr::SizeofType {
-        pos,
-        specs,
-        declarator: Box::new(alloc, declarator)?,
-    })
+    Ok(Box::new(
+        alloc,
+        Expr::SizeofType {
+            pos,
+            specs,
+            declarator,
+        },
+    )?)
 }
 
+/// A cast.
 pub fn cast_expr(
     alloc: Global,
     pos: Pos,
     specs: Specs,
-    declarator: Declarator,
-    operand: Expr,
-) -> Result<Expr, AllocError>
-    ensures { IfOk result (λ e. expr_tree e ≡ Cast pos (specs_tree specs) (declarator_tree declarator) (expr_tree operand)) }
+    declarator: Box<Declarator>,
+    operand: Box<Expr>,
+) -> Result<Box<Expr>, AllocError>
+    ensures { IfOk result (λ e. boxed_expr e ≡ Cast pos (specs_tree specs) (boxed_declarator declarator) (boxed_expr operand)) }
 {
-    Ok(Expr::Cast {
-        pos,
-        specs,
-        declarator: Box::new(alloc, declarator)?,
-        operand: Box::new(alloc, operand)?,
-    })
+    Ok(Box::new(
+        alloc,
+        Expr::Cast {
+            pos,
+            specs,
+            declarator,
+            operand,
+        },
+    )?)
 }
 
+/// A conditional.
 pub fn cond_expr(
     alloc: Global,
     pos: Pos,
-    condition: Expr,
-    then: Expr,
-    otherwise: Expr,
-) -> Result<Expr, AllocError>
-    ensures { IfOk result (λ e. expr_tree e ≡ Cond pos (expr_tree condition) (expr_tree then) (expr_tree otherwise)) }
+    condition: Box<Expr>,
+    then: Box<Expr>,
+    otherwise: Box<Expr>,
+) -> Result<Box<Expr>, AllocError>
+    ensures { IfOk result (λ e. boxed_expr e ≡ Cond pos (boxed_expr condition) (boxed_expr then) (boxed_expr otherwise)) }
 {
-    Ok(Expr::Cond {
-        pos,
-        condition: Box::new(alloc, condition)?,
-        then: Box::new(alloc, then)?,
-        otherwise: Box::new(alloc, otherwise)?,
-    })
+    Ok(Box::new(
+        alloc,
+        Expr::Cond {
+            pos,
+            condition,
+            then,
+            otherwise,
+        },
+    )?)
 }
 
-pub fn assign_expr(alloc: Global, pos: Pos, left: Expr, right: Expr) -> Result<Expr, AllocError>
-    ensures { IfOk result (λ e. expr_tree e ≡ Assign pos (expr_tree left) (expr_tree right)) }
+/// An assignment.
+pub fn assign_expr(
+    alloc: Global,
+    pos: Pos,
+    left: Box<Expr>,
+    right: Box<Expr>,
+) -> Result<Box<Expr>, AllocError>
+    ensures { IfOk result (λ e. boxed_expr e ≡ Assign pos (boxed_expr left) (boxed_expr right)) }
 {
-    Ok(Expr::Assign {
-        pos,
-        left: Box::new(alloc, left)?,
-        right: Box::new(alloc, right)?,
-    })
+    Ok(Box::new(alloc, Expr::Assign { pos, left, right })?)
 }
 
+/// An assignment by an operator.
 pub fn compound_expr(
     alloc: Global,
     pos: Pos,
     op: AssignOp,
-    left: Expr,
-    right: Expr,
-) -> Result<Expr, AllocError>
-    ensures { IfOk result (λ e. expr_tree e ≡ Compound pos op (expr_tree left) (expr_tree right)) }
+    left: Box<Expr>,
+    right: Box<Expr>,
+) -> Result<Box<Expr>, AllocError>
+    ensures { IfOk result (λ e. boxed_expr e ≡ Compound pos op (boxed_expr left) (boxed_expr right)) }
 {
-    Ok(Expr::Compound {
-        pos,
-        op,
-        left: Box::new(alloc, left)?,
-        right: Box::new(alloc, right)?,
-    })
+    Ok(Box::new(
+        alloc,
+        Expr::Compound {
+            pos,
+            op,
+            left,
+            right,
+        },
+    )?)
 }
 
 /// Two operands and what stands between them.
@@ -179,38 +202,37 @@ pub fn joined(
     alloc: Global,
     joint: Joint,
     pos: Pos,
-    left: Expr,
-    right: Expr,
-) -> Result<Expr, AllocError>
-    ensures { IfOk result (λ e. expr_tree e ≡ joined (joint_view joint) pos (expr_tree left) (expr_tree right)) }
+    left: Box<Expr>,
+    right: Box<Expr>,
+) -> Result<Box<Expr>, AllocError>
+    ensures { IfOk result (λ e. boxed_expr e ≡ joined (joint_view joint) pos (boxed_expr left) (boxed_expr right)) }
 {
-    let left = Box::new(alloc, left)?;
-    let right = Box::new(alloc, right)?;
-    match joint {
-        Joint::Comma => Ok(Expr::Comma { pos, left, right }),
-        Joint::Binary(op) => Ok(Expr::Binary {
+    let whole = match joint {
+        Joint::Comma => Expr::Comma { pos, left, right },
+        Joint::Binary(op) => Expr::Binary {
             pos,
             op,
             left,
             right,
-        }),
-    }
+        },
+    };
+    Ok(Box::new(alloc, whole)?)
 }
 
 /// The list of this expression.
-pub fn one_expr(alloc: Global, first: Expr) -> Result<Vec<Expr>, AllocError>
-    ensures { IfOk result (λ v. exprs_from v.items ≡ more_exprs (expr_tree first) no_exprs) }
+pub fn one_expr(alloc: Global, first: Box<Expr>) -> Result<Vec<Expr>, AllocError>
+    ensures { IfOk result (λ v. exprs_from v.items ≡ more_exprs (boxed_expr first) no_exprs) }
 {
     let mut items = Vec::new(alloc);
-    items.push(first)?;
+    items.push(Box::into_inner(first))?;
     Ok(items)
 }
 
 /// One more expression at the end.
-pub fn push_expr(items: &mut Vec<Expr>, next: Expr) -> Result<(), AllocError>
-    ensures { IfOk result (λ _. exprs_from items.new.items ≡ exprs_then (exprs_from items.old.items) (expr_tree next)) }
+pub fn push_expr(items: &mut Vec<Expr>, next: Box<Expr>) -> Result<(), AllocError>
+    ensures { IfOk result (λ _. exprs_from items.new.items ≡ exprs_then (exprs_from items.old.items) (boxed_expr next)) }
 {
-    items.push(next)?;
+    items.push(Box::into_inner(next))?;
     Ok(())
 }
 

@@ -20,9 +20,9 @@ pub use class::Class;
 pub use context::{Context, Setting};
 pub use copy::{byte_of, bytes_of, constant_of, name_of, push_bytes};
 pub use expr_node::{
-    arrow_expr, assign_expr, cast_expr, compound_expr, cond_expr, dot_expr, enclosed_expr,
-    index_expr, is_word, joined, one_expr, post_step_expr, pre_step_expr, push_expr, sizeof_expr,
-    sizeof_type, unary_expr,
+    arrow_expr, assign_expr, call_expr, cast_expr, compound_expr, cond_expr, dot_expr,
+    enclosed_expr, index_expr, is_word, joined, one_expr, post_step_expr, pre_step_expr, push_expr,
+    sizeof_expr, sizeof_type, unary_expr,
 };
 pub use fault::Fault;
 pub use kind::{

@@ -5,86 +5,80 @@ ghost use Rattle.std.specs.Prelude.{◌≡◌, IfOk, option_map};
 ghost use Rattle.c_written.specs.Written.{declarator_tree, declarators_from, declarators_then, enumerator_tree, enumerators_from, enumerators_then, expr_tree, memberdecl_tree, memberdecls_from, memberdecls_then, more_declarators, more_enumerators, more_members, more_params, more_specs, no_declarators, no_enumerators, no_members, no_params, no_specs, param_tree, params_from, params_then, spec_tree, specs_from, specs_then, specs_tree, Array, Grouped, OpenArray, Pointer, Valued, Function, Members};
 ghost use Rattle.c_grammar.specs.Made.{declared_word, function_of, is_bare_void, is_given, is_type, param_of, specs_pos};
 ghost use Rattle.c_descent.specs.Kinds.{is_void_alone, is_void_spec, is_void_word};
+ghost use Rattle.c_descent.specs.Views.{boxed_declarator, boxed_expr};
 
 use c_written::{
     Declarator, Enumerator, Expr, MemberDecl, Name, Param, Params, Pos, Spec, Specs, TypeWord,
 };
 use std::alloc::{AllocError, Global};
 
+/// A declarator between parentheses.
 pub fn grouped_declarator(
     alloc: Global,
     pos: Pos,
-    inner: Declarator,
-) -> Result<Declarator, AllocError>
-    ensures { IfOk result (λ d. declarator_tree d ≡ Grouped pos (declarator_tree inner)) }
+    inner: Box<Declarator>,
+) -> Result<Box<Declarator>, AllocError>
+    ensures { IfOk result (λ d. boxed_declarator d ≡ Grouped pos (boxed_declarator inner)) }
 {
-    Ok(Declarator::Grouped {
-        pos,
-        inner: Box::new(alloc, inner)?,
-    })
+    Ok(Box::new(alloc, Declarator::Grouped { pos, inner })?)
 }
 
+/// `*` and what it points to.
 pub fn pointer_declarator(
     alloc: Global,
     pos: Pos,
     is_const: bool,
-    inner: Declarator,
-) -> Result<Declarator, AllocError>
-    ensures { IfOk result (λ d. declarator_tree d ≡ Pointer pos is_const (declarator_tree inner)) }
+    inner: Box<Declarator>,
+) -> Result<Box<Declarator>, AllocError>
+    ensures { IfOk result (λ d. boxed_declarator d ≡ Pointer pos is_const (boxed_declarator inner)) }
 {
-    Ok(Declarator::Pointer {
-        pos,
-        is_const,
-        inner: Box::new(alloc, inner)?,
-    })
+    Ok(Box::new(
+        alloc,
+        Declarator::Pointer {
+            pos,
+            is_const,
+            inner,
+        },
+    )?)
 }
 
+/// A size behind a declarator.
 pub fn array_declarator(
     alloc: Global,
     pos: Pos,
-    inner: Declarator,
-    size: Expr,
-) -> Result<Declarator, AllocError>
-    ensures { IfOk result (λ d. declarator_tree d ≡ Array pos (declarator_tree inner) (expr_tree size)) }
+    inner: Box<Declarator>,
+    size: Box<Expr>,
+) -> Result<Box<Declarator>, AllocError>
+    ensures { IfOk result (λ d. boxed_declarator d ≡ Array pos (boxed_declarator inner) (boxed_expr size)) }
 {
-    Ok(Declarator::Array {
-        pos,
-        inner: Box::new(alloc, inner)?,
-        size: Box::new(alloc, size)?,
-    })
+    Ok(Box::new(alloc, Declarator::Array { pos, inner, size })?)
 }
 
+/// Brackets without a size behind a declarator.
 pub fn open_array_declarator(
     alloc: Global,
     pos: Pos,
-    inner: Declarator,
-) -> Result<Declarator, AllocError>
-    ensures { IfOk result (λ d. declarator_tree d ≡ OpenArray pos (declarator_tree inner)) }
+    inner: Box<Declarator>,
+) -> Result<Box<Declarator>, AllocError>
+    ensures { IfOk result (λ d. boxed_declarator d ≡ OpenArray pos (boxed_declarator inner)) }
 {
-    Ok(Declarator::OpenArray {
-        pos,
-        inner: Box::new(alloc, inner)?,
-    })
+    Ok(Box::new(alloc, Declarator::OpenArray { pos, inner })?)
 }
 
 /// These parameters behind a declarator.
 pub fn function_declarator(
     alloc: Global,
     pos: Pos,
-    inner: Declarator,
+    inner: Box<Declarator>,
     params: Vec<Param>,
-) -> Result<Declarator, AllocError>
-    ensures { IfOk result (λ d. declarator_tree d ≡ function_of pos (declarator_tree inner) (params_from params.items)) }
+) -> Result<Box<Declarator>, AllocError>
+    ensures { IfOk result (λ d. boxed_declarator d ≡ function_of pos (boxed_declarator inner) (params_from params.items)) }
 {
-    let inner = Box::new(alloc, inner)?;
     if is_void(params.as_slice()) {
-        return Ok(Declarator::VoidFunction { pos, inner });
+        return Ok(Box::new(alloc, Declarator::VoidFunction { pos, inner })?);
     }
-    Ok(Declarator::Function {
-        pos,
-        inner,
-        params: Params::from_vec(params),
-    })
+    let params = Params::from_vec(params);
+    Ok(Box::new(alloc, Declarator::Function { pos, inner, params })?)
 }
 
 // `void` alone.
@@ -143,31 +137,19 @@ fn is_void_spec(spec: &Spec) -> bool
 pub fn empty_declarator(
     alloc: Global,
     pos: Pos,
-    inner: Declarator,
-) -> Result<Declarator, AllocError>
-    ensures { IfOk result (λ d. declarator_tree d ≡ Function pos (declarator_tree inner) no_params) }
+    inner: Box<Declarator>,
+) -> Result<Box<Declarator>, AllocError>
+    ensures { IfOk result (λ d. boxed_declarator d ≡ Function pos (boxed_declarator inner) no_params) }
 {
-    Ok(Declarator::Function {
-        pos,
-        inner: Box::new(alloc, inner)?,
-        params: Params::new(alloc),
-    })
+    let params = Params::new(alloc);
+    Ok(Box::new(alloc, Declarator::Function { pos, inner, params })?)
 }
 
 /// A constant of an enumeration with its value.
-pub fn valued_enumerator(
-    alloc: Global,
-    pos: Pos,
-    name: Name,
-    value: Expr,
-) -> Result<Enumerator, AllocError>
-    ensures { IfOk result (λ e. enumerator_tree e ≡ Valued pos name (expr_tree value)) }
+pub fn valued_enumerator(pos: Pos, name: Name, value: Box<Expr>) -> Enumerator
+    ensures { enumerator_tree result ≡ Valued pos name (boxed_expr value) }
 {
-    Ok(Enumerator::Valued {
-        pos,
-        name,
-        value: Box::new(alloc, value)?,
-    })
+    Enumerator::Valued { pos, name, value }
 }
 
 /// Whether the declarator has a token.
@@ -233,10 +215,11 @@ pub fn declared_word(declarator: &Declarator) -> Option<&Name>
 }
 
 /// A parameter, named or not.
-pub fn param_of(specs: Specs, declarator: Declarator) -> Param
-    ensures { param_tree result ≡ param_of (specs_tree specs) (declarator_tree declarator) }
+pub fn param_of(specs: Specs, declarator: Box<Declarator>) -> Param
+    ensures { param_tree result ≡ param_of (specs_tree specs) (boxed_declarator declarator) }
 {
     let pos = specs_pos(&specs);
+    let declarator = Box::into_inner(declarator);
     if declared_word(&declarator).is_some() {
         Param::Named {
             pos,
@@ -304,19 +287,19 @@ pub fn push_enumerator(items: &mut Vec<Enumerator>, next: Enumerator) -> Result<
 }
 
 /// The list of this one.
-pub fn one_declarator(alloc: Global, first: Declarator) -> Result<Vec<Declarator>, AllocError>
-    ensures { IfOk result (λ v. declarators_from v.items ≡ more_declarators (declarator_tree first) no_declarators) }
+pub fn one_declarator(alloc: Global, first: Box<Declarator>) -> Result<Vec<Declarator>, AllocError>
+    ensures { IfOk result (λ v. declarators_from v.items ≡ more_declarators (boxed_declarator first) no_declarators) }
 {
     let mut items = Vec::new(alloc);
-    items.push(first)?;
+    items.push(Box::into_inner(first))?;
     Ok(items)
 }
 
 /// One more at the end.
-pub fn push_declarator(items: &mut Vec<Declarator>, next: Declarator) -> Result<(), AllocError>
-    ensures { IfOk result (λ _. declarators_from items.new.items ≡ declarators_then (declarators_from items.old.items) (declarator_tree next)) }
+pub fn push_declarator(items: &mut Vec<Declarator>, next: Box<Declarator>) -> Result<(), AllocError>
+    ensures { IfOk result (λ _. declarators_from items.new.items ≡ declarators_then (declarators_from items.old.items) (boxed_declarator next)) }
 {
-    items.push(next)?;
+    items.push(Box::into_inner(next))?;
     Ok(())
 }
 

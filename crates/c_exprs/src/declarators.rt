@@ -2,12 +2,12 @@
 #![tactic(auto, using(c_written::proofs::Trees::the_written_trees))]
 
 ghost use Rattle.std.specs.Prelude.{◌≡◌, ◌<◌, ◌≤◌, length, IfOk};
-ghost use Rattle.c_written.specs.Written.{declarator_tree, param_tree, params_from};
+ghost use Rattle.c_written.specs.Written.{param_tree, params_from};
 ghost use Rattle.c_grammar.specs.Parts as part;
 ghost use Rattle.c_descent.specs.Answers.{Answers, DeclaratorStarts, DirectStarts, Extends, TailStarts};
 ghost use Rattle.c_leaves.specs.Readers.{ReadsSize};
 ghost use Rattle.c_descent.specs.Kinds.{tail_at};
-ghost use Rattle.c_descent.specs.Views.{role_view, scene_of};
+ghost use Rattle.c_descent.specs.Views.{boxed_declarator, role_view, scene_of};
 
 use crate::exprs::conditional;
 use crate::types::specs;
@@ -26,8 +26,8 @@ pub fn declarator<'a>(
     role: Role,
     count: u32,
     tokens: &'a [Placed],
-) -> Result<(Declarator, &'a [Placed]), Fault<'a>>
-    ensures goes { Answers count (scene_of context.now) (part.ADeclarator (part.Declarator (role_view role))) tokens.now (λ d. declarator_tree d) result }
+) -> Result<(Box<Declarator>, &'a [Placed]), Fault<'a>>
+    ensures goes { Answers count (scene_of context.now) (part.ADeclarator (part.Declarator (role_view role))) tokens.now (λ d. boxed_declarator d) result }
     ensures shorter { IfOk result (λ x. length x.1.now ≤ length tokens.now) }
 {
     if type_name_ahead(context, tokens) {
@@ -36,8 +36,7 @@ pub fn declarator<'a>(
     if comes(Mark::Star, tokens) {
         return pointer(context, role, count, tokens);
     }
-    let (whole, rest) = direct(context, role, count, tokens)?;
-    Ok((whole, rest))
+    direct(context, role, count, tokens)
 }
 
 /// `*` and what it points to.
@@ -47,9 +46,9 @@ fn pointer<'a>(
     role: Role,
     count: u32,
     tokens: &'a [Placed],
-) -> Result<(Declarator, &'a [Placed]), Fault<'a>>
+) -> Result<(Box<Declarator>, &'a [Placed]), Fault<'a>>
     requires { DeclaratorStarts (scene_of context.now) tokens.now }
-    ensures goes { Answers count (scene_of context.now) (part.ADeclarator (part.Declarator (role_view role))) tokens.now (λ d. declarator_tree d) result }
+    ensures goes { Answers count (scene_of context.now) (part.ADeclarator (part.Declarator (role_view role))) tokens.now (λ d. boxed_declarator d) result }
     ensures shorter { IfOk result (λ x. length x.1.now < length tokens.now) }
 {
     let star = Class::Sign(Punctuator::Star);
@@ -67,8 +66,8 @@ fn direct<'a>(
     role: Role,
     count: u32,
     tokens: &'a [Placed],
-) -> Result<(Declarator, &'a [Placed]), Fault<'a>>
-    ensures goes { Answers count (scene_of context.now) (part.ADeclarator (part.Direct (role_view role))) tokens.now (λ d. declarator_tree d) result }
+) -> Result<(Box<Declarator>, &'a [Placed]), Fault<'a>>
+    ensures goes { Answers count (scene_of context.now) (part.ADeclarator (part.Direct (role_view role))) tokens.now (λ d. boxed_declarator d) result }
     ensures shorter { IfOk result (λ x. length x.1.now ≤ length tokens.now) }
 {
     if params_come(context, role, tokens) {
@@ -77,7 +76,7 @@ fn direct<'a>(
     match direct_at(context, role, tokens) {
         DirectKind::Name => named(context, role, count, tokens),
         DirectKind::Grouped => grouped(context, role, count, tokens),
-        DirectKind::Nameless => { tails(context, role, count, false, Declarator::Absent, tokens) }
+        DirectKind::Nameless => nameless(context, role, count, tokens),
         DirectKind::Neither => Err(refused(context, count, tokens)),
     }
 }
@@ -89,19 +88,32 @@ fn named<'a>(
     role: Role,
     count: u32,
     tokens: &'a [Placed],
-) -> Result<(Declarator, &'a [Placed]), Fault<'a>>
+) -> Result<(Box<Declarator>, &'a [Placed]), Fault<'a>>
     requires { DirectStarts (scene_of context.now) (role_view role) tokens.now DirectKind.Name }
-    ensures goes { Answers count (scene_of context.now) (part.ADeclarator (part.Direct (role_view role))) tokens.now (λ d. declarator_tree d) result }
+    ensures goes { Answers count (scene_of context.now) (part.ADeclarator (part.Direct (role_view role))) tokens.now (λ d. boxed_declarator d) result }
     ensures shorter { IfOk result (λ x. length x.1.now < length tokens.now) }
 {
     let (word, behind) = taken(context, count, 0, Class::Word, tokens)?;
     let name = name_of(context.alloc, &word.token)?;
-    let first = Declarator::Name {
-        pos: word.pos,
-        name,
-    };
-    let (whole, rest) = tails(context, role, count, true, first, behind)?;
-    Ok((whole, rest))
+    let pos = word.pos;
+    let first = Box::new(context.alloc, Declarator::Name { pos, name })?;
+    tails(context, role, count, true, first, behind)
+}
+
+/// What follows a declarator that has no word.
+#[cycle(descent)]
+fn nameless<'a>(
+    context: &Context<'_>,
+    role: Role,
+    count: u32,
+    tokens: &'a [Placed],
+) -> Result<(Box<Declarator>, &'a [Placed]), Fault<'a>>
+    requires { DirectStarts (scene_of context.now) (role_view role) tokens.now DirectKind.Nameless }
+    ensures goes { Answers count (scene_of context.now) (part.ADeclarator (part.Direct (role_view role))) tokens.now (λ d. boxed_declarator d) result }
+    ensures shorter { IfOk result (λ x. length x.1.now ≤ length tokens.now) }
+{
+    let first = Box::new(context.alloc, Declarator::Absent)?;
+    tails(context, role, count, false, first, tokens)
 }
 
 /// A declarator between parentheses, and what follows it.
@@ -111,9 +123,9 @@ fn grouped<'a>(
     role: Role,
     count: u32,
     tokens: &'a [Placed],
-) -> Result<(Declarator, &'a [Placed]), Fault<'a>>
+) -> Result<(Box<Declarator>, &'a [Placed]), Fault<'a>>
     requires { DirectStarts (scene_of context.now) (role_view role) tokens.now DirectKind.Grouped }
-    ensures goes { Answers count (scene_of context.now) (part.ADeclarator (part.Direct (role_view role))) tokens.now (λ d. declarator_tree d) result }
+    ensures goes { Answers count (scene_of context.now) (part.ADeclarator (part.Direct (role_view role))) tokens.now (λ d. boxed_declarator d) result }
     ensures shorter { IfOk result (λ x. length x.1.now < length tokens.now) }
 {
     let opens = Class::Sign(Punctuator::LeftParenthesis);
@@ -125,8 +137,7 @@ fn grouped<'a>(
     }
     let (_close, behind) = taken(context, count, 0, closes, rest)?;
     let first = grouped_declarator(context.alloc, opening.pos, inner)?;
-    let (whole, rest) = tails(context, role, count, false, first, behind)?;
-    Ok((whole, rest))
+    tails(context, role, count, false, first, behind)
 }
 
 /// Brackets and parameters behind a declarator, which is a word alone where `plain`.
@@ -136,10 +147,10 @@ fn tails<'a>(
     role: Role,
     count: u32,
     plain: bool,
-    first: Declarator,
+    first: Box<Declarator>,
     tokens: &'a [Placed],
-) -> Result<(Declarator, &'a [Placed]), Fault<'a>>
-    ensures goes { Answers count (scene_of context.now) (part.ADeclarator (part.Tails (role_view role) plain (declarator_tree first))) tokens.now (λ d. declarator_tree d) result }
+) -> Result<(Box<Declarator>, &'a [Placed]), Fault<'a>>
+    ensures goes { Answers count (scene_of context.now) (part.ADeclarator (part.Tails (role_view role) plain (boxed_declarator first))) tokens.now (λ d. boxed_declarator d) result }
     ensures shorter { IfOk result (λ x. length x.1.now ≤ length tokens.now) }
 {
     let mut is_plain = plain;
@@ -167,11 +178,11 @@ fn tail<'a>(
     role: Role,
     count: u32,
     kind: TailKind,
-    inner: Declarator,
+    inner: Box<Declarator>,
     tokens: &'a [Placed],
-) -> Result<(Declarator, &'a [Placed]), Fault<'a>>
+) -> Result<(Box<Declarator>, &'a [Placed]), Fault<'a>>
     requires { TailStarts tokens.now kind }
-    ensures goes { Extends count (scene_of context.now) (role_view role) (declarator_tree inner) tokens.now result }
+    ensures goes { Extends count (scene_of context.now) (role_view role) (boxed_declarator inner) tokens.now result }
     ensures shorter { IfOk result (λ x. length x.1.now < length tokens.now) }
 {
     match kind {
@@ -187,11 +198,11 @@ fn array<'a>(
     context: &Context<'_>,
     role: Role,
     count: u32,
-    inner: Declarator,
+    inner: Box<Declarator>,
     tokens: &'a [Placed],
-) -> Result<(Declarator, &'a [Placed]), Fault<'a>>
+) -> Result<(Box<Declarator>, &'a [Placed]), Fault<'a>>
     requires { tail_at tokens.now ≡ TailKind.Array }
-    ensures goes { Extends count (scene_of context.now) (role_view role) (declarator_tree inner) tokens.now result }
+    ensures goes { Extends count (scene_of context.now) (role_view role) (boxed_declarator inner) tokens.now result }
     ensures shorter { IfOk result (λ x. length x.1.now < length tokens.now) }
 {
     let opens = Class::Sign(Punctuator::LeftBracket);
@@ -206,11 +217,11 @@ fn function<'a>(
     context: &Context<'_>,
     role: Role,
     count: u32,
-    inner: Declarator,
+    inner: Box<Declarator>,
     tokens: &'a [Placed],
-) -> Result<(Declarator, &'a [Placed]), Fault<'a>>
+) -> Result<(Box<Declarator>, &'a [Placed]), Fault<'a>>
     requires { tail_at tokens.now ≡ TailKind.Function }
-    ensures goes { Extends count (scene_of context.now) (role_view role) (declarator_tree inner) tokens.now result }
+    ensures goes { Extends count (scene_of context.now) (role_view role) (boxed_declarator inner) tokens.now result }
     ensures shorter { IfOk result (λ x. length x.1.now < length tokens.now) }
 {
     let opens = Class::Sign(Punctuator::LeftParenthesis);
@@ -226,10 +237,10 @@ fn size<'a>(
     role: Role,
     count: u32,
     at: Pos,
-    inner: Declarator,
+    inner: Box<Declarator>,
     tokens: &'a [Placed],
-) -> Result<(Declarator, &'a [Placed]), Fault<'a>>
-    ensures goes { Answers count (scene_of context.now) (part.ADeclarator (part.Size (role_view role) at (declarator_tree inner))) tokens.now (λ d. declarator_tree d) result }
+) -> Result<(Box<Declarator>, &'a [Placed]), Fault<'a>>
+    ensures goes { Answers count (scene_of context.now) (part.ADeclarator (part.Size (role_view role) at (boxed_declarator inner))) tokens.now (λ d. boxed_declarator d) result }
     ensures shorter { IfOk result (λ x. length x.1.now < length tokens.now) }
 {
     if comes(Mark::RightBracket, tokens) {
@@ -249,7 +260,7 @@ fn given_size<'a>(
     context: &Context<'_>,
     count: u32,
     tokens: &'a [Placed],
-) -> Result<(Expr, &'a [Placed]), Fault<'a>>
+) -> Result<(Box<Expr>, &'a [Placed]), Fault<'a>>
     ensures goes { ReadsSize count (scene_of context.now) tokens.now result }
     ensures shorter { IfOk result (λ x. length x.1.now < length tokens.now) }
 {
@@ -265,10 +276,10 @@ fn parameters<'a>(
     context: &Context<'_>,
     count: u32,
     at: Pos,
-    inner: Declarator,
+    inner: Box<Declarator>,
     tokens: &'a [Placed],
-) -> Result<(Declarator, &'a [Placed]), Fault<'a>>
-    ensures goes { Answers count (scene_of context.now) (part.ADeclarator (part.Parameters at (declarator_tree inner))) tokens.now (λ d. declarator_tree d) result }
+) -> Result<(Box<Declarator>, &'a [Placed]), Fault<'a>>
+    ensures goes { Answers count (scene_of context.now) (part.ADeclarator (part.Parameters at (boxed_declarator inner))) tokens.now (λ d. boxed_declarator d) result }
     ensures shorter { IfOk result (λ x. length x.1.now < length tokens.now) }
 {
     if comes(Mark::Close, tokens) {
@@ -276,8 +287,7 @@ fn parameters<'a>(
     }
     let (first, rest) = parameter(context, count, tokens)?;
     let params = one_param(context.alloc, first)?;
-    let (whole, rest) = more_parameters(context, count, at, inner, params, rest)?;
-    Ok((whole, rest))
+    more_parameters(context, count, at, inner, params, rest)
 }
 
 /// The parameters behind the first.
@@ -286,11 +296,11 @@ fn more_parameters<'a>(
     context: &Context<'_>,
     count: u32,
     at: Pos,
-    inner: Declarator,
+    inner: Box<Declarator>,
     before: Vec<Param>,
     tokens: &'a [Placed],
-) -> Result<(Declarator, &'a [Placed]), Fault<'a>>
-    ensures goes { Answers count (scene_of context.now) (part.ADeclarator (part.MoreParameters at (declarator_tree inner) (params_from before.items))) tokens.now (λ d. declarator_tree d) result }
+) -> Result<(Box<Declarator>, &'a [Placed]), Fault<'a>>
+    ensures goes { Answers count (scene_of context.now) (part.ADeclarator (part.MoreParameters at (boxed_declarator inner) (params_from before.items))) tokens.now (λ d. boxed_declarator d) result }
     ensures shorter { IfOk result (λ x. length x.1.now < length tokens.now) }
 {
     let mut params = before;

@@ -2,7 +2,7 @@
 #![tactic(auto, using(c_written::proofs::Trees::the_written_trees))]
 
 ghost use Rattle.std.specs.Prelude.{◌≡◌, ◌+◌, ◌<◌, ◌≤◌, true, length, IfOk};
-ghost use Rattle.c_written.specs.Written.{expr_tree, exprs_from, exprs_tree};
+ghost use Rattle.c_written.specs.Written.{exprs_from, exprs_tree};
 ghost use Rattle.c_grammar.specs.Ahead.{type_ahead};
 ghost use Rattle.c_grammar.specs.ExprRules.{operand};
 ghost use Rattle.c_grammar.specs.Parts as part;
@@ -10,20 +10,20 @@ ghost use Rattle.c_descent.specs.Answers.{Answers, CallComes, Steps, SuffixComes
 ghost use Rattle.c_grammar.specs.Descent.{Goes};
 ghost use Rattle.c_leaves.specs.Readers.{ReadsBehind, ReadsBracketed, ReadsChoices};
 ghost use Rattle.c_descent.specs.Kinds.{assign_at, prefix_at, primary_at, suffix_at};
-ghost use Rattle.c_descent.specs.Views.{level_view, scene_of};
+ghost use Rattle.c_descent.specs.Views.{boxed_expr, level_view, scene_of};
 
 use crate::declarators::declarator;
 use crate::types::specs;
 use c_descent::{
     AssignKind, Class, Context, Fault, Level, Mark, PrefixKind, PrimaryKind, Role, SuffixKind,
-    assign_at, assign_expr, assign_sign, barred, barred_call, cast_expr, comes, compound_expr,
-    cond_expr, enclosed_expr, index_expr, joined, joint_at, joint_sign, one_expr, pre_step_expr,
-    prefix_at, primary_at, push_expr, refused, sizeof_expr, sizeof_type, step_sign, suffix_at,
-    taken, type_ahead, unary_expr, unary_sign,
+    assign_at, assign_expr, assign_sign, barred, barred_call, call_expr, cast_expr, comes,
+    compound_expr, cond_expr, enclosed_expr, index_expr, joined, joint_at, joint_sign, one_expr,
+    pre_step_expr, prefix_at, primary_at, push_expr, refused, sizeof_expr, sizeof_type, step_sign,
+    suffix_at, taken, type_ahead, unary_expr, unary_sign,
 };
 use c_leaves::{
     arrow, calls_no_word, character, dot, is_no_suffix, no_arguments, number, post_step, strings,
-    word,
+    word, word_of,
 };
 use c_written::{
     AssignOp, Construct, Expr, Exprs, Keyword, Placed, Pos, Punctuator, StepWay, UnaryOp,
@@ -36,13 +36,12 @@ pub fn run<'a>(
     level: Level,
     count: u32,
     tokens: &'a [Placed],
-) -> Result<(Expr, &'a [Placed]), Fault<'a>>
-    ensures goes { Answers count (scene_of context.now) (part.AnExpr (part.Run (level_view level))) tokens.now (λ e. expr_tree e) result }
+) -> Result<(Box<Expr>, &'a [Placed]), Fault<'a>>
+    ensures goes { Answers count (scene_of context.now) (part.AnExpr (part.Run (level_view level))) tokens.now (λ e. boxed_expr e) result }
     ensures shorter { IfOk result (λ x. length x.1.now < length tokens.now) }
 {
     let (first, rest) = operand(context, level, count, tokens)?;
-    let (whole, rest) = more(context, level, count, first, rest)?;
-    Ok((whole, rest))
+    more(context, level, count, first, rest)
 }
 
 /// What stands on either side of a joint of the level.
@@ -52,8 +51,8 @@ fn operand<'a>(
     level: Level,
     count: u32,
     tokens: &'a [Placed],
-) -> Result<(Expr, &'a [Placed]), Fault<'a>>
-    ensures goes { Answers count (scene_of context.now) (part.AnExpr (operand (level_view level))) tokens.now (λ e. expr_tree e) result }
+) -> Result<(Box<Expr>, &'a [Placed]), Fault<'a>>
+    ensures goes { Answers count (scene_of context.now) (part.AnExpr (operand (level_view level))) tokens.now (λ e. boxed_expr e) result }
     ensures shorter { IfOk result (λ x. length x.1.now < length tokens.now) }
 {
     match level {
@@ -77,10 +76,10 @@ fn more<'a>(
     context: &Context<'_>,
     level: Level,
     count: u32,
-    first: Expr,
+    first: Box<Expr>,
     tokens: &'a [Placed],
-) -> Result<(Expr, &'a [Placed]), Fault<'a>>
-    ensures goes { Answers count (scene_of context.now) (part.AnExpr (part.More (level_view level) (expr_tree first))) tokens.now (λ e. expr_tree e) result }
+) -> Result<(Box<Expr>, &'a [Placed]), Fault<'a>>
+    ensures goes { Answers count (scene_of context.now) (part.AnExpr (part.More (level_view level) (boxed_expr first))) tokens.now (λ e. boxed_expr e) result }
     ensures shorter { IfOk result (λ x. length x.1.now ≤ length tokens.now) }
 {
     let mut left = first;
@@ -103,7 +102,7 @@ fn right_side<'a>(
     count: u32,
     sign: Punctuator,
     tokens: &'a [Placed],
-) -> Result<((Pos, Expr), &'a [Placed]), Fault<'a>>
+) -> Result<((Pos, Box<Expr>), &'a [Placed]), Fault<'a>>
     ensures goes { ReadsBehind count (scene_of context.now) sign (operand (level_view level)) tokens.now result }
     ensures within { IfOk result (λ _. count + 1 ≤ 200) }
     ensures shorter { IfOk result (λ x. length x.1.now < length tokens.now) }
@@ -119,13 +118,12 @@ pub fn assignment<'a>(
     context: &Context<'_>,
     count: u32,
     tokens: &'a [Placed],
-) -> Result<(Expr, &'a [Placed]), Fault<'a>>
-    ensures goes { Answers count (scene_of context.now) (part.AnExpr part.Assignment) tokens.now (λ e. expr_tree e) result }
+) -> Result<(Box<Expr>, &'a [Placed]), Fault<'a>>
+    ensures goes { Answers count (scene_of context.now) (part.AnExpr part.Assignment) tokens.now (λ e. boxed_expr e) result }
     ensures shorter { IfOk result (λ x. length x.1.now < length tokens.now) }
 {
     let (left, rest) = conditional(context, count, tokens)?;
-    let (whole, rest) = assigned(context, count, left, rest)?;
-    Ok((whole, rest))
+    assigned(context, count, left, rest)
 }
 
 /// An assignment's operator and right side, where there are any.
@@ -133,10 +131,10 @@ pub fn assignment<'a>(
 fn assigned<'a>(
     context: &Context<'_>,
     count: u32,
-    left: Expr,
+    left: Box<Expr>,
     tokens: &'a [Placed],
-) -> Result<(Expr, &'a [Placed]), Fault<'a>>
-    ensures goes { Answers count (scene_of context.now) (part.AnExpr (part.Assigned (expr_tree left))) tokens.now (λ e. expr_tree e) result }
+) -> Result<(Box<Expr>, &'a [Placed]), Fault<'a>>
+    ensures goes { Answers count (scene_of context.now) (part.AnExpr (part.Assigned (boxed_expr left))) tokens.now (λ e. boxed_expr e) result }
     ensures shorter { IfOk result (λ x. length x.1.now ≤ length tokens.now) }
 {
     match assign_at(tokens) {
@@ -151,11 +149,11 @@ fn assigned<'a>(
 fn plain_assigned<'a>(
     context: &Context<'_>,
     count: u32,
-    left: Expr,
+    left: Box<Expr>,
     tokens: &'a [Placed],
-) -> Result<(Expr, &'a [Placed]), Fault<'a>>
+) -> Result<(Box<Expr>, &'a [Placed]), Fault<'a>>
     requires { assign_at tokens.now ≡ AssignKind.Plain }
-    ensures goes { Answers count (scene_of context.now) (part.AnExpr (part.Assigned (expr_tree left))) tokens.now (λ e. expr_tree e) result }
+    ensures goes { Answers count (scene_of context.now) (part.AnExpr (part.Assigned (boxed_expr left))) tokens.now (λ e. boxed_expr e) result }
     ensures shorter { IfOk result (λ x. length x.1.now ≤ length tokens.now) }
 {
     let sign = Punctuator::Assign;
@@ -170,11 +168,11 @@ fn compound_assigned<'a>(
     context: &Context<'_>,
     count: u32,
     op: AssignOp,
-    left: Expr,
+    left: Box<Expr>,
     tokens: &'a [Placed],
-) -> Result<(Expr, &'a [Placed]), Fault<'a>>
+) -> Result<(Box<Expr>, &'a [Placed]), Fault<'a>>
     requires { assign_at tokens.now ≡ AssignKind.Compound op }
-    ensures goes { Answers count (scene_of context.now) (part.AnExpr (part.Assigned (expr_tree left))) tokens.now (λ e. expr_tree e) result }
+    ensures goes { Answers count (scene_of context.now) (part.AnExpr (part.Assigned (boxed_expr left))) tokens.now (λ e. boxed_expr e) result }
     ensures shorter { IfOk result (λ x. length x.1.now ≤ length tokens.now) }
 {
     let ((at, right), rest) = right_side(context, Level::Commas, count, assign_sign(op), tokens)?;
@@ -188,13 +186,12 @@ pub fn conditional<'a>(
     context: &Context<'_>,
     count: u32,
     tokens: &'a [Placed],
-) -> Result<(Expr, &'a [Placed]), Fault<'a>>
-    ensures goes { Answers count (scene_of context.now) (part.AnExpr part.Conditional) tokens.now (λ e. expr_tree e) result }
+) -> Result<(Box<Expr>, &'a [Placed]), Fault<'a>>
+    ensures goes { Answers count (scene_of context.now) (part.AnExpr part.Conditional) tokens.now (λ e. boxed_expr e) result }
     ensures shorter { IfOk result (λ x. length x.1.now < length tokens.now) }
 {
     let (condition, rest) = run(context, Level::Ors, count, tokens)?;
-    let (whole, rest) = chosen(context, count, condition, rest)?;
-    Ok((whole, rest))
+    chosen(context, count, condition, rest)
 }
 
 /// `?` and what follows it, where there is one.
@@ -202,10 +199,10 @@ pub fn conditional<'a>(
 fn chosen<'a>(
     context: &Context<'_>,
     count: u32,
-    condition: Expr,
+    condition: Box<Expr>,
     tokens: &'a [Placed],
-) -> Result<(Expr, &'a [Placed]), Fault<'a>>
-    ensures goes { Answers count (scene_of context.now) (part.AnExpr (part.Chosen (expr_tree condition))) tokens.now (λ e. expr_tree e) result }
+) -> Result<(Box<Expr>, &'a [Placed]), Fault<'a>>
+    ensures goes { Answers count (scene_of context.now) (part.AnExpr (part.Chosen (boxed_expr condition))) tokens.now (λ e. boxed_expr e) result }
     ensures shorter { IfOk result (λ x. length x.1.now ≤ length tokens.now) }
 {
     if !comes(Mark::Question, tokens) {
@@ -222,7 +219,7 @@ fn choices<'a>(
     context: &Context<'_>,
     count: u32,
     tokens: &'a [Placed],
-) -> Result<((Pos, Expr, Expr), &'a [Placed]), Fault<'a>>
+) -> Result<((Pos, Box<Expr>, Box<Expr>), &'a [Placed]), Fault<'a>>
     ensures goes { ReadsChoices count (scene_of context.now) tokens.now result }
     ensures shorter { IfOk result (λ x. length x.1.now < length tokens.now) }
 {
@@ -240,15 +237,14 @@ fn cast<'a>(
     context: &Context<'_>,
     count: u32,
     tokens: &'a [Placed],
-) -> Result<(Expr, &'a [Placed]), Fault<'a>>
-    ensures goes { Answers count (scene_of context.now) (part.AnExpr part.Cast) tokens.now (λ e. expr_tree e) result }
+) -> Result<(Box<Expr>, &'a [Placed]), Fault<'a>>
+    ensures goes { Answers count (scene_of context.now) (part.AnExpr part.Cast) tokens.now (λ e. boxed_expr e) result }
     ensures shorter { IfOk result (λ x. length x.1.now < length tokens.now) }
 {
     if type_ahead(context, tokens) {
         return cast_form(context, count, tokens);
     }
-    let (whole, rest) = unary(context, count, tokens)?;
-    Ok((whole, rest))
+    unary(context, count, tokens)
 }
 
 /// A cast.
@@ -257,9 +253,9 @@ fn cast_form<'a>(
     context: &Context<'_>,
     count: u32,
     tokens: &'a [Placed],
-) -> Result<(Expr, &'a [Placed]), Fault<'a>>
+) -> Result<(Box<Expr>, &'a [Placed]), Fault<'a>>
     requires { type_ahead (scene_of context.now) tokens.now ≡ true }
-    ensures goes { Answers count (scene_of context.now) (part.AnExpr part.Cast) tokens.now (λ e. expr_tree e) result }
+    ensures goes { Answers count (scene_of context.now) (part.AnExpr part.Cast) tokens.now (λ e. boxed_expr e) result }
     ensures shorter { IfOk result (λ x. length x.1.now < length tokens.now) }
 {
     let opens = Class::Sign(Punctuator::LeftParenthesis);
@@ -279,15 +275,14 @@ fn cast_operand<'a>(
     context: &Context<'_>,
     count: u32,
     tokens: &'a [Placed],
-) -> Result<(Expr, &'a [Placed]), Fault<'a>>
-    ensures goes { Answers count (scene_of context.now) (part.AnExpr part.Operand) tokens.now (λ e. expr_tree e) result }
+) -> Result<(Box<Expr>, &'a [Placed]), Fault<'a>>
+    ensures goes { Answers count (scene_of context.now) (part.AnExpr part.Operand) tokens.now (λ e. boxed_expr e) result }
     ensures shorter { IfOk result (λ x. length x.1.now < length tokens.now) }
 {
     if comes(Mark::Brace, tokens) {
         return Err(barred(count, Construct::CompoundLiteral, tokens));
     }
-    let (whole, rest) = cast(context, count, tokens)?;
-    Ok((whole, rest))
+    cast(context, count, tokens)
 }
 
 /// A unary expression.
@@ -296,31 +291,16 @@ fn unary<'a>(
     context: &Context<'_>,
     count: u32,
     tokens: &'a [Placed],
-) -> Result<(Expr, &'a [Placed]), Fault<'a>>
-    ensures goes { Answers count (scene_of context.now) (part.AnExpr part.Unary) tokens.now (λ e. expr_tree e) result }
+) -> Result<(Box<Expr>, &'a [Placed]), Fault<'a>>
+    ensures goes { Answers count (scene_of context.now) (part.AnExpr part.Unary) tokens.now (λ e. boxed_expr e) result }
     ensures shorter { IfOk result (λ x. length x.1.now < length tokens.now) }
 {
     match prefix_at(tokens) {
         PrefixKind::Sizeof => size_of(context, count, tokens),
         PrefixKind::Step(way) => pre_step(context, count, way, tokens),
         PrefixKind::Unary(op) => unary_form(context, count, op, tokens),
-        PrefixKind::Nothing => no_prefix(context, count, tokens),
+        PrefixKind::Nothing => postfix(context, count, tokens),
     }
-}
-
-/// A unary expression without a prefix.
-#[cycle(descent)]
-fn no_prefix<'a>(
-    context: &Context<'_>,
-    count: u32,
-    tokens: &'a [Placed],
-) -> Result<(Expr, &'a [Placed]), Fault<'a>>
-    requires { prefix_at tokens.now ≡ PrefixKind.Nothing }
-    ensures goes { Answers count (scene_of context.now) (part.AnExpr part.Unary) tokens.now (λ e. expr_tree e) result }
-    ensures shorter { IfOk result (λ x. length x.1.now < length tokens.now) }
-{
-    let (whole, rest) = postfix(context, count, tokens)?;
-    Ok((whole, rest))
 }
 
 /// `sizeof` and what follows it.
@@ -329,15 +309,14 @@ fn size_of<'a>(
     context: &Context<'_>,
     count: u32,
     tokens: &'a [Placed],
-) -> Result<(Expr, &'a [Placed]), Fault<'a>>
+) -> Result<(Box<Expr>, &'a [Placed]), Fault<'a>>
     requires { prefix_at tokens.now ≡ PrefixKind.Sizeof }
-    ensures goes { Answers count (scene_of context.now) (part.AnExpr part.Unary) tokens.now (λ e. expr_tree e) result }
+    ensures goes { Answers count (scene_of context.now) (part.AnExpr part.Unary) tokens.now (λ e. boxed_expr e) result }
     ensures shorter { IfOk result (λ x. length x.1.now < length tokens.now) }
 {
     let keyword = Class::Keyword(Keyword::Sizeof);
     let (at, behind) = taken(context, count, 1, keyword, tokens)?;
-    let (whole, rest) = sized(context, count + 1, at.pos, behind)?;
-    Ok((whole, rest))
+    sized(context, count + 1, at.pos, behind)
 }
 
 /// `++` or `--` and its operand.
@@ -347,9 +326,9 @@ fn pre_step<'a>(
     count: u32,
     way: StepWay,
     tokens: &'a [Placed],
-) -> Result<(Expr, &'a [Placed]), Fault<'a>>
+) -> Result<(Box<Expr>, &'a [Placed]), Fault<'a>>
     requires { prefix_at tokens.now ≡ PrefixKind.Step way }
-    ensures goes { Answers count (scene_of context.now) (part.AnExpr part.Unary) tokens.now (λ e. expr_tree e) result }
+    ensures goes { Answers count (scene_of context.now) (part.AnExpr part.Unary) tokens.now (λ e. boxed_expr e) result }
     ensures shorter { IfOk result (λ x. length x.1.now < length tokens.now) }
 {
     let sign = Class::Sign(step_sign(way));
@@ -366,9 +345,9 @@ fn unary_form<'a>(
     count: u32,
     op: UnaryOp,
     tokens: &'a [Placed],
-) -> Result<(Expr, &'a [Placed]), Fault<'a>>
+) -> Result<(Box<Expr>, &'a [Placed]), Fault<'a>>
     requires { prefix_at tokens.now ≡ PrefixKind.Unary op }
-    ensures goes { Answers count (scene_of context.now) (part.AnExpr part.Unary) tokens.now (λ e. expr_tree e) result }
+    ensures goes { Answers count (scene_of context.now) (part.AnExpr part.Unary) tokens.now (λ e. boxed_expr e) result }
     ensures shorter { IfOk result (λ x. length x.1.now < length tokens.now) }
 {
     let sign = Class::Sign(unary_sign(op));
@@ -385,8 +364,8 @@ fn sized<'a>(
     count: u32,
     at: Pos,
     tokens: &'a [Placed],
-) -> Result<(Expr, &'a [Placed]), Fault<'a>>
-    ensures goes { Answers count (scene_of context.now) (part.AnExpr (part.Sized at)) tokens.now (λ e. expr_tree e) result }
+) -> Result<(Box<Expr>, &'a [Placed]), Fault<'a>>
+    ensures goes { Answers count (scene_of context.now) (part.AnExpr (part.Sized at)) tokens.now (λ e. boxed_expr e) result }
     ensures shorter { IfOk result (λ x. length x.1.now < length tokens.now) }
 {
     if type_ahead(context, tokens) {
@@ -404,9 +383,9 @@ fn sized_type<'a>(
     count: u32,
     at: Pos,
     tokens: &'a [Placed],
-) -> Result<(Expr, &'a [Placed]), Fault<'a>>
+) -> Result<(Box<Expr>, &'a [Placed]), Fault<'a>>
     requires { type_ahead (scene_of context.now) tokens.now ≡ true }
-    ensures goes { Answers count (scene_of context.now) (part.AnExpr (part.Sized at)) tokens.now (λ e. expr_tree e) result }
+    ensures goes { Answers count (scene_of context.now) (part.AnExpr (part.Sized at)) tokens.now (λ e. boxed_expr e) result }
     ensures shorter { IfOk result (λ x. length x.1.now < length tokens.now) }
 {
     let opens = Class::Sign(Punctuator::LeftParenthesis);
@@ -428,13 +407,12 @@ fn postfix<'a>(
     context: &Context<'_>,
     count: u32,
     tokens: &'a [Placed],
-) -> Result<(Expr, &'a [Placed]), Fault<'a>>
-    ensures goes { Answers count (scene_of context.now) (part.AnExpr part.Postfix) tokens.now (λ e. expr_tree e) result }
+) -> Result<(Box<Expr>, &'a [Placed]), Fault<'a>>
+    ensures goes { Answers count (scene_of context.now) (part.AnExpr part.Postfix) tokens.now (λ e. boxed_expr e) result }
     ensures shorter { IfOk result (λ x. length x.1.now < length tokens.now) }
 {
     let (base, rest) = primary(context, count, tokens)?;
-    let (whole, rest) = suffixes(context, count, base, rest)?;
-    Ok((whole, rest))
+    suffixes(context, count, base, rest)
 }
 
 /// The postfix forms behind a primary expression.
@@ -442,10 +420,10 @@ fn postfix<'a>(
 fn suffixes<'a>(
     context: &Context<'_>,
     count: u32,
-    first: Expr,
+    first: Box<Expr>,
     tokens: &'a [Placed],
-) -> Result<(Expr, &'a [Placed]), Fault<'a>>
-    ensures goes { Answers count (scene_of context.now) (part.AnExpr (part.Suffixes (expr_tree first))) tokens.now (λ e. expr_tree e) result }
+) -> Result<(Box<Expr>, &'a [Placed]), Fault<'a>>
+    ensures goes { Answers count (scene_of context.now) (part.AnExpr (part.Suffixes (boxed_expr first))) tokens.now (λ e. boxed_expr e) result }
     ensures shorter { IfOk result (λ x. length x.1.now ≤ length tokens.now) }
 {
     let mut base = first;
@@ -472,11 +450,11 @@ fn suffix<'a>(
     context: &Context<'_>,
     count: u32,
     kind: SuffixKind,
-    base: Expr,
+    base: Box<Expr>,
     tokens: &'a [Placed],
-) -> Result<(Expr, &'a [Placed]), Fault<'a>>
-    requires { SuffixComes tokens.now kind (expr_tree base) }
-    ensures goes { Steps (λ o. Goes count (scene_of context.now) (part.AnExpr (part.Suffixes (expr_tree base))) tokens.now o) (λ e rest o. Goes (count + 1) (scene_of context.now) (part.AnExpr (part.Suffixes (expr_tree e))) rest o) result }
+) -> Result<(Box<Expr>, &'a [Placed]), Fault<'a>>
+    requires { SuffixComes tokens.now kind (boxed_expr base) }
+    ensures goes { Steps (λ o. Goes count (scene_of context.now) (part.AnExpr (part.Suffixes (boxed_expr base))) tokens.now o) (λ e rest o. Goes (count + 1) (scene_of context.now) (part.AnExpr (part.Suffixes (boxed_expr e))) rest o) result }
     ensures within { IfOk result (λ _. count + 1 ≤ 200) }
     ensures shorter { IfOk result (λ x. length x.1.now < length tokens.now) }
 {
@@ -495,11 +473,11 @@ fn suffix<'a>(
 fn index<'a>(
     context: &Context<'_>,
     count: u32,
-    base: Expr,
+    base: Box<Expr>,
     tokens: &'a [Placed],
-) -> Result<(Expr, &'a [Placed]), Fault<'a>>
+) -> Result<(Box<Expr>, &'a [Placed]), Fault<'a>>
     requires { suffix_at tokens.now ≡ SuffixKind.Index }
-    ensures goes { Steps (λ o. Goes count (scene_of context.now) (part.AnExpr (part.Suffixes (expr_tree base))) tokens.now o) (λ e rest o. Goes (count + 1) (scene_of context.now) (part.AnExpr (part.Suffixes (expr_tree e))) rest o) result }
+    ensures goes { Steps (λ o. Goes count (scene_of context.now) (part.AnExpr (part.Suffixes (boxed_expr base))) tokens.now o) (λ e rest o. Goes (count + 1) (scene_of context.now) (part.AnExpr (part.Suffixes (boxed_expr e))) rest o) result }
     ensures within { IfOk result (λ _. count + 1 ≤ 200) }
     ensures shorter { IfOk result (λ x. length x.1.now < length tokens.now) }
 {
@@ -514,7 +492,7 @@ fn bracketed<'a>(
     context: &Context<'_>,
     count: u32,
     tokens: &'a [Placed],
-) -> Result<((Pos, Expr), &'a [Placed]), Fault<'a>>
+) -> Result<((Pos, Box<Expr>), &'a [Placed]), Fault<'a>>
     ensures goes { ReadsBracketed count (scene_of context.now) tokens.now result }
     ensures within { IfOk result (λ _. count + 1 ≤ 200) }
     ensures shorter { IfOk result (λ x. length x.1.now < length tokens.now) }
@@ -532,23 +510,20 @@ fn bracketed<'a>(
 fn call<'a>(
     context: &Context<'_>,
     count: u32,
-    base: Expr,
+    base: Box<Expr>,
     tokens: &'a [Placed],
-) -> Result<(Expr, &'a [Placed]), Fault<'a>>
-    requires { CallComes tokens.now (expr_tree base) }
-    ensures goes { Steps (λ o. Goes count (scene_of context.now) (part.AnExpr (part.Suffixes (expr_tree base))) tokens.now o) (λ e rest o. Goes (count + 1) (scene_of context.now) (part.AnExpr (part.Suffixes (expr_tree e))) rest o) result }
+) -> Result<(Box<Expr>, &'a [Placed]), Fault<'a>>
+    requires { CallComes tokens.now (boxed_expr base) }
+    ensures goes { Steps (λ o. Goes count (scene_of context.now) (part.AnExpr (part.Suffixes (boxed_expr base))) tokens.now o) (λ e rest o. Goes (count + 1) (scene_of context.now) (part.AnExpr (part.Suffixes (boxed_expr e))) rest o) result }
     ensures within { IfOk result (λ _. count + 1 ≤ 200) }
     ensures shorter { IfOk result (λ x. length x.1.now < length tokens.now) }
 {
     let opens = Class::Sign(Punctuator::LeftParenthesis);
-    match base {
-        Expr::Word { pos, name } => {
-            let (_opening, behind) = taken(context, count, 2, opens, tokens)?;
-            let (args, rest) = arguments(context, count + 2, behind)?;
-            Ok((Expr::Call { pos, name, args }, rest))
-        }
-        _ => unreachable!(),
-    }
+    let (pos, name) = word_of(base);
+    let (_opening, behind) = taken(context, count, 2, opens, tokens)?;
+    let (args, rest) = arguments(context, count + 2, behind)?;
+    let whole = call_expr(context.alloc, pos, name, args)?;
+    Ok((whole, rest))
 }
 
 /// A primary expression.
@@ -557,8 +532,8 @@ fn primary<'a>(
     context: &Context<'_>,
     count: u32,
     tokens: &'a [Placed],
-) -> Result<(Expr, &'a [Placed]), Fault<'a>>
-    ensures goes { Answers count (scene_of context.now) (part.AnExpr part.Primary) tokens.now (λ e. expr_tree e) result }
+) -> Result<(Box<Expr>, &'a [Placed]), Fault<'a>>
+    ensures goes { Answers count (scene_of context.now) (part.AnExpr part.Primary) tokens.now (λ e. boxed_expr e) result }
     ensures shorter { IfOk result (λ x. length x.1.now < length tokens.now) }
 {
     match primary_at(context, tokens) {
@@ -577,9 +552,9 @@ fn enclosed<'a>(
     context: &Context<'_>,
     count: u32,
     tokens: &'a [Placed],
-) -> Result<(Expr, &'a [Placed]), Fault<'a>>
+) -> Result<(Box<Expr>, &'a [Placed]), Fault<'a>>
     requires { primary_at (scene_of context.now) tokens.now ≡ PrimaryKind.Enclosed }
-    ensures goes { Answers count (scene_of context.now) (part.AnExpr part.Primary) tokens.now (λ e. expr_tree e) result }
+    ensures goes { Answers count (scene_of context.now) (part.AnExpr part.Primary) tokens.now (λ e. boxed_expr e) result }
     ensures shorter { IfOk result (λ x. length x.1.now < length tokens.now) }
 {
     let opens = Class::Sign(Punctuator::LeftParenthesis);
@@ -606,8 +581,7 @@ fn arguments<'a>(
     }
     let (first, rest) = assignment(context, count, tokens)?;
     let args = one_expr(context.alloc, first)?;
-    let (whole, rest) = more_arguments(context, count, args, rest)?;
-    Ok((whole, rest))
+    more_arguments(context, count, args, rest)
 }
 
 /// The arguments behind the first.

@@ -6,18 +6,20 @@ ghost use Rattle.c_written.specs.Written.{enumerator_tree, enumerators_from, enu
 ghost use Rattle.c_grammar.specs.Made.{has_type};
 ghost use Rattle.c_grammar.specs.Parts as part;
 ghost use Rattle.c_descent.specs.Answers.{Answers};
-ghost use Rattle.c_descent.specs.Kinds.{spec_at, tag_at};
+ghost use Rattle.c_descent.specs.Kinds.{spec_at};
 ghost use Rattle.c_descent.specs.Views.{scene_of};
+ghost use Rattle.c_leaves.specs.Tags.{NamesOrBraces, of_enumeration, of_structure, tagged};
 
 use crate::declarators::declarator;
 use crate::exprs::conditional;
 use c_descent::{
-    Class, Context, Fault, Mark, Role, SpecKind, TagKind, barred, comes, is_type, name_of,
-    one_declarator, one_enumerator, one_member, one_spec, push_declarator, push_enumerator,
-    push_member, push_spec, refused, spec_ahead, spec_at, tag_at, taken, valued_enumerator,
+    Class, Context, Fault, Mark, Role, SpecKind, barred, comes, is_type, name_of, one_declarator,
+    one_enumerator, one_member, one_spec, push_declarator, push_enumerator, push_member, push_spec,
+    refused, spec_ahead, spec_at, taken, valued_enumerator,
 };
 use c_leaves::{
-    basic, comma_end, constant, members_end, storage, tells_type, type_comes_again, typedef_name,
+    basic, comma_end, constant, enumeration_head, enumeration_of, members_end, storage,
+    structure_head, structure_of, tells_type, type_comes_again, typedef_name,
 };
 use c_written::{
     Construct, Declarator, Enumerator, Enumerators, Keyword, MemberDecl, MemberDecls, Name, Placed,
@@ -37,8 +39,7 @@ pub fn specs<'a>(
     let (first, rest) = spec(context, count, tokens)?;
     let typed = is_type(&first);
     let items = one_spec(context.alloc, first)?;
-    let (whole, rest) = more_specs(context, count, typed, items, rest)?;
-    Ok((whole, rest))
+    more_specs(context, count, typed, items, rest)
 }
 
 /// The specs behind the first. `typed` tells that those before tell a type.
@@ -103,103 +104,35 @@ fn structure<'a>(
     ensures goes { Answers count (scene_of context.now) (part.ASpec part.Spec) tokens.now (λ s. spec_tree s) result }
     ensures shorter { IfOk result (λ x. length x.1.now < length tokens.now) }
 {
-    let keyword = Class::Keyword(Keyword::Struct);
-    let (at, behind) = taken(context, count, 0, keyword, tokens)?;
-    let (whole, rest) = structure_form(context, count, at.pos, behind)?;
-    Ok((whole, rest))
+    let ((at, tag), rest) = structure_head(context, count, tokens)?;
+    structure_form(context, count, at, tag, rest)
 }
 
-/// What follows `struct`.
+/// The members of a struct between braces, where they are given.
 #[cycle(descent)]
 fn structure_form<'a>(
     context: &Context<'_>,
     count: u32,
     at: Pos,
+    tag: Option<Tag>,
     tokens: &'a [Placed],
 ) -> Result<(Spec, &'a [Placed]), Fault<'a>>
-    ensures goes { Answers count (scene_of context.now) (part.ASpec (part.Structure at)) tokens.now (λ s. spec_tree s) result }
-    ensures shorter { IfOk result (λ x. length x.1.now < length tokens.now) }
-{
-    match tag_at(tokens) {
-        TagKind::Tag => structure_tag(context, count, at, tokens),
-        TagKind::Body => structure_body(context, count, at, tokens),
-        TagKind::Neither => Err(refused(context, count, tokens)),
-    }
-}
-
-/// A tag, and braces where there are any.
-#[cycle(descent)]
-fn structure_tag<'a>(
-    context: &Context<'_>,
-    count: u32,
-    at: Pos,
-    tokens: &'a [Placed],
-) -> Result<(Spec, &'a [Placed]), Fault<'a>>
-    requires { tag_at tokens.now ≡ TagKind.Tag }
-    ensures goes { Answers count (scene_of context.now) (part.ASpec (part.Structure at)) tokens.now (λ s. spec_tree s) result }
-    ensures shorter { IfOk result (λ x. length x.1.now < length tokens.now) }
-{
-    let (word, behind) = taken(context, count, 0, Class::AnyWord, tokens)?;
-    let name = name_of(context.alloc, &word.token)?;
-    let tag = Tag {
-        pos: word.pos,
-        name,
-    };
-    let (whole, rest) = structure_tagged(context, count, at, tag, behind)?;
-    Ok((whole, rest))
-}
-
-/// Braces without a tag.
-#[cycle(descent)]
-fn structure_body<'a>(
-    context: &Context<'_>,
-    count: u32,
-    at: Pos,
-    tokens: &'a [Placed],
-) -> Result<(Spec, &'a [Placed]), Fault<'a>>
-    requires { tag_at tokens.now ≡ TagKind.Body }
-    ensures goes { Answers count (scene_of context.now) (part.ASpec (part.Structure at)) tokens.now (λ s. spec_tree s) result }
-    ensures shorter { IfOk result (λ x. length x.1.now < length tokens.now) }
-{
-    let brace = Class::Sign(Punctuator::LeftBrace);
-    let (_opening, behind) = taken(context, count, 1, brace, tokens)?;
-    let (members, rest) = members(context, count + 1, behind)?;
-    Ok((
-        Spec::StructBody {
-            pos: at,
-            tag: None,
-            members,
-        },
-        rest,
-    ))
-}
-
-/// Braces behind a tag, where there are any.
-#[cycle(descent)]
-fn structure_tagged<'a>(
-    context: &Context<'_>,
-    count: u32,
-    at: Pos,
-    tag: Tag,
-    tokens: &'a [Placed],
-) -> Result<(Spec, &'a [Placed]), Fault<'a>>
-    ensures goes { Answers count (scene_of context.now) (part.ASpec (part.StructureTagged at tag)) tokens.now (λ s. spec_tree s) result }
+    requires { NamesOrBraces tag tokens.now }
+    ensures goes { Answers count (scene_of context.now) (part.ASpec (tagged of_structure at tag)) tokens.now (λ s. spec_tree s) result }
     ensures shorter { IfOk result (λ x. length x.1.now ≤ length tokens.now) }
 {
     if !comes(Mark::Brace, tokens) {
-        return Ok((Spec::Struct { pos: at, tag }, tokens));
+        return Ok((structure_of(at, tag, tokens), tokens));
     }
     let brace = Class::Sign(Punctuator::LeftBrace);
     let (_opening, behind) = taken(context, count, 1, brace, tokens)?;
     let (members, rest) = members(context, count + 1, behind)?;
-    Ok((
-        Spec::StructBody {
-            pos: at,
-            tag: Some(tag),
-            members,
-        },
-        rest,
-    ))
+    let whole = Spec::StructBody {
+        pos: at,
+        tag,
+        members,
+    };
+    Ok((whole, rest))
 }
 
 /// `enum` and what follows it.
@@ -213,103 +146,35 @@ fn enumeration<'a>(
     ensures goes { Answers count (scene_of context.now) (part.ASpec part.Spec) tokens.now (λ s. spec_tree s) result }
     ensures shorter { IfOk result (λ x. length x.1.now < length tokens.now) }
 {
-    let keyword = Class::Keyword(Keyword::Enum);
-    let (at, behind) = taken(context, count, 0, keyword, tokens)?;
-    let (whole, rest) = enumeration_form(context, count, at.pos, behind)?;
-    Ok((whole, rest))
+    let ((at, tag), rest) = enumeration_head(context, count, tokens)?;
+    enumeration_form(context, count, at, tag, rest)
 }
 
-/// What follows `enum`.
+/// The constants of an enumeration between braces, where they are given.
 #[cycle(descent)]
 fn enumeration_form<'a>(
     context: &Context<'_>,
     count: u32,
     at: Pos,
+    tag: Option<Tag>,
     tokens: &'a [Placed],
 ) -> Result<(Spec, &'a [Placed]), Fault<'a>>
-    ensures goes { Answers count (scene_of context.now) (part.ASpec (part.Enumeration at)) tokens.now (λ s. spec_tree s) result }
-    ensures shorter { IfOk result (λ x. length x.1.now < length tokens.now) }
-{
-    match tag_at(tokens) {
-        TagKind::Tag => enumeration_tag(context, count, at, tokens),
-        TagKind::Body => enumeration_body(context, count, at, tokens),
-        TagKind::Neither => Err(refused(context, count, tokens)),
-    }
-}
-
-/// A tag, and braces where there are any.
-#[cycle(descent)]
-fn enumeration_tag<'a>(
-    context: &Context<'_>,
-    count: u32,
-    at: Pos,
-    tokens: &'a [Placed],
-) -> Result<(Spec, &'a [Placed]), Fault<'a>>
-    requires { tag_at tokens.now ≡ TagKind.Tag }
-    ensures goes { Answers count (scene_of context.now) (part.ASpec (part.Enumeration at)) tokens.now (λ s. spec_tree s) result }
-    ensures shorter { IfOk result (λ x. length x.1.now < length tokens.now) }
-{
-    let (word, behind) = taken(context, count, 0, Class::AnyWord, tokens)?;
-    let name = name_of(context.alloc, &word.token)?;
-    let tag = Tag {
-        pos: word.pos,
-        name,
-    };
-    let (whole, rest) = enumeration_tagged(context, count, at, tag, behind)?;
-    Ok((whole, rest))
-}
-
-/// Braces without a tag.
-#[cycle(descent)]
-fn enumeration_body<'a>(
-    context: &Context<'_>,
-    count: u32,
-    at: Pos,
-    tokens: &'a [Placed],
-) -> Result<(Spec, &'a [Placed]), Fault<'a>>
-    requires { tag_at tokens.now ≡ TagKind.Body }
-    ensures goes { Answers count (scene_of context.now) (part.ASpec (part.Enumeration at)) tokens.now (λ s. spec_tree s) result }
-    ensures shorter { IfOk result (λ x. length x.1.now < length tokens.now) }
-{
-    let brace = Class::Sign(Punctuator::LeftBrace);
-    let (_opening, behind) = taken(context, count, 1, brace, tokens)?;
-    let (enumerators, rest) = enumerators(context, count + 1, behind)?;
-    Ok((
-        Spec::EnumBody {
-            pos: at,
-            tag: None,
-            enumerators,
-        },
-        rest,
-    ))
-}
-
-/// Braces behind a tag, where there are any.
-#[cycle(descent)]
-fn enumeration_tagged<'a>(
-    context: &Context<'_>,
-    count: u32,
-    at: Pos,
-    tag: Tag,
-    tokens: &'a [Placed],
-) -> Result<(Spec, &'a [Placed]), Fault<'a>>
-    ensures goes { Answers count (scene_of context.now) (part.ASpec (part.EnumerationTagged at tag)) tokens.now (λ s. spec_tree s) result }
+    requires { NamesOrBraces tag tokens.now }
+    ensures goes { Answers count (scene_of context.now) (part.ASpec (tagged of_enumeration at tag)) tokens.now (λ s. spec_tree s) result }
     ensures shorter { IfOk result (λ x. length x.1.now ≤ length tokens.now) }
 {
     if !comes(Mark::Brace, tokens) {
-        return Ok((Spec::Enum { pos: at, tag }, tokens));
+        return Ok((enumeration_of(at, tag, tokens), tokens));
     }
     let brace = Class::Sign(Punctuator::LeftBrace);
     let (_opening, behind) = taken(context, count, 1, brace, tokens)?;
     let (enumerators, rest) = enumerators(context, count + 1, behind)?;
-    Ok((
-        Spec::EnumBody {
-            pos: at,
-            tag: Some(tag),
-            enumerators,
-        },
-        rest,
-    ))
+    let whole = Spec::EnumBody {
+        pos: at,
+        tag,
+        enumerators,
+    };
+    Ok((whole, rest))
 }
 
 /// The members of a struct, up to the brace that closes them.
@@ -324,8 +189,7 @@ fn members<'a>(
 {
     let (first, rest) = member(context, count, tokens)?;
     let items = one_member(context.alloc, first)?;
-    let (whole, rest) = more_members(context, count, items, rest)?;
-    Ok((whole, rest))
+    more_members(context, count, items, rest)
 }
 
 /// The members behind the first.
@@ -364,8 +228,7 @@ fn member<'a>(
     let (words, rest) = specs(context, count, tokens)?;
     let (first, rest) = declarator(context, Role::OfMember, count, rest)?;
     let items = one_declarator(context.alloc, first)?;
-    let (whole, rest) = more_declarators(context, count, words, items, rest)?;
-    Ok((whole, rest))
+    more_declarators(context, count, words, items, rest)
 }
 
 /// The declarators of members behind the first.
@@ -408,8 +271,7 @@ fn enumerators<'a>(
 {
     let (first, rest) = enumerator(context, count, tokens)?;
     let items = one_enumerator(context.alloc, first)?;
-    let (whole, rest) = more_enumerators(context, count, items, rest)?;
-    Ok((whole, rest))
+    more_enumerators(context, count, items, rest)
 }
 
 /// The constants behind the first.
@@ -451,8 +313,7 @@ fn enumerator<'a>(
 {
     let (word, behind) = taken(context, count, 0, Class::Word, tokens)?;
     let name = name_of(context.alloc, &word.token)?;
-    let (whole, rest) = enumerator_value(context, count, word.pos, name, behind)?;
-    Ok((whole, rest))
+    enumerator_value(context, count, word.pos, name, behind)
 }
 
 /// The value of a constant, where it is given.
@@ -473,6 +334,5 @@ fn enumerator_value<'a>(
     let sign = Class::Sign(Punctuator::Assign);
     let (_equals, behind) = taken(context, count, 1, sign, tokens)?;
     let (value, rest) = conditional(context, count + 1, behind)?;
-    let whole = valued_enumerator(context.alloc, at, name, value)?;
-    Ok((whole, rest))
+    Ok((valued_enumerator(at, name, value), rest))
 }

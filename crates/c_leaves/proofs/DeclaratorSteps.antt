@@ -1,5 +1,5 @@
 -- Steps of the descent through declarators and parameters.
-use Rattle.std.proofs.Common.{◌≡◌, refl, sym, subst, ap, ◌∙◌, ℕ, Bool, true, false, ◌&&◌, List, [], ◌∷◌, Bor}
+use Rattle.std.proofs.Common.{◌≡◌, refl, sym, subst, ap, ◌∙◌, ℕ, Bool, true, false, not, ◌&&◌, List, [], ◌∷◌, Bor}
 use Rattle.std.specs.Prelude.{Ok, None}
 use Rattle.c_written.specs.declared.place.Pos.{Pos}
 use Rattle.c_written.specs.declared.token.Placed.{Placed}
@@ -7,12 +7,14 @@ use Rattle.c_written.specs.declared.token.Keyword.TheVariants as keywords
 use Rattle.c_written.specs.declared.token.Punctuator.TheVariants as signs
 use Rattle.c_written.specs.declared.token.Token.{Token}
 use Rattle.c_written.specs.declared.token.Token.TheVariants as kinds
+use Rattle.c_written.specs.declared.written.Declarator.{Declarator}
 use Rattle.c_written.specs.declared.written.Declarator.TheVariants as declarators
 use Rattle.c_written.proofs.WrittenTrees.{declarator_absent, declarator_name}
 use Rattle.c_written.specs.Written.{DeclaratorTree, Absent, Name, declarator_tree, ParamTree, ParamTrees, params_then}
 use Rattle.c_grammar.specs.Parts.{Scene, Role, Naming, OfMember, OfParameter, OfTypeName, Pointed, Direct, Tails, MoreParameters, ADeclarator, DeclaratorPart, Parameter}
 use Rattle.c_grammar.specs.Process.{give, part}
 use Rattle.c_grammar.specs.Classes.{sign, keyword, names_type}
+use Rattle.c_grammar.specs.Made.{is_given}
 use Rattle.c_grammar.specs.Grammar.{type_rule}
 use Rattle.c_grammar.specs.TypeRules as types
 use Rattle.c_grammar.specs.TypeRules.{MayName, MayOmit}
@@ -104,11 +106,11 @@ tail_is w r p d ts e = subst (λ v. TailTells w r p d ts v) e (tail_tells w r p 
 pub tails_at : {d : ℕ} {w : Scene} {r : Role} {p : Bool} {a b : DeclaratorTree} {ts : List Placed} {o : Outcome DeclaratorTree} → a ≡ b → Goes d w (ADeclarator (Tails r p a)) ts o → Goes d w (ADeclarator (Tails r p b)) ts o
 tails_at {d} {w} {r} {p} {a} {b} {ts} {o} e g = subst (λ v. Goes d w (ADeclarator (Tails r p v)) ts o) e g
 
-pub tails_named : {d : ℕ} {w : Scene} {r : Role} {p : Bool} {place : Pos} {a b : List ℕ} {ts : List Placed} {o : Outcome DeclaratorTree} → a ≡ b → Goes d w (ADeclarator (Tails r p (declarator_tree (declarators.Name place a)))) ts o → Goes d w (ADeclarator (Tails r p (Name place b))) ts o
-tails_named {d} {w} {r} {p} {place} {a} {b} {ts} {o} e g = tails_at (declarator_name place a ∙ ap (Name place) e) g
+pub tails_named : {d : ℕ} {w : Scene} {r : Role} {p : Bool} {place : Pos} {a b : List ℕ} {v : Declarator} {ts : List Placed} {o : Outcome DeclaratorTree} → v ≡ declarators.Name place a → a ≡ b → Goes d w (ADeclarator (Tails r p (declarator_tree v))) ts o → Goes d w (ADeclarator (Tails r p (Name place b))) ts o
+tails_named {d} {w} {r} {p} {place} {a} {b} {v} {ts} {o} h e g = tails_at (ap declarator_tree h ∙ declarator_name place a ∙ ap (Name place) e) g
 
-pub tails_absent : {d : ℕ} {w : Scene} {r : Role} {p : Bool} {ts : List Placed} {o : Outcome DeclaratorTree} → Goes d w (ADeclarator (Tails r p (declarator_tree declarators.Absent))) ts o → Goes d w (ADeclarator (Tails r p Absent)) ts o
-tails_absent g = tails_at declarator_absent g
+pub tails_absent : {d : ℕ} {w : Scene} {r : Role} {p : Bool} {v : Declarator} {ts : List Placed} {o : Outcome DeclaratorTree} → v ≡ declarators.Absent → Goes d w (ADeclarator (Tails r p (declarator_tree v))) ts o → Goes d w (ADeclarator (Tails r p Absent)) ts o
+tails_absent h g = tails_at (ap declarator_tree h ∙ declarator_absent) g
 
 pub parameters_at : {d : ℕ} {w : Scene} {at : Pos} {inner : DeclaratorTree} {a b : ParamTrees} {ts : List Placed} {o : Outcome DeclaratorTree} → a ≡ b → Goes d w (ADeclarator (MoreParameters at inner a)) ts o → Goes d w (ADeclarator (MoreParameters at inner b)) ts o
 parameters_at {d} {w} {at} {inner} {a} {b} {ts} {o} e g = subst (λ v. Goes d w (ADeclarator (MoreParameters at inner v)) ts o) e g
@@ -140,3 +142,10 @@ pub no_tail : (k : TailKind) → is_no_tail k ≡ true → k ≡ tails.Nothing
 no_tail tails.Nothing e = refl
 no_tail tails.Array e = absurd (let h : false ≡ true = e in cc)
 no_tail tails.Function e = absurd (let h : false ≡ true = e in cc)
+
+-- what was asked of a borrowed declarator holds of the declarator
+pub regiven : {b : Bool} {v u : Declarator} → v ≡ u → b ≡ is_given (declarator_tree v) → is_given (declarator_tree u) ≡ b
+regiven {b} {v} {u} e h = sym (h ∙ ap (λ x. is_given (declarator_tree x)) e)
+
+pub renamed : (a p : Bool) {b : Bool} {v u : Declarator} → v ≡ u → b ≡ (a && (not p && is_given (declarator_tree v))) → (a && (not p && is_given (declarator_tree u))) ≡ b
+renamed a p {b} {v} {u} e h = sym (h ∙ ap (λ x. a && (not p && is_given (declarator_tree x))) e)

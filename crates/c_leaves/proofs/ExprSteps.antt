@@ -1,6 +1,8 @@
 -- Steps of the descent through expressions.
-use Rattle.std.proofs.Common.{◌≡◌, refl, sym, subst, ap, ℕ, ◌+◌, Bool, true, false, not, ◌&&◌, List, [], ◌∷◌, Bor}
+use Rattle.std.proofs.Common.{◌≡◌, refl, sym, subst, ap, ◌∙◌, ℕ, ◌+◌, Bool, true, false, not, ◌&&◌, List, [], ◌∷◌, Bor}
 use Rattle.std.specs.Prelude.{Result, Ok, Err, Option, Some, None, option_map}
+use Rattle.std.specs.declared.alloc.Global.{Global}
+use Rattle.std.specs.declared.boxed.Box.{Box}
 use Rattle.c_written.specs.declared.place.Pos.{Pos}
 use Rattle.c_written.specs.declared.construct.Construct.TheVariants as constructs
 use Rattle.c_written.specs.declared.token.Placed.{Placed}
@@ -25,7 +27,7 @@ use Rattle.c_grammar.specs.Descent.{Outcome, Done, Stop, Goes, Follows, goes_on,
 use Rattle.c_descent.specs.declared.fault.Fault.{Fault}
 use Rattle.c_descent.specs.declared.level.Level.{Level}
 use Rattle.c_descent.specs.declared.level.Joint.{Joint}
-use Rattle.c_descent.specs.Views.{level_view, joint_view, is_question}
+use Rattle.c_descent.specs.Views.{boxed_expr, level_view, joint_view, is_question}
 use Rattle.c_descent.specs.Answers.{Gives, Halts, Takes, SuffixComes}
 use Rattle.c_leaves.specs.Readers.{ReadsBehind}
 use Rattle.c_descent.specs.declared.kind.SuffixKind.{SuffixKind}
@@ -75,11 +77,11 @@ pub arguments_at : {d : ℕ} {w : Scene} {a b : ExprTrees} {ts : List Placed} {o
 arguments_at {d} {w} {a} {b} {ts} {o} e g = subst (λ v. Goes d w (MoreArguments v) ts o) e g
 
 -- what stands behind the sign that is asked for
-pub behind_sign : {d : ℕ} {w : Scene} {a b : Punctuator} {x : ExprPart} {ts : List Placed} {r : Result ((Pos × Expr) × Bor (List Placed)) Fault} → a ≡ b → ReadsBehind d w a x ts r → ReadsBehind d w b x ts r
+pub behind_sign : {d : ℕ} {w : Scene} {a b : Punctuator} {x : ExprPart} {ts : List Placed} {r : Result ((Pos × Box Expr Global) × Bor (List Placed)) Fault} → a ≡ b → ReadsBehind d w a x ts r → ReadsBehind d w b x ts r
 behind_sign {d} {w} {a} {b} {x} {ts} {r} e h = subst (λ v. ReadsBehind d w v x ts r) e h
 
 -- one more joint and its operand
-pub joint_step : {d : ℕ} {w : Scene} {l : parts.Level} {j : parts.Joint} {left whole : ExprTree} {x : (Pos × Expr) × Bor (List Placed)} {ts : List Placed} (o : Outcome ExprTree) → joint_here l ts ≡ Some j → ReadsBehind d w (joint_sign j) (operand l) ts (Ok x) → whole ≡ joined j x.0.0 left (expr_tree x.0.1) → Goes (d + 1) w (AnExpr (More l whole)) x.1.now o → Goes d w (AnExpr (More l left)) ts o
+pub joint_step : {d : ℕ} {w : Scene} {l : parts.Level} {j : parts.Joint} {left whole : ExprTree} {x : (Pos × Box Expr Global) × Bor (List Placed)} {ts : List Placed} (o : Outcome ExprTree) → joint_here l ts ≡ Some j → ReadsBehind d w (joint_sign j) (operand l) ts (Ok x) → whole ≡ joined j x.0.0 left (boxed_expr x.0.1) → Goes (d + 1) w (AnExpr (More l whole)) x.1.now o → Goes d w (AnExpr (More l left)) ts o
 joint_step {d} {w} {l} {j} {left} {whole} {x} {ts} o e r h k =
     let m : MoreTells w l left ts (Some j) = more_is w l left ts e in
     by (expr_rule (exprs.run_more j m.0)) refl m.1 (step (r (AnExpr (More l left)) (λ at right. part 1 w (AnExpr (More l (joined j at left right))) give)) o (tail_expr o (more_at h k)))
@@ -106,6 +108,10 @@ member_at {d} {w} {p} k {at} {a} {b} {ts} {o} e f = subst (λ v. Follows d w p (
 pub and_left : (a b : Bool) → (a && b) ≡ true → a ≡ true
 and_left true b e = refl
 and_left false b e = absurd (let h : false ≡ true = e in cc)
+
+-- what was asked of a borrowed expression holds of the expression
+pub rebased : (a : Bool) {b : Bool} {v u : Expr} → v ≡ u → b ≡ (a && not (is_word (expr_tree v))) → (a && not (is_word (expr_tree u))) ≡ b
+rebased a {b} {v} {u} e h = sym (h ∙ ap (λ x. a && not (is_word (expr_tree x))) e)
 
 pub nothing_of : (k : SuffixKind) → is_no_suffix k ≡ true → k ≡ suffixes.Nothing
 nothing_of suffixes.Nothing e = refl

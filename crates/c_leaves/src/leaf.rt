@@ -2,9 +2,9 @@
 #![tactic(auto, using(c_written::proofs::Trees::the_written_trees))]
 
 ghost use Rattle.std.specs.Prelude.{◌≡◌, ◌<◌, ◌≤◌, length, IfOk};
-ghost use Rattle.c_written.specs.Written.{expr_tree, spec_tree};
+ghost use Rattle.c_written.specs.Written.{spec_tree};
 ghost use Rattle.c_grammar.specs.Parts as part;
-ghost use Rattle.c_descent.specs.Views.{scene_of};
+ghost use Rattle.c_descent.specs.Views.{boxed_expr, scene_of};
 ghost use Rattle.c_descent.specs.Kinds.{primary_at, spec_at};
 ghost use Rattle.c_descent.specs.Answers.{Answers};
 
@@ -19,20 +19,21 @@ pub fn word<'a>(
     context: &Context<'_>,
     count: u32,
     tokens: &'a [Placed],
-) -> Result<(Expr, &'a [Placed]), Fault<'a>>
+) -> Result<(Box<Expr>, &'a [Placed]), Fault<'a>>
     requires { primary_at (scene_of context.now) tokens.now ≡ PrimaryKind.Word }
-    ensures goes { Answers count (scene_of context.now) (part.AnExpr part.Primary) tokens.now (λ e. expr_tree e) result }
+    ensures goes { Answers count (scene_of context.now) (part.AnExpr part.Primary) tokens.now (λ e. boxed_expr e) result }
     ensures shorter { IfOk result (λ x. length x.1.now < length tokens.now) }
 {
     let (word, rest) = taken(context, count, 0, Class::Word, tokens)?;
     let name = name_of(context.alloc, &word.token)?;
-    Ok((
+    let whole = Box::new(
+        context.alloc,
         Expr::Word {
             pos: word.pos,
             name,
         },
-        rest,
-    ))
+    )?;
+    Ok((whole, rest))
 }
 
 /// A number.
@@ -40,19 +41,20 @@ pub fn number<'a>(
     context: &Context<'_>,
     count: u32,
     tokens: &'a [Placed],
-) -> Result<(Expr, &'a [Placed]), Fault<'a>>
+) -> Result<(Box<Expr>, &'a [Placed]), Fault<'a>>
     requires { primary_at (scene_of context.now) tokens.now ≡ PrimaryKind.Number }
-    ensures goes { Answers count (scene_of context.now) (part.AnExpr part.Primary) tokens.now (λ e. expr_tree e) result }
+    ensures goes { Answers count (scene_of context.now) (part.AnExpr part.Primary) tokens.now (λ e. boxed_expr e) result }
     ensures shorter { IfOk result (λ x. length x.1.now < length tokens.now) }
 {
     let (number, rest) = taken(context, count, 0, Class::Number, tokens)?;
-    Ok((
+    let whole = Box::new(
+        context.alloc,
         Expr::Number {
             pos: number.pos,
             constant: constant_of(&number.token),
         },
-        rest,
-    ))
+    )?;
+    Ok((whole, rest))
 }
 
 /// A character constant.
@@ -60,19 +62,20 @@ pub fn character<'a>(
     context: &Context<'_>,
     count: u32,
     tokens: &'a [Placed],
-) -> Result<(Expr, &'a [Placed]), Fault<'a>>
+) -> Result<(Box<Expr>, &'a [Placed]), Fault<'a>>
     requires { primary_at (scene_of context.now) tokens.now ≡ PrimaryKind.Character }
-    ensures goes { Answers count (scene_of context.now) (part.AnExpr part.Primary) tokens.now (λ e. expr_tree e) result }
+    ensures goes { Answers count (scene_of context.now) (part.AnExpr part.Primary) tokens.now (λ e. boxed_expr e) result }
     ensures shorter { IfOk result (λ x. length x.1.now < length tokens.now) }
 {
     let (character, rest) = taken(context, count, 0, Class::Character, tokens)?;
-    Ok((
+    let whole = Box::new(
+        context.alloc,
         Expr::Character {
             pos: character.pos,
             byte: byte_of(&character.token),
         },
-        rest,
-    ))
+    )?;
+    Ok((whole, rest))
 }
 
 /// Strings that stand next to each other, which are one literal.
@@ -80,9 +83,9 @@ pub fn strings<'a>(
     context: &Context<'_>,
     count: u32,
     tokens: &'a [Placed],
-) -> Result<(Expr, &'a [Placed]), Fault<'a>>
+) -> Result<(Box<Expr>, &'a [Placed]), Fault<'a>>
     requires { primary_at (scene_of context.now) tokens.now ≡ PrimaryKind.Text }
-    ensures goes { Answers count (scene_of context.now) (part.AnExpr part.Primary) tokens.now (λ e. expr_tree e) result }
+    ensures goes { Answers count (scene_of context.now) (part.AnExpr part.Primary) tokens.now (λ e. boxed_expr e) result }
     ensures shorter { IfOk result (λ x. length x.1.now < length tokens.now) }
 {
     let (text, rest) = taken(context, count, 0, Class::Text, tokens)?;
@@ -98,8 +101,8 @@ fn more_strings<'a>(
     pos: Pos,
     before: Vec<u8>,
     tokens: &'a [Placed],
-) -> Result<(Expr, &'a [Placed]), Fault<'a>>
-    ensures goes { Answers count (scene_of context.now) (part.AnExpr (part.Texts pos before.items)) tokens.now (λ e. expr_tree e) result }
+) -> Result<(Box<Expr>, &'a [Placed]), Fault<'a>>
+    ensures goes { Answers count (scene_of context.now) (part.AnExpr (part.Texts pos before.items)) tokens.now (λ e. boxed_expr e) result }
     ensures shorter { IfOk result (λ x. length x.1.now ≤ length tokens.now) }
 {
     let mut bytes = before;
@@ -109,13 +112,14 @@ fn more_strings<'a>(
         push_bytes(&mut bytes, &text.token)?;
         rest = after;
     }
-    Ok((
+    let whole = Box::new(
+        context.alloc,
         Expr::Strings {
             pos,
             bytes: Bytes::from_vec(bytes),
         },
-        rest,
-    ))
+    )?;
+    Ok((whole, rest))
 }
 
 /// A typedef name.

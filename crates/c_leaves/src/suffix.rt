@@ -2,7 +2,7 @@
 #![tactic(auto, using(c_written::proofs::Trees::the_written_trees))]
 
 ghost use Rattle.std.specs.Prelude.{◌≡◌, ◌+◌, ◌<◌, ◌≤◌, true, not, ◌&&◌, length, IfOk};
-ghost use Rattle.c_written.specs.Written.{expr_tree, exprs_tree};
+ghost use Rattle.c_written.specs.Written.{Word, expr_tree, exprs_tree};
 ghost use Rattle.c_grammar.specs.Ahead.{is_close, is_open};
 ghost use Rattle.c_grammar.specs.Made.{is_word};
 ghost use Rattle.c_grammar.specs.Parts as part;
@@ -11,7 +11,7 @@ ghost use Rattle.c_grammar.specs.Descent.{Goes};
 ghost use Rattle.c_grammar.specs.Refused.{first_is};
 ghost use Rattle.c_leaves.specs.Readers.{ReadsMember};
 ghost use Rattle.c_descent.specs.Kinds.{is_no_suffix, suffix_at};
-ghost use Rattle.c_descent.specs.Views.{scene_of};
+ghost use Rattle.c_descent.specs.Views.{boxed_expr, scene_of};
 
 use c_descent::{
     Class, Context, Fault, Mark, SuffixKind, arrow_expr, comes, dot_expr, is_word, name_of,
@@ -23,11 +23,11 @@ use c_written::{Expr, Exprs, Name, Placed, Pos, Punctuator, StepWay};
 pub fn dot<'a>(
     context: &Context<'_>,
     count: u32,
-    base: Expr,
+    base: Box<Expr>,
     tokens: &'a [Placed],
-) -> Result<(Expr, &'a [Placed]), Fault<'a>>
+) -> Result<(Box<Expr>, &'a [Placed]), Fault<'a>>
     requires { suffix_at tokens.now ≡ SuffixKind.Dot }
-    ensures goes { Steps (λ o. Goes count (scene_of context.now) (part.AnExpr (part.Suffixes (expr_tree base))) tokens.now o) (λ e rest o. Goes (count + 1) (scene_of context.now) (part.AnExpr (part.Suffixes (expr_tree e))) rest o) result }
+    ensures goes { Steps (λ o. Goes count (scene_of context.now) (part.AnExpr (part.Suffixes (boxed_expr base))) tokens.now o) (λ e rest o. Goes (count + 1) (scene_of context.now) (part.AnExpr (part.Suffixes (boxed_expr e))) rest o) result }
     ensures within { IfOk result (λ _. count + 1 ≤ 200) }
     ensures shorter { IfOk result (λ x. length x.1.now < length tokens.now) }
 {
@@ -40,11 +40,11 @@ pub fn dot<'a>(
 pub fn arrow<'a>(
     context: &Context<'_>,
     count: u32,
-    base: Expr,
+    base: Box<Expr>,
     tokens: &'a [Placed],
-) -> Result<(Expr, &'a [Placed]), Fault<'a>>
+) -> Result<(Box<Expr>, &'a [Placed]), Fault<'a>>
     requires { suffix_at tokens.now ≡ SuffixKind.Arrow }
-    ensures goes { Steps (λ o. Goes count (scene_of context.now) (part.AnExpr (part.Suffixes (expr_tree base))) tokens.now o) (λ e rest o. Goes (count + 1) (scene_of context.now) (part.AnExpr (part.Suffixes (expr_tree e))) rest o) result }
+    ensures goes { Steps (λ o. Goes count (scene_of context.now) (part.AnExpr (part.Suffixes (boxed_expr base))) tokens.now o) (λ e rest o. Goes (count + 1) (scene_of context.now) (part.AnExpr (part.Suffixes (boxed_expr e))) rest o) result }
     ensures within { IfOk result (λ _. count + 1 ≤ 200) }
     ensures shorter { IfOk result (λ x. length x.1.now < length tokens.now) }
 {
@@ -75,11 +75,11 @@ pub fn post_step<'a>(
     context: &Context<'_>,
     count: u32,
     way: StepWay,
-    base: Expr,
+    base: Box<Expr>,
     tokens: &'a [Placed],
-) -> Result<(Expr, &'a [Placed]), Fault<'a>>
+) -> Result<(Box<Expr>, &'a [Placed]), Fault<'a>>
     requires { suffix_at tokens.now ≡ SuffixKind.Step way }
-    ensures goes { Steps (λ o. Goes count (scene_of context.now) (part.AnExpr (part.Suffixes (expr_tree base))) tokens.now o) (λ e rest o. Goes (count + 1) (scene_of context.now) (part.AnExpr (part.Suffixes (expr_tree e))) rest o) result }
+    ensures goes { Steps (λ o. Goes count (scene_of context.now) (part.AnExpr (part.Suffixes (boxed_expr base))) tokens.now o) (λ e rest o. Goes (count + 1) (scene_of context.now) (part.AnExpr (part.Suffixes (boxed_expr e))) rest o) result }
     ensures within { IfOk result (λ _. count + 1 ≤ 200) }
     ensures shorter { IfOk result (λ x. length x.1.now < length tokens.now) }
 {
@@ -102,6 +102,17 @@ pub fn no_arguments<'a>(
     let closes = Class::Sign(Punctuator::RightParenthesis);
     let (_close, rest) = taken(context, count, 0, closes, tokens)?;
     Ok((Exprs::new(context.alloc), rest))
+}
+
+/// The place and the name of a word that is called.
+pub fn word_of(base: Box<Expr>) -> (Pos, Name)
+    requires { is_word (boxed_expr base) ≡ true }
+    ensures { boxed_expr base ≡ Word result.0 result.1 }
+{
+    match Box::into_inner(base) {
+        Expr::Word { pos, name } => (pos, name),
+        _ => unreachable!(),
+    }
 }
 
 // The parenthesis of a call comes, and no plain word stands before it.

@@ -10,7 +10,7 @@ ghost use Rattle.c_grammar.specs.Choice.{is_const_word};
 ghost use Rattle.c_grammar.specs.Refused.{first_is, may_omit};
 ghost use Rattle.c_descent.specs.Answers.{Answers, Consts, SizeIsMissing};
 ghost use Rattle.c_descent.specs.Kinds.{is_no_tail};
-ghost use Rattle.c_descent.specs.Views.{role_view, scene_of};
+ghost use Rattle.c_descent.specs.Views.{boxed_declarator, role_view, scene_of};
 
 use c_descent::{
     Class, Context, Fault, Mark, Role, TailKind, comes, empty_declarator, is_given,
@@ -46,11 +46,11 @@ pub fn no_size<'a>(
     role: Role,
     count: u32,
     at: Pos,
-    inner: Declarator,
+    inner: Box<Declarator>,
     tokens: &'a [Placed],
-) -> Result<(Declarator, &'a [Placed]), Fault<'a>>
+) -> Result<(Box<Declarator>, &'a [Placed]), Fault<'a>>
     requires { SizeIsMissing (role_view role) tokens.now }
-    ensures goes { Answers count (scene_of context.now) (part.ADeclarator (part.Size (role_view role) at (declarator_tree inner))) tokens.now (λ d. declarator_tree d) result }
+    ensures goes { Answers count (scene_of context.now) (part.ADeclarator (part.Size (role_view role) at (boxed_declarator inner))) tokens.now (λ d. boxed_declarator d) result }
     ensures shorter { IfOk result (λ x. length x.1.now < length tokens.now) }
 {
     let closes = Class::Sign(Punctuator::RightBracket);
@@ -64,11 +64,11 @@ pub fn no_parameters<'a>(
     context: &Context<'_>,
     count: u32,
     at: Pos,
-    inner: Declarator,
+    inner: Box<Declarator>,
     tokens: &'a [Placed],
-) -> Result<(Declarator, &'a [Placed]), Fault<'a>>
+) -> Result<(Box<Declarator>, &'a [Placed]), Fault<'a>>
     requires { first_is is_close tokens.now ≡ true }
-    ensures goes { Answers count (scene_of context.now) (part.ADeclarator (part.Parameters at (declarator_tree inner))) tokens.now (λ d. declarator_tree d) result }
+    ensures goes { Answers count (scene_of context.now) (part.ADeclarator (part.Parameters at (boxed_declarator inner))) tokens.now (λ d. boxed_declarator d) result }
     ensures shorter { IfOk result (λ x. length x.1.now < length tokens.now) }
 {
     let closes = Class::Sign(Punctuator::RightParenthesis);

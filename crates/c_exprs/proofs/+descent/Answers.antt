@@ -1,32 +1,30 @@
 -- How the functions of the cycle read their parts.
 use Rattle.std.proofs.Common.{refl, sym, ap, ◌∙◌, not, arith}
 use Rattle.c_written.specs.Written as trees
-use Rattle.c_written.specs.Written.{declarator_tree, expr_tree, exprs_from, exprs_tree}
-use Rattle.c_written.proofs.WrittenTrees.{expr_word, expr_call, spec_struct, spec_struct_body, spec_enum, spec_enum_body, enumerator_plain}
+use Rattle.c_written.specs.Written.{exprs_from, exprs_tree}
+use Rattle.c_written.proofs.WrittenTrees.{spec_struct_body, spec_enum_body, enumerator_plain}
 use Rattle.c_grammar.specs.Parts as part
 use Rattle.c_grammar.specs.Process as process
 use Rattle.c_grammar.specs.Grammar.{expr_rule, type_rule}
 use Rattle.c_grammar.specs.ExprRules as rule
 use Rattle.c_grammar.specs.TypeRules as kind
 use Rattle.c_grammar.specs.Descent.{goes_on, stops, is_done, is_barred, no_rule, passes, fails}
-use Rattle.c_descent.specs.Views.{scene_of, level_view, role_view}
+use Rattle.c_descent.specs.Views.{boxed_declarator, boxed_expr, scene_of, level_view, role_view}
 use Rattle.c_descent.specs.Answers.{given, halted, stepped}
-use Rattle.c_descent.proofs.Steps.{halts, failed, starved, stalls, starves, answer, halt, take, refuse, step, stall, stopped, by, here, stops_here, done, if_true, if_false, borne, unborne, sign_is}
+use Rattle.c_descent.proofs.Steps.{relayed, halts, failed, starved, stalls, starves, answer, halt, take, refuse, step, stall, stopped, by, here, stops_here, done, if_true, if_false, borne, unborne, sign_is}
 use Rattle.c_descent.proofs.Choices.{primary_is, prefix_is, suffix_is, assign_is, more_is}
-use Rattle.c_leaves.proofs.ExprSteps.{operand_at, not_question, is_question_ahead, suffix_free, tail_expr, suffixes_at, behind_sign, joint_step, joint_stop, argument_step, arguments_at, and_left, nothing_of, call_by, no_other, no_joint}
+use Rattle.c_leaves.proofs.ExprSteps.{operand_at, not_question, is_question_ahead, suffix_free, tail_expr, suffixes_at, behind_sign, joint_step, joint_stop, argument_step, arguments_at, and_left, rebased, nothing_of, call_by, no_joint}
+use Rattle.c_leaves.proofs.TagSteps.{structure_alone, structure_braces, enumeration_alone, enumeration_braces}
 use Rattle.c_grammar.specs.Made.{function_of}
-use Rattle.c_descent.proofs.TypeSteps.{spec_is, structure_is, enumeration_is, specs_at, members_at, declarators_at, enumerators_at, structure_tagged_at, enumeration_tagged_at, value_at, again_is, spec_step, member_step, declarator_step, next_step, enumerator_step, carried, one_type, more_type}
-use Rattle.c_leaves.proofs.DeclaratorSteps.{direct_is, tail_is, no_tail, tails_at, tails_named, tails_absent, parameters_at, tail_declarator, parameter_step, both_true, first_false}
+use Rattle.c_descent.proofs.TypeSteps.{spec_is, specs_at, members_at, declarators_at, enumerators_at, value_at, again_is, spec_step, member_step, declarator_step, next_step, enumerator_step, carried, one_type, more_type}
+use Rattle.c_leaves.proofs.DeclaratorSteps.{direct_is, tail_is, no_tail, tails_at, tails_named, tails_absent, parameters_at, tail_declarator, parameter_step, regiven, renamed, both_true, first_false}
 use Rattle.c_exprs.proofs.+descent.Goals as goal
 
 pub exprs::run-returns-in_err-first-clause-goes : goal.exprs::run-returns-in_err-first-clause-goes
 exprs::run-returns-in_err-first-clause-goes t c = failed c.from_residual.ensures.1 (halts (halt c.in_err-first.ensures.goes) (λ why rest g. by (expr_rule rule.run) (refl) (refl) (stops_here g)))
 
-pub exprs::run-returns-in_err-whole-clause-goes : goal.exprs::run-returns-in_err-whole-clause-goes
-exprs::run-returns-in_err-whole-clause-goes t c = failed c.from_residual-in_err-whole.ensures.1 (halts (halt c.in_err-whole.ensures.goes) (λ why rest g. by (expr_rule rule.run) (refl) (refl) (here (answer c.in_ok-first.ensures.goes) (stops_here g))))
-
 pub exprs::run-returns-clause-goes : goal.exprs::run-returns-clause-goes
-exprs::run-returns-clause-goes t c = given (by (expr_rule rule.run) (refl) (refl) (here (answer c.in_ok-first.ensures.goes) (here (answer c.in_ok-whole.ensures.goes) (is_done))))
+exprs::run-returns-clause-goes t c = relayed c.more.ensures.goes (λ x g. by (expr_rule rule.run) (refl) (refl) (here (answer c.in_ok-first.ensures.goes) (here g (is_done)))) (λ why rest g. by (expr_rule rule.run) (refl) (refl) (here (answer c.in_ok-first.ensures.goes) (stops_here g)))
 
 pub exprs::operand-returns-in-Commas-clause-goes : goal.exprs::operand-returns-in-Commas-clause-goes
 exprs::operand-returns-in-Commas-clause-goes t c = operand_at c.in-Commas.is c.assignment.ensures.goes
@@ -64,53 +62,47 @@ exprs::operand-returns-in-Products-clause-goes t c = operand_at c.in-Products.is
 pub exprs::assignment-returns-in_err-left-clause-goes : goal.exprs::assignment-returns-in_err-left-clause-goes
 exprs::assignment-returns-in_err-left-clause-goes t c = failed c.from_residual.ensures.1 (halts (halt c.in_err-left.ensures.goes) (λ why rest g. by (expr_rule rule.assignment) (refl) (refl) (stops_here g)))
 
-pub exprs::assignment-returns-in_err-whole-clause-goes : goal.exprs::assignment-returns-in_err-whole-clause-goes
-exprs::assignment-returns-in_err-whole-clause-goes t c = failed c.from_residual-in_err-whole.ensures.1 (halts (halt c.in_err-whole.ensures.goes) (λ why rest g. by (expr_rule rule.assignment) (refl) (refl) (here (answer c.in_ok-left.ensures.goes) (stops_here g))))
-
 pub exprs::assignment-returns-clause-goes : goal.exprs::assignment-returns-clause-goes
-exprs::assignment-returns-clause-goes t c = given (by (expr_rule rule.assignment) (refl) (refl) (here (answer c.in_ok-left.ensures.goes) (here (answer c.in_ok-whole.ensures.goes) (is_done))))
+exprs::assignment-returns-clause-goes t c = relayed c.assigned.ensures.goes (λ x g. by (expr_rule rule.assignment) (refl) (refl) (here (answer c.in_ok-left.ensures.goes) (here g (is_done)))) (λ why rest g. by (expr_rule rule.assignment) (refl) (refl) (here (answer c.in_ok-left.ensures.goes) (stops_here g)))
 
 pub exprs::assigned-returns-in-Nothing-clause-goes : goal.exprs::assigned-returns-in-Nothing-clause-goes
-exprs::assigned-returns-in-Nothing-clause-goes t c = given (by (expr_rule rule.not_assigned) refl (assign_is (scene_of c.args.context.now) (expr_tree c.args.left) c.args.tokens.now (sym c.in-Nothing.ensures)) is_done)
+exprs::assigned-returns-in-Nothing-clause-goes t c = given (by (expr_rule rule.not_assigned) refl (assign_is (scene_of c.args.context.now) (boxed_expr c.args.left) c.args.tokens.now (sym c.in-Nothing.ensures)) is_done)
 
 pub exprs::plain_assigned-returns-in_err-at-clause-goes : goal.exprs::plain_assigned-returns-in_err-at-clause-goes
-exprs::plain_assigned-returns-in_err-at-clause-goes t c = failed c.from_residual.ensures.1 (halts (stall (c.in_err-at.ensures.goes (part.AnExpr (part.Assigned (expr_tree c.args.left))) (λ at right. process.give (trees.Assign at (expr_tree c.args.left) right)))) (λ why rest g. by (expr_rule rule.assigned) refl (assign_is (scene_of c.args.context.now) (expr_tree c.args.left) c.args.tokens.now c.requires) g))
+exprs::plain_assigned-returns-in_err-at-clause-goes t c = failed c.from_residual.ensures.1 (halts (stall (c.in_err-at.ensures.goes (part.AnExpr (part.Assigned (boxed_expr c.args.left))) (λ at right. process.give (trees.Assign at (boxed_expr c.args.left) right)))) (λ why rest g. by (expr_rule rule.assigned) refl (assign_is (scene_of c.args.context.now) (boxed_expr c.args.left) c.args.tokens.now c.requires) g))
 
 pub exprs::plain_assigned-returns-in_err-whole-clause-goes : goal.exprs::plain_assigned-returns-in_err-whole-clause-goes
 exprs::plain_assigned-returns-in_err-whole-clause-goes t c = starved c.from_residual-in_err-whole.ensures.1
 
 pub exprs::plain_assigned-returns-clause-goes : goal.exprs::plain_assigned-returns-clause-goes
-exprs::plain_assigned-returns-clause-goes t c = given (by (expr_rule rule.assigned) refl (assign_is (scene_of c.args.context.now) (expr_tree c.args.left) c.args.tokens.now c.requires) (step (c.in_ok-at.ensures.goes (part.AnExpr (part.Assigned (expr_tree c.args.left))) (λ at right. process.give (trees.Assign at (expr_tree c.args.left) right))) _ (done c.in_ok-whole.ensures)))
+exprs::plain_assigned-returns-clause-goes t c = given (by (expr_rule rule.assigned) refl (assign_is (scene_of c.args.context.now) (boxed_expr c.args.left) c.args.tokens.now c.requires) (step (c.in_ok-at.ensures.goes (part.AnExpr (part.Assigned (boxed_expr c.args.left))) (λ at right. process.give (trees.Assign at (boxed_expr c.args.left) right))) _ (done c.in_ok-whole.ensures)))
 
 pub exprs::compound_assigned-returns-in_err-at-clause-goes : goal.exprs::compound_assigned-returns-in_err-at-clause-goes
-exprs::compound_assigned-returns-in_err-at-clause-goes t c = failed c.from_residual.ensures.1 (halts (stall (behind_sign c.assign_sign.ensures c.in_err-at.ensures.goes (part.AnExpr (part.Assigned (expr_tree c.args.left))) (λ at right. process.give (trees.Compound at c.args.op (expr_tree c.args.left) right)))) (λ why rest g. by (expr_rule (rule.compound c.args.op)) refl (assign_is (scene_of c.args.context.now) (expr_tree c.args.left) c.args.tokens.now c.requires) g))
+exprs::compound_assigned-returns-in_err-at-clause-goes t c = failed c.from_residual.ensures.1 (halts (stall (behind_sign c.assign_sign.ensures c.in_err-at.ensures.goes (part.AnExpr (part.Assigned (boxed_expr c.args.left))) (λ at right. process.give (trees.Compound at c.args.op (boxed_expr c.args.left) right)))) (λ why rest g. by (expr_rule (rule.compound c.args.op)) refl (assign_is (scene_of c.args.context.now) (boxed_expr c.args.left) c.args.tokens.now c.requires) g))
 
 pub exprs::compound_assigned-returns-in_err-whole-clause-goes : goal.exprs::compound_assigned-returns-in_err-whole-clause-goes
 exprs::compound_assigned-returns-in_err-whole-clause-goes t c = starved c.from_residual-in_err-whole.ensures.1
 
 pub exprs::compound_assigned-returns-clause-goes : goal.exprs::compound_assigned-returns-clause-goes
-exprs::compound_assigned-returns-clause-goes t c = given (by (expr_rule (rule.compound c.args.op)) refl (assign_is (scene_of c.args.context.now) (expr_tree c.args.left) c.args.tokens.now c.requires) (step (behind_sign c.assign_sign.ensures c.in_ok-at.ensures.goes (part.AnExpr (part.Assigned (expr_tree c.args.left))) (λ at right. process.give (trees.Compound at c.args.op (expr_tree c.args.left) right))) _ (done c.in_ok-whole.ensures)))
+exprs::compound_assigned-returns-clause-goes t c = given (by (expr_rule (rule.compound c.args.op)) refl (assign_is (scene_of c.args.context.now) (boxed_expr c.args.left) c.args.tokens.now c.requires) (step (behind_sign c.assign_sign.ensures c.in_ok-at.ensures.goes (part.AnExpr (part.Assigned (boxed_expr c.args.left))) (λ at right. process.give (trees.Compound at c.args.op (boxed_expr c.args.left) right))) _ (done c.in_ok-whole.ensures)))
 
 pub exprs::conditional-returns-in_err-condition-clause-goes : goal.exprs::conditional-returns-in_err-condition-clause-goes
 exprs::conditional-returns-in_err-condition-clause-goes t c = failed c.from_residual.ensures.1 (halts (halt c.in_err-condition.ensures.goes) (λ why rest g. by (expr_rule rule.conditional) (refl) (refl) (stops_here g)))
 
-pub exprs::conditional-returns-in_err-whole-clause-goes : goal.exprs::conditional-returns-in_err-whole-clause-goes
-exprs::conditional-returns-in_err-whole-clause-goes t c = failed c.from_residual-in_err-whole.ensures.1 (halts (halt c.in_err-whole.ensures.goes) (λ why rest g. by (expr_rule rule.conditional) (refl) (refl) (here (answer c.in_ok-condition.ensures.goes) (stops_here g))))
-
 pub exprs::conditional-returns-clause-goes : goal.exprs::conditional-returns-clause-goes
-exprs::conditional-returns-clause-goes t c = given (by (expr_rule rule.conditional) (refl) (refl) (here (answer c.in_ok-condition.ensures.goes) (here (answer c.in_ok-whole.ensures.goes) (is_done))))
+exprs::conditional-returns-clause-goes t c = relayed c.chosen.ensures.goes (λ x g. by (expr_rule rule.conditional) (refl) (refl) (here (answer c.in_ok-condition.ensures.goes) (here g (is_done)))) (λ why rest g. by (expr_rule rule.conditional) (refl) (refl) (here (answer c.in_ok-condition.ensures.goes) (stops_here g)))
 
 pub exprs::chosen-returns-then-not-comes-clause-goes : goal.exprs::chosen-returns-then-not-comes-clause-goes
-exprs::chosen-returns-then-not-comes-clause-goes t c = given (by (expr_rule rule.not_chosen) refl (not_question (scene_of c.args.context.now) (expr_tree c.args.condition) c.args.tokens.now (sym c.if-not-comes.ensures)) is_done)
+exprs::chosen-returns-then-not-comes-clause-goes t c = given (by (expr_rule rule.not_chosen) refl (not_question (scene_of c.args.context.now) (boxed_expr c.args.condition) c.args.tokens.now (sym c.if-not-comes.ensures)) is_done)
 
 pub exprs::chosen-returns-in_err-at-clause-goes : goal.exprs::chosen-returns-in_err-at-clause-goes
-exprs::chosen-returns-in_err-at-clause-goes t c = failed c.from_residual.ensures.1 (halts (stall (c.in_err-at.ensures.goes (part.AnExpr (part.Chosen (expr_tree c.args.condition))) (λ at first second. process.give (trees.Cond at (expr_tree c.args.condition) first second)))) (λ why rest g. by (expr_rule rule.chosen) refl (is_question_ahead (scene_of c.args.context.now) (expr_tree c.args.condition) c.args.tokens.now (sym c.if-not-comes.ensures)) g))
+exprs::chosen-returns-in_err-at-clause-goes t c = failed c.from_residual.ensures.1 (halts (stall (c.in_err-at.ensures.goes (part.AnExpr (part.Chosen (boxed_expr c.args.condition))) (λ at first second. process.give (trees.Cond at (boxed_expr c.args.condition) first second)))) (λ why rest g. by (expr_rule rule.chosen) refl (is_question_ahead (scene_of c.args.context.now) (boxed_expr c.args.condition) c.args.tokens.now (sym c.if-not-comes.ensures)) g))
 
 pub exprs::chosen-returns-in_err-whole-clause-goes : goal.exprs::chosen-returns-in_err-whole-clause-goes
 exprs::chosen-returns-in_err-whole-clause-goes t c = starved c.from_residual-in_err-whole.ensures.1
 
 pub exprs::chosen-returns-clause-goes : goal.exprs::chosen-returns-clause-goes
-exprs::chosen-returns-clause-goes t c = given (by (expr_rule rule.chosen) refl (is_question_ahead (scene_of c.args.context.now) (expr_tree c.args.condition) c.args.tokens.now (sym c.if-not-comes.ensures)) (step (c.in_ok-at.ensures.goes (part.AnExpr (part.Chosen (expr_tree c.args.condition))) (λ at first second. process.give (trees.Cond at (expr_tree c.args.condition) first second))) _ (done c.in_ok-whole.ensures)))
+exprs::chosen-returns-clause-goes t c = given (by (expr_rule rule.chosen) refl (is_question_ahead (scene_of c.args.context.now) (boxed_expr c.args.condition) c.args.tokens.now (sym c.if-not-comes.ensures)) (step (c.in_ok-at.ensures.goes (part.AnExpr (part.Chosen (boxed_expr c.args.condition))) (λ at first second. process.give (trees.Cond at (boxed_expr c.args.condition) first second))) _ (done c.in_ok-whole.ensures)))
 
 pub exprs::choices-returns-in_err-at-clause-goes : goal.exprs::choices-returns-in_err-at-clause-goes
 exprs::choices-returns-in_err-at-clause-goes t c = λ p k. stalls c.from_residual.ensures.1 (halts (refuse c.in_err-at.ensures.goes) (λ why rest g. g _ _))
@@ -148,35 +140,23 @@ exprs::cast_form-returns-in_err-whole-clause-goes t c = starved c.from_residual-
 pub exprs::cast_form-returns-clause-goes : goal.exprs::cast_form-returns-clause-goes
 exprs::cast_form-returns-clause-goes t c = given (by (expr_rule rule.cast) (refl) (if_true _ c.requires) (passes (c.requires) (take c.in_ok-at.ensures.goes (goes_on (answer c.in_ok-words.ensures.goes) (goes_on (answer c.in_ok-shape.ensures.goes) (take c.in_ok-_close.ensures.goes (goes_on (answer c.in_ok-inner.ensures.goes) (done c.in_ok-whole.ensures))))))))
 
-pub exprs::cast-returns-in_err-whole-clause-goes : goal.exprs::cast-returns-in_err-whole-clause-goes
-exprs::cast-returns-in_err-whole-clause-goes t c = failed c.from_residual.ensures.1 (halts (halt c.in_err-whole.ensures.goes) (λ why rest g. by (expr_rule rule.no_cast) (refl) (if_false _ (sym c.if-type_ahead.ensures)) (passes (ap not (sym c.if-type_ahead.ensures)) (stops_here g))))
-
 pub exprs::cast-returns-clause-goes : goal.exprs::cast-returns-clause-goes
-exprs::cast-returns-clause-goes t c = given (by (expr_rule rule.no_cast) (refl) (if_false _ (sym c.if-type_ahead.ensures)) (passes (ap not (sym c.if-type_ahead.ensures)) (here (answer c.in_ok-whole.ensures.goes) (is_done))))
+exprs::cast-returns-clause-goes t c = relayed c.unary.ensures.goes (λ x g. by (expr_rule rule.no_cast) (refl) (if_false _ (sym c.if-type_ahead.ensures)) (passes (ap not (sym c.if-type_ahead.ensures)) (here g (is_done)))) (λ why rest g. by (expr_rule rule.no_cast) (refl) (if_false _ (sym c.if-type_ahead.ensures)) (passes (ap not (sym c.if-type_ahead.ensures)) (stops_here g)))
 
 pub exprs::cast_operand-returns-then-comes-clause-goes : goal.exprs::cast_operand-returns-then-comes-clause-goes
 exprs::cast_operand-returns-then-comes-clause-goes t c = halted (stopped c.barred.ensures (is_barred (borne _ (sym c.if-comes.ensures))))
 
-pub exprs::cast_operand-returns-in_err-whole-clause-goes : goal.exprs::cast_operand-returns-in_err-whole-clause-goes
-exprs::cast_operand-returns-in_err-whole-clause-goes t c = failed c.from_residual.ensures.1 (halts (halt c.in_err-whole.ensures.goes) (λ why rest g. by (expr_rule rule.operand_cast) (unborne _ (sym c.if-comes.ensures)) (refl) (stops_here g)))
-
 pub exprs::cast_operand-returns-clause-goes : goal.exprs::cast_operand-returns-clause-goes
-exprs::cast_operand-returns-clause-goes t c = given (by (expr_rule rule.operand_cast) (unborne _ (sym c.if-comes.ensures)) (refl) (here (answer c.in_ok-whole.ensures.goes) (is_done)))
+exprs::cast_operand-returns-clause-goes t c = relayed c.cast.ensures.goes (λ x g. by (expr_rule rule.operand_cast) (unborne _ (sym c.if-comes.ensures)) (refl) (here g (is_done))) (λ why rest g. by (expr_rule rule.operand_cast) (unborne _ (sym c.if-comes.ensures)) (refl) (stops_here g))
 
-pub exprs::no_prefix-returns-in_err-whole-clause-goes : goal.exprs::no_prefix-returns-in_err-whole-clause-goes
-exprs::no_prefix-returns-in_err-whole-clause-goes t c = failed c.from_residual.ensures.1 (halts (halt c.in_err-whole.ensures.goes) (λ why rest g. by (expr_rule rule.no_prefix) (refl) (prefix_is (scene_of c.args.context.now) c.args.tokens.now c.requires) (stops_here g)))
-
-pub exprs::no_prefix-returns-clause-goes : goal.exprs::no_prefix-returns-clause-goes
-exprs::no_prefix-returns-clause-goes t c = given (by (expr_rule rule.no_prefix) (refl) (prefix_is (scene_of c.args.context.now) c.args.tokens.now c.requires) (here (answer c.in_ok-whole.ensures.goes) (is_done)))
+pub exprs::unary-returns-in-Nothing-clause-goes : goal.exprs::unary-returns-in-Nothing-clause-goes
+exprs::unary-returns-in-Nothing-clause-goes t c = relayed c.postfix.ensures.goes (λ x g. by (expr_rule rule.no_prefix) (refl) (prefix_is (scene_of c.args.context.now) c.args.tokens.now (sym c.in-Nothing.ensures)) (here g (is_done))) (λ why rest g. by (expr_rule rule.no_prefix) (refl) (prefix_is (scene_of c.args.context.now) c.args.tokens.now (sym c.in-Nothing.ensures)) (stops_here g))
 
 pub exprs::size_of-returns-in_err-at-clause-goes : goal.exprs::size_of-returns-in_err-at-clause-goes
 exprs::size_of-returns-in_err-at-clause-goes t c = failed c.from_residual.ensures.1 (halts (refuse c.in_err-at.ensures.goes) (λ why rest g. by (expr_rule rule.size_of) (refl) (prefix_is (scene_of c.args.context.now) c.args.tokens.now c.requires) (g _ _)))
 
-pub exprs::size_of-returns-in_err-whole-clause-goes : goal.exprs::size_of-returns-in_err-whole-clause-goes
-exprs::size_of-returns-in_err-whole-clause-goes t c = failed c.from_residual-in_err-whole.ensures.1 (halts (halt c.in_err-whole.ensures.goes) (λ why rest g. by (expr_rule rule.size_of) (refl) (prefix_is (scene_of c.args.context.now) c.args.tokens.now c.requires) (take c.in_ok-at.ensures.goes (stops g))))
-
 pub exprs::size_of-returns-clause-goes : goal.exprs::size_of-returns-clause-goes
-exprs::size_of-returns-clause-goes t c = given (by (expr_rule rule.size_of) (refl) (prefix_is (scene_of c.args.context.now) c.args.tokens.now c.requires) (take c.in_ok-at.ensures.goes (goes_on (answer c.in_ok-whole.ensures.goes) (is_done))))
+exprs::size_of-returns-clause-goes t c = relayed c.sized.ensures.goes (λ x g. by (expr_rule rule.size_of) (refl) (prefix_is (scene_of c.args.context.now) c.args.tokens.now c.requires) (take c.in_ok-at.ensures.goes (goes_on g (is_done)))) (λ why rest g. by (expr_rule rule.size_of) (refl) (prefix_is (scene_of c.args.context.now) c.args.tokens.now c.requires) (take c.in_ok-at.ensures.goes (stops g)))
 
 pub exprs::pre_step-returns-in_err-at-clause-goes : goal.exprs::pre_step-returns-in_err-at-clause-goes
 exprs::pre_step-returns-in_err-at-clause-goes t c = failed c.from_residual.ensures.1 (halts (refuse (sign_is c.step_sign.ensures c.in_err-at.ensures.goes)) (λ why rest g. by (expr_rule (rule.pre_step c.args.way)) (refl) (prefix_is (scene_of c.args.context.now) c.args.tokens.now c.requires) (g _ _)))
@@ -226,11 +206,8 @@ exprs::sized_type-returns-in_err-_close-clause-goes t c = failed c.from_residual
 pub exprs::postfix-returns-in_err-base-clause-goes : goal.exprs::postfix-returns-in_err-base-clause-goes
 exprs::postfix-returns-in_err-base-clause-goes t c = failed c.from_residual.ensures.1 (halts (halt c.in_err-base.ensures.goes) (λ why rest g. by (expr_rule rule.postfix) (refl) (refl) (stops_here g)))
 
-pub exprs::postfix-returns-in_err-whole-clause-goes : goal.exprs::postfix-returns-in_err-whole-clause-goes
-exprs::postfix-returns-in_err-whole-clause-goes t c = failed c.from_residual-in_err-whole.ensures.1 (halts (halt c.in_err-whole.ensures.goes) (λ why rest g. by (expr_rule rule.postfix) (refl) (refl) (here (answer c.in_ok-base.ensures.goes) (stops_here g))))
-
 pub exprs::postfix-returns-clause-goes : goal.exprs::postfix-returns-clause-goes
-exprs::postfix-returns-clause-goes t c = given (by (expr_rule rule.postfix) (refl) (refl) (here (answer c.in_ok-base.ensures.goes) (here (answer c.in_ok-whole.ensures.goes) (is_done))))
+exprs::postfix-returns-clause-goes t c = relayed c.suffixes.ensures.goes (λ x g. by (expr_rule rule.postfix) (refl) (refl) (here (answer c.in_ok-base.ensures.goes) (here g (is_done)))) (λ why rest g. by (expr_rule rule.postfix) (refl) (refl) (here (answer c.in_ok-base.ensures.goes) (stops_here g)))
 
 pub exprs::enclosed-returns-in_err-opening-clause-goes : goal.exprs::enclosed-returns-in_err-opening-clause-goes
 exprs::enclosed-returns-in_err-opening-clause-goes t c = failed c.from_residual.ensures.1 (halts (refuse c.in_err-opening.ensures.goes) (λ why rest g. by (expr_rule rule.enclosed) (refl) (primary_is (scene_of c.args.context.now) c.args.tokens.now c.requires) (g _ _)))
@@ -251,13 +228,13 @@ pub exprs::primary-returns-in-Neither-clause-goes : goal.exprs::primary-returns-
 exprs::primary-returns-in-Neither-clause-goes t c = halted (stopped c.refused.ensures (no_rule refl (primary_is (scene_of c.args.context.now) c.args.tokens.now (sym c.in-Neither.ensures))))
 
 pub exprs::index-returns-in_err-at-clause-goes : goal.exprs::index-returns-in_err-at-clause-goes
-exprs::index-returns-in_err-at-clause-goes t c = stalls c.from_residual.ensures.1 (halts (stall (c.in_err-at.ensures.goes (part.AnExpr (part.Suffixes (expr_tree c.args.base))) (λ at place. process.part 1 (scene_of c.args.context.now) (part.AnExpr (part.Suffixes (trees.Index at (expr_tree c.args.base) place))) process.give))) (λ why rest g. by (expr_rule rule.index) (suffix_free (scene_of c.args.context.now) (expr_tree c.args.base) c.args.tokens.now (suffix_is (scene_of c.args.context.now) (expr_tree c.args.base) c.args.tokens.now c.requires).1) ((suffix_is (scene_of c.args.context.now) (expr_tree c.args.base) c.args.tokens.now c.requires).0) g))
+exprs::index-returns-in_err-at-clause-goes t c = stalls c.from_residual.ensures.1 (halts (stall (c.in_err-at.ensures.goes (part.AnExpr (part.Suffixes (boxed_expr c.args.base))) (λ at place. process.part 1 (scene_of c.args.context.now) (part.AnExpr (part.Suffixes (trees.Index at (boxed_expr c.args.base) place))) process.give))) (λ why rest g. by (expr_rule rule.index) (suffix_free (scene_of c.args.context.now) (boxed_expr c.args.base) c.args.tokens.now (suffix_is (scene_of c.args.context.now) (boxed_expr c.args.base) c.args.tokens.now c.requires).1) ((suffix_is (scene_of c.args.context.now) (boxed_expr c.args.base) c.args.tokens.now c.requires).0) g))
 
 pub exprs::index-returns-in_err-whole-clause-goes : goal.exprs::index-returns-in_err-whole-clause-goes
 exprs::index-returns-in_err-whole-clause-goes t c = starves c.from_residual-in_err-whole.ensures.1
 
 pub exprs::index-returns-clause-goes : goal.exprs::index-returns-clause-goes
-exprs::index-returns-clause-goes t c = stepped (λ o h. by (expr_rule rule.index) (suffix_free (scene_of c.args.context.now) (expr_tree c.args.base) c.args.tokens.now (suffix_is (scene_of c.args.context.now) (expr_tree c.args.base) c.args.tokens.now c.requires).1) ((suffix_is (scene_of c.args.context.now) (expr_tree c.args.base) c.args.tokens.now c.requires).0) (step (c.in_ok-at.ensures.goes (part.AnExpr (part.Suffixes (expr_tree c.args.base))) (λ at place. process.part 1 (scene_of c.args.context.now) (part.AnExpr (part.Suffixes (trees.Index at (expr_tree c.args.base) place))) process.give)) o (tail_expr o (suffixes_at c.in_ok-whole.ensures h))))
+exprs::index-returns-clause-goes t c = stepped (λ o h. by (expr_rule rule.index) (suffix_free (scene_of c.args.context.now) (boxed_expr c.args.base) c.args.tokens.now (suffix_is (scene_of c.args.context.now) (boxed_expr c.args.base) c.args.tokens.now c.requires).1) ((suffix_is (scene_of c.args.context.now) (boxed_expr c.args.base) c.args.tokens.now c.requires).0) (step (c.in_ok-at.ensures.goes (part.AnExpr (part.Suffixes (boxed_expr c.args.base))) (λ at place. process.part 1 (scene_of c.args.context.now) (part.AnExpr (part.Suffixes (trees.Index at (boxed_expr c.args.base) place))) process.give)) o (tail_expr o (suffixes_at c.in_ok-whole.ensures h))))
 
 pub exprs::bracketed-returns-in_err-at-clause-goes : goal.exprs::bracketed-returns-in_err-at-clause-goes
 exprs::bracketed-returns-in_err-at-clause-goes t c = λ p k. stalls c.from_residual.ensures.1 (halts (refuse c.in_err-at.ensures.goes) (λ why rest g. g _ _))
@@ -272,10 +249,10 @@ pub exprs::bracketed-returns-clause-goes : goal.exprs::bracketed-returns-clause-
 exprs::bracketed-returns-clause-goes t c = λ p k. stepped (λ o h. take c.in_ok-at.ensures.goes (goes_on (answer c.in_ok-place.ensures.goes) (take c.in_ok-_close.ensures.goes h)))
 
 pub exprs::suffixes-returns-then-calls_no_word-clause-goes : goal.exprs::suffixes-returns-then-calls_no_word-clause-goes
-exprs::suffixes-returns-then-calls_no_word-clause-goes t c = halted (stopped (c.barred_call.ensures (expr_tree c.forms.base) (and_left _ _ (sym c.if-calls_no_word.ensures))) (c.forms.invariant.0 _ (is_barred (borne _ (sym c.if-calls_no_word.ensures)))))
+exprs::suffixes-returns-then-calls_no_word-clause-goes t c = halted (stopped (c.barred_call.ensures (boxed_expr c.forms.base) (and_left _ _ (rebased _ c.deref.ensures c.if-calls_no_word.ensures))) (c.forms.invariant.0 _ (is_barred (borne _ (rebased _ c.deref.ensures c.if-calls_no_word.ensures)))))
 
 pub exprs::suffixes-returns-then-is_no_suffix-clause-goes : goal.exprs::suffixes-returns-then-is_no_suffix-clause-goes
-exprs::suffixes-returns-then-is_no_suffix-clause-goes t c = given (c.forms.invariant.0 _ (by (expr_rule rule.no_suffix) (unborne _ (sym c.if-calls_no_word.ensures)) (suffix_is (scene_of c.args.context.now) (expr_tree c.forms.base) c.forms.rest.now (sym c.suffix_at-kind.ensures ∙ nothing_of _ (sym c.if-is_no_suffix.ensures))).0 is_done))
+exprs::suffixes-returns-then-is_no_suffix-clause-goes t c = given (c.forms.invariant.0 _ (by (expr_rule rule.no_suffix) (unborne _ (rebased _ c.deref.ensures c.if-calls_no_word.ensures)) (suffix_is (scene_of c.args.context.now) (boxed_expr c.forms.base) c.forms.rest.now (sym c.suffix_at-kind.ensures ∙ nothing_of _ (sym c.if-is_no_suffix.ensures))).0 is_done))
 
 pub exprs::suffixes-returns-in_err-longer-clause-goes : goal.exprs::suffixes-returns-in_err-longer-clause-goes
 exprs::suffixes-returns-in_err-longer-clause-goes t c = failed c.from_residual.ensures.1 (halts (stall c.in_err-longer.ensures.goes) (λ why rest g. c.forms.invariant.0 _ g))
@@ -289,11 +266,8 @@ exprs::arguments-returns-in_err-first-clause-goes t c = failed c.from_residual.e
 pub exprs::arguments-returns-in_err-args-clause-goes : goal.exprs::arguments-returns-in_err-args-clause-goes
 exprs::arguments-returns-in_err-args-clause-goes t c = starved c.from_residual-in_err-args.ensures.1
 
-pub exprs::arguments-returns-in_err-whole-clause-goes : goal.exprs::arguments-returns-in_err-whole-clause-goes
-exprs::arguments-returns-in_err-whole-clause-goes t c = failed c.from_residual-in_err-whole.ensures.1 (halts (halt c.in_err-whole.ensures.goes) (λ why rest g. by (expr_rule rule.arguments) refl (if_false _ (sym c.if-comes.ensures)) (here (answer c.in_ok-first.ensures.goes) (stops_here (arguments_at c.in_ok-args.ensures g)))))
-
 pub exprs::arguments-returns-clause-goes : goal.exprs::arguments-returns-clause-goes
-exprs::arguments-returns-clause-goes t c = given (by (expr_rule rule.arguments) refl (if_false _ (sym c.if-comes.ensures)) (here (answer c.in_ok-first.ensures.goes) (here (arguments_at c.in_ok-args.ensures (answer c.in_ok-whole.ensures.goes)) is_done)))
+exprs::arguments-returns-clause-goes t c = relayed c.more_arguments.ensures.goes (λ x g. by (expr_rule rule.arguments) refl (if_false _ (sym c.if-comes.ensures)) (here (answer c.in_ok-first.ensures.goes) (here (arguments_at c.in_ok-args.ensures g) is_done))) (λ why rest g. by (expr_rule rule.arguments) refl (if_false _ (sym c.if-comes.ensures)) (here (answer c.in_ok-first.ensures.goes) (stops_here (arguments_at c.in_ok-args.ensures g))))
 
 pub exprs::more_arguments-returns-in_err-_comma-clause-goes : goal.exprs::more_arguments-returns-in_err-_comma-clause-goes
 exprs::more_arguments-returns-in_err-_comma-clause-goes t c = failed c.from_residual.ensures.1 (halts (refuse c.in_err-_comma.ensures.goes) (λ why rest g. c.others.invariant.0 _ (by (expr_rule rule.arguments_more) refl (if_false _ (sym c.others-test.ensures)) (g _ _))))
@@ -313,17 +287,17 @@ exprs::more_arguments-returns-in_err-_close-clause-goes t c = failed c.from_resi
 pub exprs::more_arguments-returns-clause-goes : goal.exprs::more_arguments-returns-clause-goes
 exprs::more_arguments-returns-clause-goes t c = given (c.others.invariant.0 _ (by (expr_rule rule.arguments_end) refl (if_true _ (sym c.others-test.ensures)) (take c.in_ok-_close.ensures.goes (done c.from_vec.ensures))))
 
-pub exprs::call-returns-in_err-_opening-in-Word-clause-goes : goal.exprs::call-returns-in_err-_opening-in-Word-clause-goes
-exprs::call-returns-in_err-_opening-in-Word-clause-goes t c = stalls c.from_residual.ensures.1 (halts (refuse c.in_err-_opening-in-Word.ensures.goes) (λ why rest g. suffixes_at (sym (ap expr_tree c.in-Word.is ∙ expr_word c.in-Word.pos c.in-Word.name)) (call_by c.requires.0 (g _ _))))
+pub exprs::call-returns-in_err-_opening-clause-goes : goal.exprs::call-returns-in_err-_opening-clause-goes
+exprs::call-returns-in_err-_opening-clause-goes t c = stalls c.from_residual.ensures.1 (halts (refuse c.in_err-_opening.ensures.goes) (λ why rest g. suffixes_at (sym c.word_of-name.ensures) (call_by c.requires.0 (g _ _))))
 
-pub exprs::call-returns-in_err-args-in-Word-clause-goes : goal.exprs::call-returns-in_err-args-in-Word-clause-goes
-exprs::call-returns-in_err-args-in-Word-clause-goes t c = stalls c.from_residual-in_err-args-in-Word.ensures.1 (halts (halt c.in_err-args-in-Word.ensures.goes) (λ why rest g. suffixes_at (sym (ap expr_tree c.in-Word.is ∙ expr_word c.in-Word.pos c.in-Word.name)) (call_by c.requires.0 (take c.in_ok-_opening-in-Word.ensures.goes (stops g)))))
+pub exprs::call-returns-in_err-args-clause-goes : goal.exprs::call-returns-in_err-args-clause-goes
+exprs::call-returns-in_err-args-clause-goes t c = stalls c.from_residual-in_err-args.ensures.1 (halts (halt c.in_err-args.ensures.goes) (λ why rest g. suffixes_at (sym c.word_of-name.ensures) (call_by c.requires.0 (take c.in_ok-_opening.ensures.goes (stops g)))))
+
+pub exprs::call-returns-in_err-whole-clause-goes : goal.exprs::call-returns-in_err-whole-clause-goes
+exprs::call-returns-in_err-whole-clause-goes t c = starves c.from_residual-in_err-whole.ensures.1
 
 pub exprs::call-returns-clause-goes : goal.exprs::call-returns-clause-goes
-exprs::call-returns-clause-goes t c = stepped (λ o h. suffixes_at (sym (ap expr_tree c.in-Word.is ∙ expr_word c.in-Word.pos c.in-Word.name)) (call_by c.requires.0 (take c.in_ok-_opening-in-Word.ensures.goes (goes_on (answer c.in_ok-args-in-Word.ensures.goes) (tail_expr o (suffixes_at (expr_call c.in-Word.pos c.in-Word.name c.in_ok-args-in-Word.args) h))))))
-
-pub exprs::call-unreachable-requires : goal.exprs::call-unreachable-requires
-exprs::call-unreachable-requires t c = no_other c.args.base c.requires.1 (λ at name e. c.in_default.not-Word at name e)
+exprs::call-returns-clause-goes t c = stepped (λ o h. suffixes_at (sym c.word_of-name.ensures) (call_by c.requires.0 (take c.in_ok-_opening.ensures.goes (goes_on (answer c.in_ok-args.ensures.goes) (tail_expr o (suffixes_at c.in_ok-whole.ensures h))))))
 
 pub exprs::more-joints-preserved : goal.exprs::more-joints-preserved
 exprs::more-joints-preserved t c = ((λ o g. c.joints.invariant.0 o (joint_step o (sym c.in-Some.ensures) (behind_sign c.joint_sign.ensures c.in_ok-at.ensures.goes) c.in_ok-left.ensures g)), omega (arith, c.in_ok-at.ensures.shorter))
@@ -353,7 +327,7 @@ pub exprs::sized_type-returns-clause-goes : goal.exprs::sized_type-returns-claus
 exprs::sized_type-returns-clause-goes t c = given (by (expr_rule rule.size_of_type) refl (if_true _ c.requires) (passes c.requires (take c.in_ok-_opening.ensures.goes (goes_on (answer c.in_ok-words.ensures.goes) (goes_on (answer c.in_ok-shape.ensures.goes) (take c.in_ok-_close.ensures.goes (here (by (expr_rule rule.after_type) (unborne _ (sym c.if-comes.ensures)) refl is_done) (done c.in_ok-whole.ensures))))))))
 
 pub exprs::more-returns-clause-goes : goal.exprs::more-returns-clause-goes
-exprs::more-returns-clause-goes t c = given (c.joints.invariant.0 _ (by (expr_rule rule.run_end) refl (more_is (scene_of c.args.context.now) (level_view c.args.level) (expr_tree c.joints.left) c.joints.rest.now (no_joint c.joint_at.result (λ j e. c.in_default.not-Some j e) c.joint_at.ensures)) is_done))
+exprs::more-returns-clause-goes t c = given (c.joints.invariant.0 _ (by (expr_rule rule.run_end) refl (more_is (scene_of c.args.context.now) (level_view c.args.level) (boxed_expr c.joints.left) c.joints.rest.now (no_joint c.joint_at.result (λ j e. c.in_default.not-Some j e) c.joint_at.ensures)) is_done))
 
 pub types::specs-more_specs-requires : goal.types::specs-more_specs-requires
 types::specs-more_specs-requires t c = (omega (arith, c.in_ok-first.ensures.shorter), one_type c.is_type-typed.ensures c.in_ok-items.ensures)
@@ -364,104 +338,47 @@ types::specs-returns-in_err-first-clause-goes t c = failed c.from_residual.ensur
 pub types::specs-returns-in_err-items-clause-goes : goal.types::specs-returns-in_err-items-clause-goes
 types::specs-returns-in_err-items-clause-goes t c = starved c.from_residual-in_err-items.ensures.1
 
-pub types::specs-returns-in_err-whole-clause-goes : goal.types::specs-returns-in_err-whole-clause-goes
-types::specs-returns-in_err-whole-clause-goes t c = failed c.from_residual-in_err-whole.ensures.1 (halts (halt c.in_err-whole.ensures.goes) (λ why rest g. by (type_rule kind.specs) (refl) (refl) (here (answer c.in_ok-first.ensures.goes) (stops_here (specs_at c.in_ok-items.ensures g)))))
-
 pub types::specs-returns-clause-goes : goal.types::specs-returns-clause-goes
-types::specs-returns-clause-goes t c = given (by (type_rule kind.specs) (refl) (refl) (here (answer c.in_ok-first.ensures.goes) (here (specs_at c.in_ok-items.ensures (answer c.in_ok-whole.ensures.goes)) (is_done))))
+types::specs-returns-clause-goes t c = relayed c.more_specs.ensures.goes (λ x g. by (type_rule kind.specs) (refl) (refl) (here (answer c.in_ok-first.ensures.goes) (here (specs_at c.in_ok-items.ensures g) (is_done)))) (λ why rest g. by (type_rule kind.specs) (refl) (refl) (here (answer c.in_ok-first.ensures.goes) (stops_here (specs_at c.in_ok-items.ensures g))))
 
 pub types::spec-returns-in-Neither-clause-goes : goal.types::spec-returns-in-Neither-clause-goes
 types::spec-returns-in-Neither-clause-goes t c = halted (stopped c.refused.ensures (no_rule refl (spec_is _ _ (sym c.in-Neither.ensures))))
 
 pub types::structure-returns-in_err-at-clause-goes : goal.types::structure-returns-in_err-at-clause-goes
-types::structure-returns-in_err-at-clause-goes t c = failed c.from_residual.ensures.1 (halts (refuse c.in_err-at.ensures.goes) (λ why rest g. by (type_rule kind.structure) (refl) (spec_is _ _ c.requires) (g _ _)))
-
-pub types::structure-returns-in_err-whole-clause-goes : goal.types::structure-returns-in_err-whole-clause-goes
-types::structure-returns-in_err-whole-clause-goes t c = failed c.from_residual-in_err-whole.ensures.1 (halts (halt c.in_err-whole.ensures.goes) (λ why rest g. by (type_rule kind.structure) (refl) (spec_is _ _ c.requires) (take c.in_ok-at.ensures.goes (stops_here g))))
+types::structure-returns-in_err-at-clause-goes t c = failed c.from_residual.ensures.1 (stall c.in_err-at.ensures.goes)
 
 pub types::structure-returns-clause-goes : goal.types::structure-returns-clause-goes
-types::structure-returns-clause-goes t c = given (by (type_rule kind.structure) (refl) (spec_is _ _ c.requires) (take c.in_ok-at.ensures.goes (here (answer c.in_ok-whole.ensures.goes) (is_done))))
+types::structure-returns-clause-goes t c = carried c.structure_form.ensures.goes (λ o g. step c.in_ok-at.ensures.goes o g)
 
-pub types::structure_form-returns-in-Neither-clause-goes : goal.types::structure_form-returns-in-Neither-clause-goes
-types::structure_form-returns-in-Neither-clause-goes t c = halted (stopped c.refused.ensures (no_rule refl (structure_is _ _ _ (sym c.in-Neither.ensures))))
+pub types::structure_form-returns-then-not-comes-clause-goes : goal.types::structure_form-returns-then-not-comes-clause-goes
+types::structure_form-returns-then-not-comes-clause-goes t c = given (structure_alone c.args.at c.args.tag c.requires (sym c.if-not-comes.ensures) c.structure_of.ensures)
 
-pub types::structure_tag-returns-in_err-word-clause-goes : goal.types::structure_tag-returns-in_err-word-clause-goes
-types::structure_tag-returns-in_err-word-clause-goes t c = failed c.from_residual.ensures.1 (halts (refuse c.in_err-word.ensures.goes) (λ why rest g. by (type_rule kind.structure_tag) (refl) (structure_is _ _ _ c.requires) (g _ _)))
+pub types::structure_form-returns-in_err-_opening-clause-goes : goal.types::structure_form-returns-in_err-_opening-clause-goes
+types::structure_form-returns-in_err-_opening-clause-goes t c = failed c.from_residual.ensures.1 (halts (refuse c.in_err-_opening.ensures.goes) (λ why rest g. structure_braces c.args.tag (sym c.if-not-comes.ensures) (g _ _)))
 
-pub types::structure_tag-returns-in_err-name-clause-goes : goal.types::structure_tag-returns-in_err-name-clause-goes
-types::structure_tag-returns-in_err-name-clause-goes t c = starved c.from_residual-in_err-name.ensures.1
+pub types::structure_form-returns-in_err-members-clause-goes : goal.types::structure_form-returns-in_err-members-clause-goes
+types::structure_form-returns-in_err-members-clause-goes t c = failed c.from_residual-in_err-members.ensures.1 (halts (halt c.in_err-members.ensures.goes) (λ why rest g. structure_braces c.args.tag (sym c.if-not-comes.ensures) (take c.in_ok-_opening.ensures.goes (stops g))))
 
-pub types::structure_tag-returns-in_err-whole-clause-goes : goal.types::structure_tag-returns-in_err-whole-clause-goes
-types::structure_tag-returns-in_err-whole-clause-goes t c = failed c.from_residual-in_err-whole.ensures.1 (halts (halt c.in_err-whole.ensures.goes) (λ why rest g. by (type_rule kind.structure_tag) (refl) (structure_is _ _ _ c.requires) (take c.in_ok-word.ensures.goes (stops_here (structure_tagged_at c.in_ok-name.ensures g)))))
-
-pub types::structure_tag-returns-clause-goes : goal.types::structure_tag-returns-clause-goes
-types::structure_tag-returns-clause-goes t c = given (by (type_rule kind.structure_tag) (refl) (structure_is _ _ _ c.requires) (take c.in_ok-word.ensures.goes (here (structure_tagged_at c.in_ok-name.ensures (answer c.in_ok-whole.ensures.goes)) (is_done))))
-
-pub types::structure_body-returns-in_err-_opening-clause-goes : goal.types::structure_body-returns-in_err-_opening-clause-goes
-types::structure_body-returns-in_err-_opening-clause-goes t c = failed c.from_residual.ensures.1 (halts (refuse c.in_err-_opening.ensures.goes) (λ why rest g. by (type_rule kind.structure_body) (refl) (structure_is _ _ _ c.requires) (g _ _)))
-
-pub types::structure_body-returns-in_err-members-clause-goes : goal.types::structure_body-returns-in_err-members-clause-goes
-types::structure_body-returns-in_err-members-clause-goes t c = failed c.from_residual-in_err-members.ensures.1 (halts (halt c.in_err-members.ensures.goes) (λ why rest g. by (type_rule kind.structure_body) (refl) (structure_is _ _ _ c.requires) (take c.in_ok-_opening.ensures.goes (stops g))))
-
-pub types::structure_body-returns-clause-goes : goal.types::structure_body-returns-clause-goes
-types::structure_body-returns-clause-goes t c = given (by (type_rule kind.structure_body) (refl) (structure_is _ _ _ c.requires) (take c.in_ok-_opening.ensures.goes (goes_on (answer c.in_ok-members.ensures.goes) (done (spec_struct_body _ _ _)))))
-
-pub types::structure_tagged-returns-then-not-comes-clause-goes : goal.types::structure_tagged-returns-then-not-comes-clause-goes
-types::structure_tagged-returns-then-not-comes-clause-goes t c = given (by (type_rule kind.structure_named) refl (if_false _ (sym c.if-not-comes.ensures)) (done (spec_struct _ _)))
-
-pub types::structure_tagged-returns-in_err-_opening-clause-goes : goal.types::structure_tagged-returns-in_err-_opening-clause-goes
-types::structure_tagged-returns-in_err-_opening-clause-goes t c = failed c.from_residual.ensures.1 (halts (refuse c.in_err-_opening.ensures.goes) (λ why rest g. by (type_rule kind.structure_tagged_body) (refl) (if_true _ (sym c.if-not-comes.ensures)) (g _ _)))
-
-pub types::structure_tagged-returns-in_err-members-clause-goes : goal.types::structure_tagged-returns-in_err-members-clause-goes
-types::structure_tagged-returns-in_err-members-clause-goes t c = failed c.from_residual-in_err-members.ensures.1 (halts (halt c.in_err-members.ensures.goes) (λ why rest g. by (type_rule kind.structure_tagged_body) (refl) (if_true _ (sym c.if-not-comes.ensures)) (take c.in_ok-_opening.ensures.goes (stops g))))
-
-pub types::structure_tagged-returns-clause-goes : goal.types::structure_tagged-returns-clause-goes
-types::structure_tagged-returns-clause-goes t c = given (by (type_rule kind.structure_tagged_body) (refl) (if_true _ (sym c.if-not-comes.ensures)) (take c.in_ok-_opening.ensures.goes (goes_on (answer c.in_ok-members.ensures.goes) (done (spec_struct_body _ _ _)))))
+pub types::structure_form-returns-clause-goes : goal.types::structure_form-returns-clause-goes
+types::structure_form-returns-clause-goes t c = given (structure_braces c.args.tag (sym c.if-not-comes.ensures) (take c.in_ok-_opening.ensures.goes (goes_on (answer c.in_ok-members.ensures.goes) (done (spec_struct_body _ _ _)))))
 
 pub types::enumeration-returns-in_err-at-clause-goes : goal.types::enumeration-returns-in_err-at-clause-goes
-types::enumeration-returns-in_err-at-clause-goes t c = failed c.from_residual.ensures.1 (halts (refuse c.in_err-at.ensures.goes) (λ why rest g. by (type_rule kind.enumeration) (refl) (spec_is _ _ c.requires) (g _ _)))
-
-pub types::enumeration-returns-in_err-whole-clause-goes : goal.types::enumeration-returns-in_err-whole-clause-goes
-types::enumeration-returns-in_err-whole-clause-goes t c = failed c.from_residual-in_err-whole.ensures.1 (halts (halt c.in_err-whole.ensures.goes) (λ why rest g. by (type_rule kind.enumeration) (refl) (spec_is _ _ c.requires) (take c.in_ok-at.ensures.goes (stops_here g))))
+types::enumeration-returns-in_err-at-clause-goes t c = failed c.from_residual.ensures.1 (stall c.in_err-at.ensures.goes)
 
 pub types::enumeration-returns-clause-goes : goal.types::enumeration-returns-clause-goes
-types::enumeration-returns-clause-goes t c = given (by (type_rule kind.enumeration) (refl) (spec_is _ _ c.requires) (take c.in_ok-at.ensures.goes (here (answer c.in_ok-whole.ensures.goes) (is_done))))
+types::enumeration-returns-clause-goes t c = carried c.enumeration_form.ensures.goes (λ o g. step c.in_ok-at.ensures.goes o g)
 
-pub types::enumeration_form-returns-in-Neither-clause-goes : goal.types::enumeration_form-returns-in-Neither-clause-goes
-types::enumeration_form-returns-in-Neither-clause-goes t c = halted (stopped c.refused.ensures (no_rule refl (enumeration_is _ _ _ (sym c.in-Neither.ensures))))
+pub types::enumeration_form-returns-then-not-comes-clause-goes : goal.types::enumeration_form-returns-then-not-comes-clause-goes
+types::enumeration_form-returns-then-not-comes-clause-goes t c = given (enumeration_alone c.args.at c.args.tag c.requires (sym c.if-not-comes.ensures) c.enumeration_of.ensures)
 
-pub types::enumeration_tag-returns-in_err-word-clause-goes : goal.types::enumeration_tag-returns-in_err-word-clause-goes
-types::enumeration_tag-returns-in_err-word-clause-goes t c = failed c.from_residual.ensures.1 (halts (refuse c.in_err-word.ensures.goes) (λ why rest g. by (type_rule kind.enumeration_tag) (refl) (enumeration_is _ _ _ c.requires) (g _ _)))
+pub types::enumeration_form-returns-in_err-_opening-clause-goes : goal.types::enumeration_form-returns-in_err-_opening-clause-goes
+types::enumeration_form-returns-in_err-_opening-clause-goes t c = failed c.from_residual.ensures.1 (halts (refuse c.in_err-_opening.ensures.goes) (λ why rest g. enumeration_braces c.args.tag (sym c.if-not-comes.ensures) (g _ _)))
 
-pub types::enumeration_tag-returns-in_err-name-clause-goes : goal.types::enumeration_tag-returns-in_err-name-clause-goes
-types::enumeration_tag-returns-in_err-name-clause-goes t c = starved c.from_residual-in_err-name.ensures.1
+pub types::enumeration_form-returns-in_err-enumerators-clause-goes : goal.types::enumeration_form-returns-in_err-enumerators-clause-goes
+types::enumeration_form-returns-in_err-enumerators-clause-goes t c = failed c.from_residual-in_err-enumerators.ensures.1 (halts (halt c.in_err-enumerators.ensures.goes) (λ why rest g. enumeration_braces c.args.tag (sym c.if-not-comes.ensures) (take c.in_ok-_opening.ensures.goes (stops g))))
 
-pub types::enumeration_tag-returns-in_err-whole-clause-goes : goal.types::enumeration_tag-returns-in_err-whole-clause-goes
-types::enumeration_tag-returns-in_err-whole-clause-goes t c = failed c.from_residual-in_err-whole.ensures.1 (halts (halt c.in_err-whole.ensures.goes) (λ why rest g. by (type_rule kind.enumeration_tag) (refl) (enumeration_is _ _ _ c.requires) (take c.in_ok-word.ensures.goes (stops_here (enumeration_tagged_at c.in_ok-name.ensures g)))))
-
-pub types::enumeration_tag-returns-clause-goes : goal.types::enumeration_tag-returns-clause-goes
-types::enumeration_tag-returns-clause-goes t c = given (by (type_rule kind.enumeration_tag) (refl) (enumeration_is _ _ _ c.requires) (take c.in_ok-word.ensures.goes (here (enumeration_tagged_at c.in_ok-name.ensures (answer c.in_ok-whole.ensures.goes)) (is_done))))
-
-pub types::enumeration_body-returns-in_err-_opening-clause-goes : goal.types::enumeration_body-returns-in_err-_opening-clause-goes
-types::enumeration_body-returns-in_err-_opening-clause-goes t c = failed c.from_residual.ensures.1 (halts (refuse c.in_err-_opening.ensures.goes) (λ why rest g. by (type_rule kind.enumeration_body) (refl) (enumeration_is _ _ _ c.requires) (g _ _)))
-
-pub types::enumeration_body-returns-in_err-enumerators-clause-goes : goal.types::enumeration_body-returns-in_err-enumerators-clause-goes
-types::enumeration_body-returns-in_err-enumerators-clause-goes t c = failed c.from_residual-in_err-enumerators.ensures.1 (halts (halt c.in_err-enumerators.ensures.goes) (λ why rest g. by (type_rule kind.enumeration_body) (refl) (enumeration_is _ _ _ c.requires) (take c.in_ok-_opening.ensures.goes (stops g))))
-
-pub types::enumeration_body-returns-clause-goes : goal.types::enumeration_body-returns-clause-goes
-types::enumeration_body-returns-clause-goes t c = given (by (type_rule kind.enumeration_body) (refl) (enumeration_is _ _ _ c.requires) (take c.in_ok-_opening.ensures.goes (goes_on (answer c.in_ok-enumerators.ensures.goes) (done (spec_enum_body _ _ _)))))
-
-pub types::enumeration_tagged-returns-then-not-comes-clause-goes : goal.types::enumeration_tagged-returns-then-not-comes-clause-goes
-types::enumeration_tagged-returns-then-not-comes-clause-goes t c = given (by (type_rule kind.enumeration_named) refl (if_false _ (sym c.if-not-comes.ensures)) (done (spec_enum _ _)))
-
-pub types::enumeration_tagged-returns-in_err-_opening-clause-goes : goal.types::enumeration_tagged-returns-in_err-_opening-clause-goes
-types::enumeration_tagged-returns-in_err-_opening-clause-goes t c = failed c.from_residual.ensures.1 (halts (refuse c.in_err-_opening.ensures.goes) (λ why rest g. by (type_rule kind.enumeration_tagged_body) (refl) (if_true _ (sym c.if-not-comes.ensures)) (g _ _)))
-
-pub types::enumeration_tagged-returns-in_err-enumerators-clause-goes : goal.types::enumeration_tagged-returns-in_err-enumerators-clause-goes
-types::enumeration_tagged-returns-in_err-enumerators-clause-goes t c = failed c.from_residual-in_err-enumerators.ensures.1 (halts (halt c.in_err-enumerators.ensures.goes) (λ why rest g. by (type_rule kind.enumeration_tagged_body) (refl) (if_true _ (sym c.if-not-comes.ensures)) (take c.in_ok-_opening.ensures.goes (stops g))))
-
-pub types::enumeration_tagged-returns-clause-goes : goal.types::enumeration_tagged-returns-clause-goes
-types::enumeration_tagged-returns-clause-goes t c = given (by (type_rule kind.enumeration_tagged_body) (refl) (if_true _ (sym c.if-not-comes.ensures)) (take c.in_ok-_opening.ensures.goes (goes_on (answer c.in_ok-enumerators.ensures.goes) (done (spec_enum_body _ _ _)))))
+pub types::enumeration_form-returns-clause-goes : goal.types::enumeration_form-returns-clause-goes
+types::enumeration_form-returns-clause-goes t c = given (enumeration_braces c.args.tag (sym c.if-not-comes.ensures) (take c.in_ok-_opening.ensures.goes (goes_on (answer c.in_ok-enumerators.ensures.goes) (done (spec_enum_body _ _ _)))))
 
 pub types::more_specs-returns-then-type_comes_again-clause-goes : goal.types::more_specs-returns-then-type_comes_again-clause-goes
 types::more_specs-returns-then-type_comes_again-clause-goes t c = halted (stopped c.barred.ensures (c.words.invariant.0 _ (is_barred (borne _ (again_is _ c.words.invariant.1 (sym c.if-type_comes_again.ensures))))))
@@ -484,11 +401,8 @@ types::members-returns-in_err-first-clause-goes t c = failed c.from_residual.ens
 pub types::members-returns-in_err-items-clause-goes : goal.types::members-returns-in_err-items-clause-goes
 types::members-returns-in_err-items-clause-goes t c = starved c.from_residual-in_err-items.ensures.1
 
-pub types::members-returns-in_err-whole-clause-goes : goal.types::members-returns-in_err-whole-clause-goes
-types::members-returns-in_err-whole-clause-goes t c = failed c.from_residual-in_err-whole.ensures.1 (halts (halt c.in_err-whole.ensures.goes) (λ why rest g. by (type_rule kind.members) (refl) (refl) (here (answer c.in_ok-first.ensures.goes) (stops_here (members_at c.in_ok-items.ensures g)))))
-
 pub types::members-returns-clause-goes : goal.types::members-returns-clause-goes
-types::members-returns-clause-goes t c = given (by (type_rule kind.members) (refl) (refl) (here (answer c.in_ok-first.ensures.goes) (here (members_at c.in_ok-items.ensures (answer c.in_ok-whole.ensures.goes)) (is_done))))
+types::members-returns-clause-goes t c = relayed c.more_members.ensures.goes (λ x g. by (type_rule kind.members) (refl) (refl) (here (answer c.in_ok-first.ensures.goes) (here (members_at c.in_ok-items.ensures g) (is_done)))) (λ why rest g. by (type_rule kind.members) (refl) (refl) (here (answer c.in_ok-first.ensures.goes) (stops_here (members_at c.in_ok-items.ensures g))))
 
 pub types::more_members-returns-in_err-next-clause-goes : goal.types::more_members-returns-in_err-next-clause-goes
 types::more_members-returns-in_err-next-clause-goes t c = failed c.from_residual.ensures.1 (halts (halt c.in_err-next.ensures.goes) (λ why rest g. c.lines.invariant.0 _ (by (type_rule kind.members_more) (refl) (if_false _ (sym c.lines-test.ensures)) (stops_here g))))
@@ -514,11 +428,8 @@ types::member-returns-in_err-first-clause-goes t c = failed c.from_residual-in_e
 pub types::member-returns-in_err-items-clause-goes : goal.types::member-returns-in_err-items-clause-goes
 types::member-returns-in_err-items-clause-goes t c = starved c.from_residual-in_err-items.ensures.1
 
-pub types::member-returns-in_err-whole-clause-goes : goal.types::member-returns-in_err-whole-clause-goes
-types::member-returns-in_err-whole-clause-goes t c = failed c.from_residual-in_err-whole.ensures.1 (halts (halt c.in_err-whole.ensures.goes) (λ why rest g. by (type_rule kind.member) (refl) (refl) (here (answer c.in_ok-words.ensures.goes) (here (answer c.in_ok-first.ensures.goes) (stops_here (declarators_at c.in_ok-items.ensures g))))))
-
 pub types::member-returns-clause-goes : goal.types::member-returns-clause-goes
-types::member-returns-clause-goes t c = given (by (type_rule kind.member) (refl) (refl) (here (answer c.in_ok-words.ensures.goes) (here (answer c.in_ok-first.ensures.goes) (here (declarators_at c.in_ok-items.ensures (answer c.in_ok-whole.ensures.goes)) (is_done)))))
+types::member-returns-clause-goes t c = relayed c.more_declarators.ensures.goes (λ x g. by (type_rule kind.member) (refl) (refl) (here (answer c.in_ok-words.ensures.goes) (here (answer c.in_ok-first.ensures.goes) (here (declarators_at c.in_ok-items.ensures g) (is_done))))) (λ why rest g. by (type_rule kind.member) (refl) (refl) (here (answer c.in_ok-words.ensures.goes) (here (answer c.in_ok-first.ensures.goes) (stops_here (declarators_at c.in_ok-items.ensures g)))))
 
 pub types::more_declarators-returns-then-comes-clause-goes : goal.types::more_declarators-returns-then-comes-clause-goes
 types::more_declarators-returns-then-comes-clause-goes t c = halted (stopped c.barred.ensures (c.others.invariant.0 _ (is_barred (borne _ (sym c.if-comes.ensures)))))
@@ -544,11 +455,8 @@ types::enumerators-returns-in_err-first-clause-goes t c = failed c.from_residual
 pub types::enumerators-returns-in_err-items-clause-goes : goal.types::enumerators-returns-in_err-items-clause-goes
 types::enumerators-returns-in_err-items-clause-goes t c = starved c.from_residual-in_err-items.ensures.1
 
-pub types::enumerators-returns-in_err-whole-clause-goes : goal.types::enumerators-returns-in_err-whole-clause-goes
-types::enumerators-returns-in_err-whole-clause-goes t c = failed c.from_residual-in_err-whole.ensures.1 (halts (halt c.in_err-whole.ensures.goes) (λ why rest g. by (type_rule kind.enumerators) (refl) (refl) (here (answer c.in_ok-first.ensures.goes) (stops_here (enumerators_at c.in_ok-items.ensures g)))))
-
 pub types::enumerators-returns-clause-goes : goal.types::enumerators-returns-clause-goes
-types::enumerators-returns-clause-goes t c = given (by (type_rule kind.enumerators) (refl) (refl) (here (answer c.in_ok-first.ensures.goes) (here (enumerators_at c.in_ok-items.ensures (answer c.in_ok-whole.ensures.goes)) (is_done))))
+types::enumerators-returns-clause-goes t c = relayed c.more_enumerators.ensures.goes (λ x g. by (type_rule kind.enumerators) (refl) (refl) (here (answer c.in_ok-first.ensures.goes) (here (enumerators_at c.in_ok-items.ensures g) (is_done)))) (λ why rest g. by (type_rule kind.enumerators) (refl) (refl) (here (answer c.in_ok-first.ensures.goes) (stops_here (enumerators_at c.in_ok-items.ensures g))))
 
 pub types::more_enumerators-returns-in_err-_comma-clause-goes : goal.types::more_enumerators-returns-in_err-_comma-clause-goes
 types::more_enumerators-returns-in_err-_comma-clause-goes t c = failed c.from_residual.ensures.1 (halts (refuse c.in_err-_comma.ensures.goes) (λ why rest g. c.values.invariant.0 _ (by (type_rule kind.enumerators_more) (refl) (if_false _ (sym c.values-test.ensures)) (g _ _))))
@@ -577,11 +485,8 @@ types::enumerator-returns-in_err-word-clause-goes t c = failed c.from_residual.e
 pub types::enumerator-returns-in_err-name-clause-goes : goal.types::enumerator-returns-in_err-name-clause-goes
 types::enumerator-returns-in_err-name-clause-goes t c = starved c.from_residual-in_err-name.ensures.1
 
-pub types::enumerator-returns-in_err-whole-clause-goes : goal.types::enumerator-returns-in_err-whole-clause-goes
-types::enumerator-returns-in_err-whole-clause-goes t c = failed c.from_residual-in_err-whole.ensures.1 (halts (halt c.in_err-whole.ensures.goes) (λ why rest g. by (type_rule kind.enumerator) (refl) (refl) (take c.in_ok-word.ensures.goes (stops_here (value_at c.in_ok-name.ensures g)))))
-
 pub types::enumerator-returns-clause-goes : goal.types::enumerator-returns-clause-goes
-types::enumerator-returns-clause-goes t c = given (by (type_rule kind.enumerator) (refl) (refl) (take c.in_ok-word.ensures.goes (here (value_at c.in_ok-name.ensures (answer c.in_ok-whole.ensures.goes)) (is_done))))
+types::enumerator-returns-clause-goes t c = relayed c.enumerator_value.ensures.goes (λ x g. by (type_rule kind.enumerator) (refl) (refl) (take c.in_ok-word.ensures.goes (here (value_at c.in_ok-name.ensures g) (is_done)))) (λ why rest g. by (type_rule kind.enumerator) (refl) (refl) (take c.in_ok-word.ensures.goes (stops_here (value_at c.in_ok-name.ensures g))))
 
 pub types::enumerator_value-returns-then-not-comes-clause-goes : goal.types::enumerator_value-returns-then-not-comes-clause-goes
 types::enumerator_value-returns-then-not-comes-clause-goes t c = given (by (type_rule kind.enumerator_plain) refl (if_false _ (sym c.if-not-comes.ensures)) (done (enumerator_plain _ _)))
@@ -592,20 +497,14 @@ types::enumerator_value-returns-in_err-_equals-clause-goes t c = failed c.from_r
 pub types::enumerator_value-returns-in_err-value-clause-goes : goal.types::enumerator_value-returns-in_err-value-clause-goes
 types::enumerator_value-returns-in_err-value-clause-goes t c = failed c.from_residual-in_err-value.ensures.1 (halts (halt c.in_err-value.ensures.goes) (λ why rest g. by (type_rule kind.enumerator_valued) (refl) (if_true _ (sym c.if-not-comes.ensures)) (take c.in_ok-_equals.ensures.goes (stops g))))
 
-pub types::enumerator_value-returns-in_err-whole-clause-goes : goal.types::enumerator_value-returns-in_err-whole-clause-goes
-types::enumerator_value-returns-in_err-whole-clause-goes t c = starved c.from_residual-in_err-whole.ensures.1
-
 pub types::enumerator_value-returns-clause-goes : goal.types::enumerator_value-returns-clause-goes
-types::enumerator_value-returns-clause-goes t c = given (by (type_rule kind.enumerator_valued) (refl) (if_true _ (sym c.if-not-comes.ensures)) (take c.in_ok-_equals.ensures.goes (goes_on (answer c.in_ok-value.ensures.goes) (done c.in_ok-whole.ensures))))
+types::enumerator_value-returns-clause-goes t c = given (by (type_rule kind.enumerator_valued) (refl) (if_true _ (sym c.if-not-comes.ensures)) (take c.in_ok-_equals.ensures.goes (goes_on (answer c.in_ok-value.ensures.goes) (done c.valued_enumerator.ensures))))
 
 pub declarators::declarator-returns-then-type_name_ahead-clause-goes : goal.declarators::declarator-returns-then-type_name_ahead-clause-goes
 declarators::declarator-returns-then-type_name_ahead-clause-goes t c = halted (stopped c.barred.ensures (is_barred (borne _ (sym c.if-type_name_ahead.ensures))))
 
-pub declarators::declarator-returns-in_err-whole-clause-goes : goal.declarators::declarator-returns-in_err-whole-clause-goes
-declarators::declarator-returns-in_err-whole-clause-goes t c = failed c.from_residual.ensures.1 (halts (halt c.in_err-whole.ensures.goes) (λ why rest g. by (type_rule kind.direct) (unborne _ (sym c.if-type_name_ahead.ensures)) (if_false _ (sym c.if-comes.ensures)) (stops_here g)))
-
 pub declarators::declarator-returns-clause-goes : goal.declarators::declarator-returns-clause-goes
-declarators::declarator-returns-clause-goes t c = given (by (type_rule kind.direct) (unborne _ (sym c.if-type_name_ahead.ensures)) (if_false _ (sym c.if-comes.ensures)) (here (answer c.in_ok-whole.ensures.goes) (is_done)))
+declarators::declarator-returns-clause-goes t c = relayed c.direct.ensures.goes (λ x g. by (type_rule kind.direct) (unborne _ (sym c.if-type_name_ahead.ensures)) (if_false _ (sym c.if-comes.ensures)) (here g (is_done))) (λ why rest g. by (type_rule kind.direct) (unborne _ (sym c.if-type_name_ahead.ensures)) (if_false _ (sym c.if-comes.ensures)) (stops_here g))
 
 pub declarators::pointer-returns-in_err-at-clause-goes : goal.declarators::pointer-returns-in_err-at-clause-goes
 declarators::pointer-returns-in_err-at-clause-goes t c = failed c.from_residual.ensures.1 (halts (refuse c.in_err-at.ensures.goes) (λ why rest g. by (type_rule kind.pointer) (unborne _ c.requires.0) (if_true _ c.requires.1) (g _ _)))
@@ -625,8 +524,11 @@ declarators::pointer-returns-clause-goes t c = given (by (type_rule kind.pointer
 pub declarators::direct-returns-then-params_come-clause-goes : goal.declarators::direct-returns-then-params_come-clause-goes
 declarators::direct-returns-then-params_come-clause-goes t c = halted (stopped c.barred.ensures (is_barred (borne _ (sym c.if-params_come.ensures))))
 
-pub declarators::direct-returns-in-Nameless-clause-goes : goal.declarators::direct-returns-in-Nameless-clause-goes
-declarators::direct-returns-in-Nameless-clause-goes t c = carried c.tails.ensures.goes (λ o g. by (type_rule (kind.no_name (direct_is _ _ _ (sym c.in-Nameless.ensures)).0)) (unborne _ (sym c.if-params_come.ensures)) (direct_is _ _ _ (sym c.in-Nameless.ensures)).1 (passes (direct_is _ _ _ (sym c.in-Nameless.ensures)).2 (tail_declarator o (tails_absent g))))
+pub declarators::nameless-returns-in_err-first-clause-goes : goal.declarators::nameless-returns-in_err-first-clause-goes
+declarators::nameless-returns-in_err-first-clause-goes t c = starved c.from_residual.ensures.1
+
+pub declarators::nameless-returns-clause-goes : goal.declarators::nameless-returns-clause-goes
+declarators::nameless-returns-clause-goes t c = carried c.tails.ensures.goes (λ o g. by (type_rule (kind.no_name (direct_is _ _ _ c.requires.1).0)) (unborne _ c.requires.0) (direct_is _ _ _ c.requires.1).1 (passes (direct_is _ _ _ c.requires.1).2 (tail_declarator o (tails_absent c.in_ok-first.ensures.ok g))))
 
 pub declarators::direct-returns-in-Neither-clause-goes : goal.declarators::direct-returns-in-Neither-clause-goes
 declarators::direct-returns-in-Neither-clause-goes t c = halted (stopped c.refused.ensures (no_rule (unborne _ (sym c.if-params_come.ensures)) (direct_is _ _ _ (sym c.in-Neither.ensures))))
@@ -637,11 +539,11 @@ declarators::named-returns-in_err-word-clause-goes t c = failed c.from_residual.
 pub declarators::named-returns-in_err-name-clause-goes : goal.declarators::named-returns-in_err-name-clause-goes
 declarators::named-returns-in_err-name-clause-goes t c = starved c.from_residual-in_err-name.ensures.1
 
-pub declarators::named-returns-in_err-whole-clause-goes : goal.declarators::named-returns-in_err-whole-clause-goes
-declarators::named-returns-in_err-whole-clause-goes t c = failed c.from_residual-in_err-whole.ensures.1 (halts (halt c.in_err-whole.ensures.goes) (λ why rest g. by (type_rule (kind.declared_name (direct_is _ _ _ c.requires.1).0)) (unborne _ c.requires.0) ((direct_is _ _ _ c.requires.1).1) (take c.in_ok-word.ensures.goes (stops_here (tails_named c.in_ok-name.ensures g)))))
+pub declarators::named-returns-in_err-first-clause-goes : goal.declarators::named-returns-in_err-first-clause-goes
+declarators::named-returns-in_err-first-clause-goes t c = starved c.from_residual-in_err-first.ensures.1
 
 pub declarators::named-returns-clause-goes : goal.declarators::named-returns-clause-goes
-declarators::named-returns-clause-goes t c = given (by (type_rule (kind.declared_name (direct_is _ _ _ c.requires.1).0)) (unborne _ c.requires.0) ((direct_is _ _ _ c.requires.1).1) (take c.in_ok-word.ensures.goes (here (tails_named c.in_ok-name.ensures (answer c.in_ok-whole.ensures.goes)) (is_done))))
+declarators::named-returns-clause-goes t c = relayed c.tails.ensures.goes (λ x g. by (type_rule (kind.declared_name (direct_is _ _ _ c.requires.1).0)) (unborne _ c.requires.0) ((direct_is _ _ _ c.requires.1).1) (take c.in_ok-word.ensures.goes (here (tails_named c.in_ok-first.ensures.ok c.in_ok-name.ensures g) (is_done)))) (λ why rest g. by (type_rule (kind.declared_name (direct_is _ _ _ c.requires.1).0)) (unborne _ c.requires.0) ((direct_is _ _ _ c.requires.1).1) (take c.in_ok-word.ensures.goes (stops_here (tails_named c.in_ok-first.ensures.ok c.in_ok-name.ensures g))))
 
 pub declarators::grouped-returns-in_err-opening-clause-goes : goal.declarators::grouped-returns-in_err-opening-clause-goes
 declarators::grouped-returns-in_err-opening-clause-goes t c = failed c.from_residual.ensures.1 (halts (refuse c.in_err-opening.ensures.goes) (λ why rest g. by (type_rule kind.grouped) (unborne _ c.requires.0) (direct_is _ _ _ c.requires.1) (g _ _)))
@@ -650,31 +552,28 @@ pub declarators::grouped-returns-in_err-inner-clause-goes : goal.declarators::gr
 declarators::grouped-returns-in_err-inner-clause-goes t c = failed c.from_residual-in_err-inner.ensures.1 (halts (halt c.in_err-inner.ensures.goes) (λ why rest g. by (type_rule kind.grouped) (unborne _ c.requires.0) (direct_is _ _ _ c.requires.1) (take c.in_ok-opening.ensures.goes (stops g))))
 
 pub declarators::grouped-returns-then-not-is_given-clause-goes : goal.declarators::grouped-returns-then-not-is_given-clause-goes
-declarators::grouped-returns-then-not-is_given-clause-goes t c = halted (stopped c.refused.ensures (by (type_rule kind.grouped) (unborne _ c.requires.0) (direct_is _ _ _ c.requires.1) (take c.in_ok-opening.ensures.goes (goes_on (answer c.in_ok-inner.ensures.goes) (fails (sym c.if-not-is_given.ensures))))))
+declarators::grouped-returns-then-not-is_given-clause-goes t c = halted (stopped c.refused.ensures (by (type_rule kind.grouped) (unborne _ c.requires.0) (direct_is _ _ _ c.requires.1) (take c.in_ok-opening.ensures.goes (goes_on (answer c.in_ok-inner.ensures.goes) (fails (regiven c.deref.ensures c.if-not-is_given.ensures))))))
 
 pub declarators::grouped-returns-in_err-_close-clause-goes : goal.declarators::grouped-returns-in_err-_close-clause-goes
-declarators::grouped-returns-in_err-_close-clause-goes t c = failed c.from_residual-in_err-_close.ensures.1 (halts (refuse c.in_err-_close.ensures.goes) (λ why rest g. by (type_rule kind.grouped) (unborne _ c.requires.0) (direct_is _ _ _ c.requires.1) (take c.in_ok-opening.ensures.goes (goes_on (answer c.in_ok-inner.ensures.goes) (passes (sym c.if-not-is_given.ensures) (g _ _))))))
+declarators::grouped-returns-in_err-_close-clause-goes t c = failed c.from_residual-in_err-_close.ensures.1 (halts (refuse c.in_err-_close.ensures.goes) (λ why rest g. by (type_rule kind.grouped) (unborne _ c.requires.0) (direct_is _ _ _ c.requires.1) (take c.in_ok-opening.ensures.goes (goes_on (answer c.in_ok-inner.ensures.goes) (passes (regiven c.deref.ensures c.if-not-is_given.ensures) (g _ _))))))
 
 pub declarators::grouped-returns-in_err-first-clause-goes : goal.declarators::grouped-returns-in_err-first-clause-goes
 declarators::grouped-returns-in_err-first-clause-goes t c = starved c.from_residual-in_err-first.ensures.1
 
-pub declarators::grouped-returns-in_err-whole-clause-goes : goal.declarators::grouped-returns-in_err-whole-clause-goes
-declarators::grouped-returns-in_err-whole-clause-goes t c = failed c.from_residual-in_err-whole.ensures.1 (halts (halt c.in_err-whole.ensures.goes) (λ why rest g. by (type_rule kind.grouped) (unborne _ c.requires.0) (direct_is _ _ _ c.requires.1) (take c.in_ok-opening.ensures.goes (goes_on (answer c.in_ok-inner.ensures.goes) (passes (sym c.if-not-is_given.ensures) (take c.in_ok-_close.ensures.goes (stops_here (tails_at c.in_ok-first.ensures g))))))))
-
 pub declarators::grouped-returns-clause-goes : goal.declarators::grouped-returns-clause-goes
-declarators::grouped-returns-clause-goes t c = given (by (type_rule kind.grouped) (unborne _ c.requires.0) (direct_is _ _ _ c.requires.1) (take c.in_ok-opening.ensures.goes (goes_on (answer c.in_ok-inner.ensures.goes) (passes (sym c.if-not-is_given.ensures) (take c.in_ok-_close.ensures.goes (here (tails_at c.in_ok-first.ensures (answer c.in_ok-whole.ensures.goes)) is_done))))))
+declarators::grouped-returns-clause-goes t c = relayed c.tails.ensures.goes (λ x g. by (type_rule kind.grouped) (unborne _ c.requires.0) (direct_is _ _ _ c.requires.1) (take c.in_ok-opening.ensures.goes (goes_on (answer c.in_ok-inner.ensures.goes) (passes (regiven c.deref.ensures c.if-not-is_given.ensures) (take c.in_ok-_close.ensures.goes (here (tails_at c.in_ok-first.ensures g) is_done)))))) (λ why rest g. by (type_rule kind.grouped) (unborne _ c.requires.0) (direct_is _ _ _ c.requires.1) (take c.in_ok-opening.ensures.goes (goes_on (answer c.in_ok-inner.ensures.goes) (passes (regiven c.deref.ensures c.if-not-is_given.ensures) (take c.in_ok-_close.ensures.goes (stops_here (tails_at c.in_ok-first.ensures g)))))))
 
 pub declarators::tails-returns-then-calls_no_name-clause-goes : goal.declarators::tails-returns-then-calls_no_name-clause-goes
-declarators::tails-returns-then-calls_no_name-clause-goes t c = halted (stopped c.barred.ensures (c.forms.invariant.0 _ (is_barred (borne _ (sym c.if-calls_no_name.ensures)))))
+declarators::tails-returns-then-calls_no_name-clause-goes t c = halted (stopped c.barred.ensures (c.forms.invariant.0 _ (is_barred (borne _ (renamed _ _ c.deref.ensures c.if-calls_no_name.ensures)))))
 
 pub declarators::tails-returns-then-is_no_tail-clause-goes : goal.declarators::tails-returns-then-is_no_tail-clause-goes
-declarators::tails-returns-then-is_no_tail-clause-goes t c = given (c.forms.invariant.0 _ (by (type_rule kind.tails_end) (unborne _ (sym c.if-calls_no_name.ensures)) (tail_is _ _ _ _ _ (sym c.tail_at-kind.ensures ∙ no_tail _ (sym c.if-is_no_tail.ensures))) is_done))
+declarators::tails-returns-then-is_no_tail-clause-goes t c = given (c.forms.invariant.0 _ (by (type_rule kind.tails_end) (unborne _ (renamed _ _ c.deref.ensures c.if-calls_no_name.ensures)) (tail_is _ _ _ _ _ (sym c.tail_at-kind.ensures ∙ no_tail _ (sym c.if-is_no_tail.ensures))) is_done))
 
 pub declarators::tails-returns-in_err-longer-clause-goes : goal.declarators::tails-returns-in_err-longer-clause-goes
-declarators::tails-returns-in_err-longer-clause-goes t c = failed c.from_residual.ensures.1 (halts (stall (c.in_err-longer.ensures.goes _ (unborne _ (sym c.if-calls_no_name.ensures)))) (λ why rest g. c.forms.invariant.0 _ g))
+declarators::tails-returns-in_err-longer-clause-goes t c = failed c.from_residual.ensures.1 (halts (stall (c.in_err-longer.ensures.goes _ (unborne _ (renamed _ _ c.deref.ensures c.if-calls_no_name.ensures)))) (λ why rest g. c.forms.invariant.0 _ g))
 
 pub declarators::tails-forms-preserved : goal.declarators::tails-forms-preserved
-declarators::tails-forms-preserved t c = ((λ o g. c.forms.invariant.0 o (step (c.in_ok-longer.ensures.goes _ (unborne _ (sym c.if-calls_no_name.ensures))) o g)), omega (arith, c.in_ok-longer.ensures.shorter))
+declarators::tails-forms-preserved t c = ((λ o g. c.forms.invariant.0 o (step (c.in_ok-longer.ensures.goes _ (unborne _ (renamed _ _ c.deref.ensures c.if-calls_no_name.ensures))) o g)), omega (arith, c.in_ok-longer.ensures.shorter))
 
 pub declarators::array-returns-in_err-at-clause-goes : goal.declarators::array-returns-in_err-at-clause-goes
 declarators::array-returns-in_err-at-clause-goes t c = λ plain e. stalls c.from_residual.ensures.1 (halts (refuse c.in_err-at.ensures.goes) (λ why rest g. by (type_rule kind.array) (e) (tail_is _ _ _ _ _ c.requires) (g _ _)))
@@ -698,13 +597,13 @@ pub declarators::size-returns-then-is_member-clause-goes : goal.declarators::siz
 declarators::size-returns-then-is_member-clause-goes t c = halted (stopped c.barred.ensures (is_barred (borne _ (both_true (sym c.if-comes.ensures) (sym c.if-is_member.ensures)))))
 
 pub declarators::size-returns-in_err-value-clause-goes : goal.declarators::size-returns-in_err-value-clause-goes
-declarators::size-returns-in_err-value-clause-goes t c = failed c.from_residual.ensures.1 (halts (stall (c.in_err-value.ensures.goes (part.ADeclarator (part.Size (role_view c.args.role) c.args.at (declarator_tree c.args.inner))) (λ e. process.give (trees.Array c.args.at (declarator_tree c.args.inner) e)))) (λ why rest g. by (type_rule kind.size) (unborne _ (first_false _ (sym c.if-comes.ensures))) (if_false _ (sym c.if-comes.ensures)) g))
+declarators::size-returns-in_err-value-clause-goes t c = failed c.from_residual.ensures.1 (halts (stall (c.in_err-value.ensures.goes (part.ADeclarator (part.Size (role_view c.args.role) c.args.at (boxed_declarator c.args.inner))) (λ e. process.give (trees.Array c.args.at (boxed_declarator c.args.inner) e)))) (λ why rest g. by (type_rule kind.size) (unborne _ (first_false _ (sym c.if-comes.ensures))) (if_false _ (sym c.if-comes.ensures)) g))
 
 pub declarators::size-returns-in_err-whole-clause-goes : goal.declarators::size-returns-in_err-whole-clause-goes
 declarators::size-returns-in_err-whole-clause-goes t c = starved c.from_residual-in_err-whole.ensures.1
 
 pub declarators::size-returns-clause-goes : goal.declarators::size-returns-clause-goes
-declarators::size-returns-clause-goes t c = given (by (type_rule kind.size) (unborne _ (first_false _ (sym c.if-comes.ensures))) (if_false _ (sym c.if-comes.ensures)) (step (c.in_ok-value.ensures.goes (part.ADeclarator (part.Size (role_view c.args.role) c.args.at (declarator_tree c.args.inner))) (λ e. process.give (trees.Array c.args.at (declarator_tree c.args.inner) e))) _ (done c.in_ok-whole.ensures)))
+declarators::size-returns-clause-goes t c = given (by (type_rule kind.size) (unborne _ (first_false _ (sym c.if-comes.ensures))) (if_false _ (sym c.if-comes.ensures)) (step (c.in_ok-value.ensures.goes (part.ADeclarator (part.Size (role_view c.args.role) c.args.at (boxed_declarator c.args.inner))) (λ e. process.give (trees.Array c.args.at (boxed_declarator c.args.inner) e))) _ (done c.in_ok-whole.ensures)))
 
 pub declarators::given_size-returns-in_err-value-clause-goes : goal.declarators::given_size-returns-in_err-value-clause-goes
 declarators::given_size-returns-in_err-value-clause-goes t c = λ p k. stalls c.from_residual.ensures.1 (halts (halt c.in_err-value.ensures.goes) (λ why rest g. stops_here g))
@@ -721,11 +620,8 @@ declarators::parameters-returns-in_err-first-clause-goes t c = failed c.from_res
 pub declarators::parameters-returns-in_err-params-clause-goes : goal.declarators::parameters-returns-in_err-params-clause-goes
 declarators::parameters-returns-in_err-params-clause-goes t c = starved c.from_residual-in_err-params.ensures.1
 
-pub declarators::parameters-returns-in_err-whole-clause-goes : goal.declarators::parameters-returns-in_err-whole-clause-goes
-declarators::parameters-returns-in_err-whole-clause-goes t c = failed c.from_residual-in_err-whole.ensures.1 (halts (halt c.in_err-whole.ensures.goes) (λ why rest g. by (type_rule kind.parameters) (refl) (if_false _ (sym c.if-comes.ensures)) (here (answer c.in_ok-first.ensures.goes) (stops_here (parameters_at c.in_ok-params.ensures g)))))
-
 pub declarators::parameters-returns-clause-goes : goal.declarators::parameters-returns-clause-goes
-declarators::parameters-returns-clause-goes t c = given (by (type_rule kind.parameters) (refl) (if_false _ (sym c.if-comes.ensures)) (here (answer c.in_ok-first.ensures.goes) (here (parameters_at c.in_ok-params.ensures (answer c.in_ok-whole.ensures.goes)) (is_done))))
+declarators::parameters-returns-clause-goes t c = relayed c.more_parameters.ensures.goes (λ x g. by (type_rule kind.parameters) (refl) (if_false _ (sym c.if-comes.ensures)) (here (answer c.in_ok-first.ensures.goes) (here (parameters_at c.in_ok-params.ensures g) (is_done)))) (λ why rest g. by (type_rule kind.parameters) (refl) (if_false _ (sym c.if-comes.ensures)) (here (answer c.in_ok-first.ensures.goes) (stops_here (parameters_at c.in_ok-params.ensures g))))
 
 pub declarators::more_parameters-returns-in_err-_comma-clause-goes : goal.declarators::more_parameters-returns-in_err-_comma-clause-goes
 declarators::more_parameters-returns-in_err-_comma-clause-goes t c = failed c.from_residual.ensures.1 (halts (refuse c.in_err-_comma.ensures.goes) (λ why rest g. c.others.invariant.0 _ (by (type_rule kind.parameters_more) (refl) (if_false _ (sym c.others-test.ensures)) (g _ _))))
@@ -746,7 +642,7 @@ pub declarators::more_parameters-returns-in_err-whole-clause-goes : goal.declara
 declarators::more_parameters-returns-in_err-whole-clause-goes t c = starved c.from_residual-in_err-whole.ensures.1
 
 pub declarators::more_parameters-returns-clause-goes : goal.declarators::more_parameters-returns-clause-goes
-declarators::more_parameters-returns-clause-goes t c = given (c.others.invariant.0 _ (by (type_rule kind.parameters_end) (refl) (if_true _ (sym c.others-test.ensures)) (take c.in_ok-_close.ensures.goes (done (c.in_ok-whole.ensures ∙ ap (λ v. function_of c.args.at (trees.declarator_tree v) (trees.params_from c.others.params.items)) c.others.invariant.1)))))
+declarators::more_parameters-returns-clause-goes t c = given (c.others.invariant.0 _ (by (type_rule kind.parameters_end) (refl) (if_true _ (sym c.others-test.ensures)) (take c.in_ok-_close.ensures.goes (done (c.in_ok-whole.ensures ∙ ap (λ v. function_of c.args.at (boxed_declarator v) (trees.params_from c.others.params.items)) c.others.invariant.1)))))
 
 pub declarators::parameter-returns-then-plain_word_ahead-clause-goes : goal.declarators::parameter-returns-then-plain_word_ahead-clause-goes
 declarators::parameter-returns-then-plain_word_ahead-clause-goes t c = halted (stopped c.barred.ensures (is_barred (borne _ (sym c.if-plain_word_ahead.ensures))))

@@ -2,7 +2,7 @@ use Rattle.std.proofs.Common.{◌+◌, ◌*◌, ◌≤◌, length, ◌≡◌}
 use Rattle.c_written.specs.Written.{ExprTree, ExprTrees, expr_tree, exprs_from, DeclaratorTree, EnumeratorTrees, MemberDeclTree, MemberDeclTrees, SpecTrees, declarator_tree, declarators_from, enumerators_from, memberdecls_from, params_from, specs_from, specs_tree}
 use Rattle.c_grammar.specs.Parts as part
 use Rattle.c_grammar.specs.Descent.{Outcome, Goes}
-use Rattle.c_descent.specs.Views.{scene_of, level_view, role_view}
+use Rattle.c_descent.specs.Views.{boxed_declarator, boxed_expr, scene_of, level_view, role_view}
 use Rattle.c_exprs.proofs.Ranks.{rank}
 use Rattle.c_grammar.specs.Made.{has_type}
 use Rattle.c_exprs.proofs.+descent.Given as goal
@@ -27,9 +27,6 @@ decreases-exprs::call l = 64 * length l.tokens.now + 0
 
 abbrev pub decreases-exprs::postfix : goal.decreases-exprs::postfix
 decreases-exprs::postfix l = 64 * length l.tokens.now + 3
-
-abbrev pub decreases-exprs::no_prefix : goal.decreases-exprs::no_prefix
-decreases-exprs::no_prefix l = 64 * length l.tokens.now + 4
 
 abbrev pub decreases-exprs::size_of : goal.decreases-exprs::size_of
 decreases-exprs::size_of l = 64 * length l.tokens.now + 0
@@ -100,29 +97,11 @@ decreases-types::structure l = 64 * length l.tokens.now + 0
 abbrev pub decreases-types::structure_form : goal.decreases-types::structure_form
 decreases-types::structure_form l = 64 * length l.tokens.now + 1
 
-abbrev pub decreases-types::structure_tag : goal.decreases-types::structure_tag
-decreases-types::structure_tag l = 64 * length l.tokens.now + 0
-
-abbrev pub decreases-types::structure_body : goal.decreases-types::structure_body
-decreases-types::structure_body l = 64 * length l.tokens.now + 0
-
-abbrev pub decreases-types::structure_tagged : goal.decreases-types::structure_tagged
-decreases-types::structure_tagged l = 64 * length l.tokens.now + 0
-
 abbrev pub decreases-types::enumeration : goal.decreases-types::enumeration
 decreases-types::enumeration l = 64 * length l.tokens.now + 0
 
 abbrev pub decreases-types::enumeration_form : goal.decreases-types::enumeration_form
 decreases-types::enumeration_form l = 64 * length l.tokens.now + 1
-
-abbrev pub decreases-types::enumeration_tag : goal.decreases-types::enumeration_tag
-decreases-types::enumeration_tag l = 64 * length l.tokens.now + 0
-
-abbrev pub decreases-types::enumeration_body : goal.decreases-types::enumeration_body
-decreases-types::enumeration_body l = 64 * length l.tokens.now + 0
-
-abbrev pub decreases-types::enumeration_tagged : goal.decreases-types::enumeration_tagged
-decreases-types::enumeration_tagged l = 64 * length l.tokens.now + 0
 
 abbrev pub decreases-types::members : goal.decreases-types::members
 decreases-types::members l = 64 * length l.tokens.now + 4
@@ -149,13 +128,16 @@ abbrev pub decreases-types::enumerator_value : goal.decreases-types::enumerator_
 decreases-types::enumerator_value l = 64 * length l.tokens.now + 0
 
 abbrev pub decreases-declarators::declarator : goal.decreases-declarators::declarator
-decreases-declarators::declarator l = 64 * length l.tokens.now + 4
+decreases-declarators::declarator l = 64 * length l.tokens.now + 5
 
 abbrev pub decreases-declarators::pointer : goal.decreases-declarators::pointer
 decreases-declarators::pointer l = 64 * length l.tokens.now + 0
 
 abbrev pub decreases-declarators::direct : goal.decreases-declarators::direct
-decreases-declarators::direct l = 64 * length l.tokens.now + 3
+decreases-declarators::direct l = 64 * length l.tokens.now + 4
+
+abbrev pub decreases-declarators::nameless : goal.decreases-declarators::nameless
+decreases-declarators::nameless l = 64 * length l.tokens.now + 3
 
 abbrev pub decreases-declarators::named : goal.decreases-declarators::named
 decreases-declarators::named l = 64 * length l.tokens.now + 0
@@ -208,14 +190,14 @@ decreases-exprs::operand l = 64 * length l.tokens.now + (8 + rank l.level)
 -- what is left decides for all of it
 abbrev pub invariant-exprs::more-joints : goal.invariant-exprs::more-joints
 invariant-exprs::more-joints l =
-    ((o : Outcome ExprTree) → Goes l.depth (scene_of l.context) (part.AnExpr (part.More (level_view l.level) (expr_tree l.left))) l.rest o → Goes l.fn.count (scene_of l.context) (part.AnExpr (part.More (level_view l.level) (expr_tree l.fn.first))) l.fn.tokens o) × (length l.rest ≤ length l.fn.tokens)
+    ((o : Outcome ExprTree) → Goes l.depth (scene_of l.context) (part.AnExpr (part.More (level_view l.level) (boxed_expr l.left))) l.rest o → Goes l.fn.count (scene_of l.context) (part.AnExpr (part.More (level_view l.level) (boxed_expr l.fn.first))) l.fn.tokens o) × (length l.rest ≤ length l.fn.tokens)
 
 abbrev pub decreases-exprs::more-joints : goal.decreases-exprs::more-joints
 decreases-exprs::more-joints l = length l.rest
 
 abbrev pub invariant-exprs::suffixes-forms : goal.invariant-exprs::suffixes-forms
 invariant-exprs::suffixes-forms l =
-    ((o : Outcome ExprTree) → Goes l.depth (scene_of l.context) (part.AnExpr (part.Suffixes (expr_tree l.base))) l.rest o → Goes l.fn.count (scene_of l.context) (part.AnExpr (part.Suffixes (expr_tree l.fn.first))) l.fn.tokens o) × (length l.rest ≤ length l.fn.tokens)
+    ((o : Outcome ExprTree) → Goes l.depth (scene_of l.context) (part.AnExpr (part.Suffixes (boxed_expr l.base))) l.rest o → Goes l.fn.count (scene_of l.context) (part.AnExpr (part.Suffixes (boxed_expr l.fn.first))) l.fn.tokens o) × (length l.rest ≤ length l.fn.tokens)
 
 abbrev pub decreases-exprs::suffixes-forms : goal.decreases-exprs::suffixes-forms
 decreases-exprs::suffixes-forms l = length l.rest
@@ -257,14 +239,14 @@ decreases-types::more_enumerators-values l = length l.rest
 
 abbrev pub invariant-declarators::tails-forms : goal.invariant-declarators::tails-forms
 invariant-declarators::tails-forms l =
-    ((o : Outcome DeclaratorTree) → Goes l.count (scene_of l.context) (part.ADeclarator (part.Tails (role_view l.role) l.is_plain (declarator_tree l.inner))) l.rest o → Goes l.count (scene_of l.context) (part.ADeclarator (part.Tails (role_view l.role) l.fn.plain (declarator_tree l.fn.first))) l.fn.tokens o) × (length l.rest ≤ length l.fn.tokens)
+    ((o : Outcome DeclaratorTree) → Goes l.count (scene_of l.context) (part.ADeclarator (part.Tails (role_view l.role) l.is_plain (boxed_declarator l.inner))) l.rest o → Goes l.count (scene_of l.context) (part.ADeclarator (part.Tails (role_view l.role) l.fn.plain (boxed_declarator l.fn.first))) l.fn.tokens o) × (length l.rest ≤ length l.fn.tokens)
 
 abbrev pub decreases-declarators::tails-forms : goal.decreases-declarators::tails-forms
 decreases-declarators::tails-forms l = length l.rest
 
 abbrev pub invariant-declarators::more_parameters-others : goal.invariant-declarators::more_parameters-others
 invariant-declarators::more_parameters-others l =
-    ((o : Outcome DeclaratorTree) → Goes l.count (scene_of l.context) (part.ADeclarator (part.MoreParameters l.at (declarator_tree l.fn.inner) (params_from l.params.items))) l.rest o → Goes l.count (scene_of l.context) (part.ADeclarator (part.MoreParameters l.at (declarator_tree l.fn.inner) (params_from l.fn.before.items))) l.fn.tokens o) × (l.inner ≡ l.fn.inner) × (length l.rest ≤ length l.fn.tokens)
+    ((o : Outcome DeclaratorTree) → Goes l.count (scene_of l.context) (part.ADeclarator (part.MoreParameters l.at (boxed_declarator l.fn.inner) (params_from l.params.items))) l.rest o → Goes l.count (scene_of l.context) (part.ADeclarator (part.MoreParameters l.at (boxed_declarator l.fn.inner) (params_from l.fn.before.items))) l.fn.tokens o) × (l.inner ≡ l.fn.inner) × (length l.rest ≤ length l.fn.tokens)
 
 abbrev pub decreases-declarators::more_parameters-others : goal.decreases-declarators::more_parameters-others
 decreases-declarators::more_parameters-others l = length l.rest

@@ -1,5 +1,6 @@
 use Rattle.std.proofs.Common.{refl, ap, ◌∙◌}
 use Rattle.c_written.specs.Written as trees
+use Rattle.c_written.specs.Written.{expr_tree}
 use Rattle.c_written.proofs.WrittenTrees.{expr_word}
 use Rattle.c_grammar.specs.Grammar.{expr_rule}
 use Rattle.c_grammar.specs.ExprRules as rule
@@ -15,4 +16,7 @@ pub returns-in_err-name-clause-goes : goal.returns-in_err-name-clause-goes
 returns-in_err-name-clause-goes c = starved c.from_residual-in_err-name.ensures.1
 
 pub returns-clause-goes : goal.returns-clause-goes
-returns-clause-goes c = given (by (expr_rule rule.a_word) refl (primary_is _ _ c.requires) (take c.in_ok-word.ensures.goes (done (expr_word c.in_ok-word.word.now.pos c.in_ok-name.name ∙ ap (trees.Word c.in_ok-word.word.now.pos) c.in_ok-name.ensures))))
+returns-clause-goes c = given (by (expr_rule rule.a_word) refl (primary_is _ _ c.requires) (take c.in_ok-word.ensures.goes (done (ap expr_tree c.in_ok-whole.ensures.ok ∙ expr_word c.in_ok-word.word.now.pos c.in_ok-name.name ∙ ap (trees.Word c.in_ok-word.word.now.pos) c.in_ok-name.ensures))))
+
+pub returns-in_err-whole-clause-goes : goal.returns-in_err-whole-clause-goes
+returns-in_err-whole-clause-goes c = starved c.from_residual-in_err-whole.ensures.1
