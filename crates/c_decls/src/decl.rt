@@ -2,14 +2,14 @@
 #![tactic(auto, using(c_written::proofs::Trees::the_written_trees))]
 
 ghost use Rattle.std.specs.Prelude.{◌≡◌, ℕ, ◌+◌, ◌<◌, ◌≤◌, true, List, [], ◌∷◌, ◌++◌, length, map, IfOk};
-ghost use Rattle.c_written.specs.Written.{declarator_tree, specs_tree};
+ghost use Rattle.c_written.specs.Written.{specs_tree};
 ghost use Rattle.c_written.specs.WrittenDecl.{decl_tree, initdeclarator_tree};
 ghost use Rattle.c_grammar.specs.Choice.{is_semicolon};
 ghost use Rattle.c_grammar.specs.Made.{specs_pos};
 ghost use Rattle.c_grammar.specs.Parts as part;
 ghost use Rattle.c_grammar.specs.Refused.{first_is};
 ghost use Rattle.c_descent.specs.Answers.{Answers};
-ghost use Rattle.c_descent.specs.Views.{scene_of};
+ghost use Rattle.c_descent.specs.Views.{boxed_declarator, scene_of};
 ghost use Rattle.c_decls.specs.Answers.{Initialised};
 
 use crate::init::initialiser;
@@ -70,10 +70,10 @@ pub fn initial<'a>(
     context: &Context<'_>,
     count: u32,
     specs: Specs,
-    first: Declarator,
+    first: Box<Declarator>,
     tokens: &'a [Placed],
 ) -> Result<(Decl, &'a [Placed]), Fault<'a>>
-    ensures goes { Answers count (scene_of context.now) (part.ADecl (part.Initial (specs_tree specs) [] (declarator_tree first))) tokens.now (λ d. decl_tree d) result }
+    ensures goes { Answers count (scene_of context.now) (part.ADecl (part.Initial (specs_tree specs) [] (boxed_declarator first))) tokens.now (λ d. decl_tree d) result }
     ensures shorter { IfOk result (λ x. length x.1.now < length tokens.now) }
 {
     let mut inits = Vec::new(context.alloc);
@@ -93,11 +93,12 @@ pub fn initial<'a>(
 /// One more declarator at the end, with its initialiser where there is one.
 fn push_declared(
     inits: &mut Vec<InitDeclarator>,
-    declarator: Declarator,
+    declarator: Box<Declarator>,
     init: Option<Init>,
 ) -> Result<(), AllocError>
-    ensures { IfOk result (λ _. map initdeclarator_tree inits.new.items ≡ map initdeclarator_tree inits.old.items ++ initdeclarator_tree (record { declarator = declarator; init = init }) ∷ []) }
+    ensures { IfOk result (λ _. map initdeclarator_tree inits.new.items ≡ map initdeclarator_tree inits.old.items ++ initdeclarator_tree (record { declarator = declarator.value; init = init }) ∷ []) }
 {
+    let declarator = Box::into_inner(declarator);
     inits.push(InitDeclarator { declarator, init })?;
     Ok(())
 }

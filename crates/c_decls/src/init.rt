@@ -2,16 +2,16 @@
 #![tactic(auto, using(c_written::proofs::Trees::the_written_trees))]
 
 ghost use Rattle.std.specs.Prelude.{◌≡◌, ℕ, ◌+◌, ◌<◌, ◌≤◌, true, List, length, IfOk};
-ghost use Rattle.c_written.specs.WrittenDecl.{init_tree, inits_from, inits_then, inits_tree, more_inits, no_inits};
+ghost use Rattle.c_written.specs.WrittenDecl.{Value, init_tree, inits_from, inits_then, inits_tree, more_inits, no_inits};
 ghost use Rattle.c_grammar.specs.Choice.{is_right_brace};
 ghost use Rattle.c_grammar.specs.Parts as part;
 ghost use Rattle.c_grammar.specs.Refused.{first_is, is_brace};
 ghost use Rattle.c_descent.specs.Answers.{Answers};
-ghost use Rattle.c_descent.specs.Views.{scene_of};
+ghost use Rattle.c_descent.specs.Views.{boxed_expr, scene_of};
 
 use c_descent::{Class, Context, Fault, Mark, barred, comes, designator_ahead, taken};
 use c_exprs::assignment;
-use c_written::{Construct, Init, Inits, Placed, Punctuator};
+use c_written::{Construct, Expr, Init, Inits, Placed, Punctuator};
 use std::alloc::{AllocError, Global};
 
 /// An initialiser.
@@ -31,7 +31,15 @@ pub fn initialiser<'a>(
         return braces(context, count, tokens);
     }
     let (value, rest) = assignment(context, count, tokens)?;
-    Ok((Init::Value { value }, rest))
+    Ok((value_init(value), rest))
+}
+
+/// An initialiser that is an expression.
+fn value_init(value: Box<Expr>) -> Init
+    ensures { init_tree result ≡ Value (boxed_expr value) }
+{
+    let value = Box::into_inner(value);
+    Init::Value { value }
 }
 
 /// A list between braces.

@@ -4,19 +4,20 @@
 ghost use Rattle.std.specs.Prelude.{◌≡◌, ℕ, ◌+◌, ◌<◌, ◌≤◌, ◌++◌, true, List, [], length, map, IfOk};
 ghost use Rattle.c_written.specs.Written.{declarator_tree, spec_tree, specs_from, specs_tree};
 ghost use Rattle.c_written.specs.WrittenDecl.{initdeclarator_tree};
-ghost use Rattle.c_written.specs.WrittenFile.{outer_tree};
-ghost use Rattle.c_grammar.specs.Made.{declared_word, declared_words, has_typedef, is_typedef, new_types, with_word};
+ghost use Rattle.c_written.specs.WrittenFile.{Function, blockitems_tree, outer_tree};
+ghost use Rattle.c_grammar.specs.Made.{declared_word, declared_words, has_typedef, is_typedef, new_types, specs_pos, with_word};
 ghost use Rattle.c_grammar.specs.Parts as part;
 ghost use Rattle.c_grammar.specs.Refused.{first_is, is_brace};
 ghost use Rattle.c_descent.specs.Answers.{Answers};
-ghost use Rattle.c_descent.specs.Views.{scene_of};
+ghost use Rattle.c_descent.specs.Views.{boxed_declarator, scene_of};
 
 use c_decls::{initial, no_declarators};
 use c_descent::{Class, Context, Fault, Mark, Role, comes, declared_word, specs_pos, taken};
 use c_exprs::{declarator, specs};
 use c_stmts::block_items;
 use c_written::{
-    Declarator, InitDeclarator, Name, Outer, Placed, Punctuator, Spec, Specs, StorageWord,
+    BlockItems, Declarator, InitDeclarator, Name, Outer, Placed, Pos, Punctuator, Spec, Specs,
+    StorageWord,
 };
 use std::alloc::{AllocError, Global};
 
@@ -60,10 +61,10 @@ fn outer_initial<'a>(
     context: &Context<'_>,
     count: u32,
     specs: Specs,
-    first: Declarator,
+    first: Box<Declarator>,
     tokens: &'a [Placed],
 ) -> Result<(Outer, &'a [Placed]), Fault<'a>>
-    ensures goes { Answers count (scene_of context.now) (part.AnOuter (part.OuterInitial (specs_tree specs) (declarator_tree first))) tokens.now (λ o. outer_tree o) result }
+    ensures goes { Answers count (scene_of context.now) (part.AnOuter (part.OuterInitial (specs_tree specs) (boxed_declarator first))) tokens.now (λ o. outer_tree o) result }
     ensures shorter { IfOk result (λ x. length x.1.now < length tokens.now) }
 {
     if comes(Mark::Brace, tokens) {
@@ -78,26 +79,31 @@ fn function<'a>(
     context: &Context<'_>,
     count: u32,
     specs: Specs,
-    declarator: Declarator,
+    declarator: Box<Declarator>,
     tokens: &'a [Placed],
 ) -> Result<(Outer, &'a [Placed]), Fault<'a>>
     requires { first_is is_brace tokens.now ≡ true }
-    ensures goes { Answers count (scene_of context.now) (part.AnOuter (part.OuterInitial (specs_tree specs) (declarator_tree declarator))) tokens.now (λ o. outer_tree o) result }
+    ensures goes { Answers count (scene_of context.now) (part.AnOuter (part.OuterInitial (specs_tree specs) (boxed_declarator declarator))) tokens.now (λ o. outer_tree o) result }
     ensures shorter { IfOk result (λ x. length x.1.now < length tokens.now) }
 {
     let brace = Class::Sign(Punctuator::LeftBrace);
     let (opening, behind) = taken(context, count, 1, brace, tokens)?;
     let (body, rest) = block_items(context, false, count + 1, behind)?;
-    Ok((
-        Outer::Function {
-            pos: specs_pos(&specs),
-            specs,
-            declarator,
-            brace: opening.pos,
-            body,
-        },
-        rest,
-    ))
+    Ok((function_outer(specs, declarator, opening.pos, body), rest))
+}
+
+/// A function of its parts.
+fn function_outer(specs: Specs, declarator: Box<Declarator>, brace: Pos, body: BlockItems) -> Outer
+    ensures { outer_tree result ≡ Function (specs_pos (specs_tree specs)) (specs_tree specs) (boxed_declarator declarator) brace (blockitems_tree body) }
+{
+    let declarator = Box::into_inner(declarator);
+    Outer::Function {
+        pos: specs_pos(&specs),
+        specs,
+        declarator,
+        brace,
+        body,
+    }
 }
 
 /// The typedef names that a declaration of the file adds, put behind those that there are.

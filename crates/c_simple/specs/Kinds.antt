@@ -1,5 +1,7 @@
 -- What kind of statement comes, and how a condition is read.
 use Rattle.std.specs.Prelude.{◌≡◌, ℕ, false, List, [], ◌∷◌, Result, Ok, Err}
+use Rattle.std.specs.declared.alloc.Global.{Global}
+use Rattle.std.specs.declared.boxed.Box.{Box}
 use Rattle.std.proofs.Common.{Bor}
 use Rattle.c_written.specs.declared.token.Keyword.{Keyword}
 use Rattle.c_written.specs.declared.token.Keyword.TheVariants as keywords
@@ -8,7 +10,7 @@ use Rattle.c_written.specs.declared.token.Punctuator.TheVariants as signs
 use Rattle.c_written.specs.declared.token.Token.{Token}
 use Rattle.c_written.specs.declared.token.Token.TheVariants as kinds
 use Rattle.c_written.specs.declared.written.Expr.{Expr}
-use Rattle.c_written.specs.Written.{ExprTree, expr_tree}
+use Rattle.c_written.specs.Written.{ExprTree}
 use Rattle.c_grammar.specs.Parts.{Scene, Closing, by_semicolon, by_parenthesis, AnExpr, Part, Value}
 use Rattle.c_grammar.specs.Ahead.{label_ahead}
 use Rattle.c_grammar.specs.Classes.{sign}
@@ -16,6 +18,7 @@ use Rattle.c_grammar.specs.Process.{Process, token, part}
 use Rattle.c_grammar.specs.ExprRules.{Expression}
 use Rattle.c_grammar.specs.Descent.{Outcome, Stop, Follows}
 use Rattle.c_descent.specs.declared.fault.Fault.{Fault}
+use Rattle.c_descent.specs.Views.{boxed_expr}
 use Rattle.c_descent.specs.Answers.{Halts}
 use Rattle.c_simple.specs.declared.stmt_kind.StatementKind.{StatementKind}
 use Rattle.c_simple.specs.declared.stmt_kind.StatementKind.TheVariants as statements
@@ -59,6 +62,6 @@ abbrev pub in_parentheses : {A : Type 0} → Scene → (ExprTree → Process A) 
 in_parentheses scene k = token 1 (sign signs.LeftParenthesis) (λ opening. part 1 scene (AnExpr Expression) (λ value. token 0 (sign signs.RightParenthesis) (λ close. k value)))
 
 -- The result is how the descent reads an expression between parentheses.
-pub data Conditions (count : ℕ) (scene : Scene) (tokens : List Placed) : Result (Expr × Bor (List Placed)) Fault → Type 0 where
-  tested : {x : Expr × Bor (List Placed)} → ((p : Part) (k : ExprTree → Process (Value p)) (o : Outcome (Value p)) → Follows count scene p (k (expr_tree x.0)) x.1.now o → Follows count scene p (in_parentheses scene k) tokens o) → Conditions count scene tokens (Ok x)
+pub data Conditions (count : ℕ) (scene : Scene) (tokens : List Placed) : Result (Box Expr Global × Bor (List Placed)) Fault → Type 0 where
+  tested : {x : Box Expr Global × Bor (List Placed)} → ((p : Part) (k : ExprTree → Process (Value p)) (o : Outcome (Value p)) → Follows count scene p (k (boxed_expr x.0)) x.1.now o → Follows count scene p (in_parentheses scene k) tokens o) → Conditions count scene tokens (Ok x)
   untested : {f : Fault} → Halts (λ why rest. (p : Part) (k : ExprTree → Process (Value p)) → Follows count scene p (in_parentheses scene k) tokens (Stop why rest)) f → Conditions count scene tokens (Err f)

@@ -3,10 +3,11 @@
 
 ghost use Rattle.std.specs.Prelude.{◌≡◌, ℕ, ◌+◌, ◌<◌, ◌≤◌, Bool, List, length, option_map, IfOk};
 ghost use Rattle.c_written.specs.Written.{expr_tree};
-ghost use Rattle.c_written.specs.WrittenFile.{stmt_tree};
+ghost use Rattle.c_written.specs.WrittenFile.{Expression, stmt_tree};
+ghost use Rattle.c_written.specs.WrittenParts.{expr_pos};
 ghost use Rattle.c_grammar.specs.Parts as part;
 ghost use Rattle.c_descent.specs.Answers.{Answers};
-ghost use Rattle.c_descent.specs.Views.{mark_test, scene_of};
+ghost use Rattle.c_descent.specs.Views.{boxed_expr, mark_test, scene_of};
 ghost use Rattle.c_simple.specs.Kinds.{Conditions, StatementStarts, closing_view};
 ghost use Rattle.c_simple.specs.declared.stmt_kind.StatementKind.{StatementKind};
 ghost use Rattle.c_grammar.specs.Choice.{is_closing};
@@ -71,13 +72,18 @@ pub fn expression<'a>(
     let semicolon = Class::Sign(Punctuator::Semicolon);
     let (value, rest) = run(context, Level::Commas, count, tokens)?;
     let (_end, rest) = taken(context, count, 0, semicolon, rest)?;
-    Ok((
-        Stmt::Expression {
-            pos: value.pos(),
-            value,
-        },
-        rest,
-    ))
+    Ok((expression_stmt(value), rest))
+}
+
+/// The statement that an expression is.
+fn expression_stmt(value: Box<Expr>) -> Stmt
+    ensures { stmt_tree result ≡ Expression (expr_pos (boxed_expr value)) (boxed_expr value) }
+{
+    let value = Box::into_inner(value);
+    Stmt::Expression {
+        pos: value.pos(),
+        value,
+    }
 }
 
 /// A jump to a label.
@@ -142,6 +148,7 @@ pub fn return_statement<'a>(
 {
     let (at, behind) = taken(context, count, 0, Class::Keyword(Keyword::Return), tokens)?;
     let (value, rest) = optional(context, Closing::BySemicolon, count, behind)?;
+    let value = unboxed(value);
     Ok((Stmt::Return { pos: at.pos, value }, rest))
 }
 
@@ -151,8 +158,8 @@ pub fn optional<'a>(
     closing: Closing,
     count: u32,
     tokens: &'a [Placed],
-) -> Result<(Option<Expr>, &'a [Placed]), Fault<'a>>
-    ensures goes { Answers count (scene_of context.now) (part.Optionally (closing_view closing)) tokens.now (λ e. option_map (λ v. expr_tree v) e) result }
+) -> Result<(Option<Box<Expr>>, &'a [Placed]), Fault<'a>>
+    ensures goes { Answers count (scene_of context.now) (part.Optionally (closing_view closing)) tokens.now (λ e. option_map (λ v. boxed_expr v) e) result }
     ensures shorter { IfOk result (λ x. length x.1.now < length tokens.now) }
 {
     let sign = Class::Sign(closing.sign());
@@ -165,12 +172,22 @@ pub fn optional<'a>(
     Ok((Some(value), rest))
 }
 
+/// The expression out of its box, where there is one.
+pub fn unboxed(value: Option<Box<Expr>>) -> Option<Expr>
+    ensures { option_map (λ v. expr_tree v) result ≡ option_map (λ v. boxed_expr v) value }
+{
+    match value {
+        Some(value) => Some(Box::into_inner(value)),
+        None => None,
+    }
+}
+
 /// An expression between parentheses, behind the word of a statement.
 pub fn condition<'a>(
     context: &Context<'_>,
     count: u32,
     tokens: &'a [Placed],
-) -> Result<(Expr, &'a [Placed]), Fault<'a>>
+) -> Result<(Box<Expr>, &'a [Placed]), Fault<'a>>
     ensures goes { Conditions count (scene_of context.now) tokens.now result }
     ensures shorter { IfOk result (λ x. length x.1.now < length tokens.now) }
 {

@@ -5,7 +5,7 @@ use Rattle.std.specs.declared.boxed.Box.{Box}
 use Rattle.std.proofs.Common.{Bor}
 use Rattle.c_written.specs.declared.file.Stmt.{Stmt}
 use Rattle.c_written.specs.declared.token.Placed.{Placed}
-use Rattle.c_written.specs.Written.{expr_tree}
+use Rattle.c_descent.specs.Views.{boxed_expr}
 use Rattle.c_written.specs.WrittenFile.{StmtTree, For, forstart_tree, stmt_tree}
 use Rattle.c_grammar.specs.Parts.{Scene, within, Statement, AStmt}
 use Rattle.c_grammar.specs.Process.{Process, give, part}
@@ -20,7 +20,7 @@ boxed_tree s = stmt_tree s.value
 
 -- what is left of a for behind its head
 abbrev pub for_rest : Scene → ForHead → Process StmtTree
-for_rest scene head = part 1 (within scene) (AStmt (Statement false)) (λ body. give (For head.pos (forstart_tree head.start) (option_map expr_tree head.condition) (option_map expr_tree head.step) body))
+for_rest scene head = part 1 (within scene) (AStmt (Statement false)) (λ body. give (For head.pos (forstart_tree head.start) (option_map boxed_expr head.condition) (option_map boxed_expr head.step) body))
 
 -- The result is how the descent reads the head of a for.
 abbrev pub ForHeads : ℕ → Scene → List Placed → Result (ForHead × Bor (List Placed)) Fault → Type 0

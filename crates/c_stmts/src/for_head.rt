@@ -2,11 +2,10 @@
 #![tactic(auto)]
 
 ghost use Rattle.std.specs.Prelude.{◌≡◌, ℕ, ◌+◌, ◌<◌, ◌≤◌, Bool, List, length, option_map, IfOk};
-ghost use Rattle.c_written.specs.Written.{expr_tree};
 ghost use Rattle.c_written.specs.WrittenFile.{For, forstart_tree, stmt_tree};
 ghost use Rattle.c_grammar.specs.Parts as part;
 ghost use Rattle.c_descent.specs.Answers.{Answers};
-ghost use Rattle.c_descent.specs.Views.{scene_of};
+ghost use Rattle.c_descent.specs.Views.{boxed_expr, scene_of};
 ghost use Rattle.c_simple.specs.Kinds.{StatementStarts};
 ghost use Rattle.c_simple.specs.declared.stmt_kind.StatementKind.{StatementKind};
 ghost use Rattle.c_stmts.specs.Kinds.{ForHeads, boxed_tree};
@@ -14,7 +13,7 @@ ghost use Rattle.c_stmts.specs.Kinds.{ForHeads, boxed_tree};
 use c_decls::declaration;
 use c_descent::{Class, Context, Fault, Level, Mark, comes, spec_ahead, taken};
 use c_exprs::run;
-use c_simple::{Closing, optional};
+use c_simple::{Closing, optional, unboxed};
 use c_written::{Expr, ForStart, Keyword, Placed, Pos, Punctuator, Stmt};
 
 /// What stands before the statement of a `for`.
@@ -22,8 +21,8 @@ use c_written::{Expr, ForStart, Keyword, Placed, Pos, Punctuator, Stmt};
 pub struct ForHead {
     pub pos: Pos,
     pub start: ForStart,
-    pub condition: Option<Expr>,
-    pub step: Option<Expr>,
+    pub condition: Option<Box<Expr>>,
+    pub step: Option<Box<Expr>>,
 }
 
 /// The head of a `for`.
@@ -56,13 +55,15 @@ pub fn for_head<'a>(
 
 /// A `for`, of its head and its statement.
 pub fn for_stmt(head: ForHead, body: Box<Stmt>) -> Stmt
-    ensures { stmt_tree result ≡ For head.pos (forstart_tree head.start) (option_map (λ v. expr_tree v) head.condition) (option_map (λ v. expr_tree v) head.step) (boxed_tree body) }
+    ensures { stmt_tree result ≡ For head.pos (forstart_tree head.start) (option_map (λ v. boxed_expr v) head.condition) (option_map (λ v. boxed_expr v) head.step) (boxed_tree body) }
 {
+    let condition = unboxed(head.condition);
+    let step = unboxed(head.step);
     Stmt::For {
         pos: head.pos,
         start: head.start,
-        condition: head.condition,
-        step: head.step,
+        condition,
+        step,
         body,
     }
 }
@@ -87,5 +88,5 @@ fn for_start<'a>(
     }
     let (value, rest) = run(context, Level::Commas, count, tokens)?;
     let (_end, rest) = taken(context, count, 0, semicolon, rest)?;
-    Ok((ForStart::Value(value), rest))
+    Ok((ForStart::Value(Box::into_inner(value)), rest))
 }

@@ -2,6 +2,7 @@
 #![tactic(auto)]
 
 mod for_head;
+mod node;
 mod stmt;
 
 pub use stmt::block_items;

@@ -2,7 +2,6 @@
 #![tactic(auto)]
 
 ghost use Rattle.std.specs.Prelude.{◌≡◌, ℕ, ◌+◌, ◌<◌, ◌≤◌, Bool, true, not, ◌&&◌, List, length, IfOk};
-ghost use Rattle.c_written.specs.Written.{expr_tree};
 ghost use Rattle.c_written.specs.WrittenFile.{blockitem_tree, blockitems_from, blockitems_then, blockitems_tree, none, stmt_tree};
 ghost use Rattle.c_grammar.specs.Ahead.{label_ahead};
 ghost use Rattle.c_grammar.specs.Choice.{is_else_word};
@@ -11,11 +10,12 @@ ghost use Rattle.c_grammar.specs.Made.{ends_open};
 ghost use Rattle.c_grammar.specs.Parts as part;
 ghost use Rattle.c_grammar.specs.Refused.{first_is};
 ghost use Rattle.c_descent.specs.Answers.{Answers};
-ghost use Rattle.c_descent.specs.Views.{scene_of, setting_of};
+ghost use Rattle.c_descent.specs.Views.{boxed_expr, scene_of, setting_of};
 ghost use Rattle.c_simple.specs.Kinds.{StatementStarts};
 ghost use Rattle.c_stmts.specs.Kinds.{boxed_tree};
 
 use crate::for_head::{for_head, for_stmt};
+use crate::node::{case_stmt, do_stmt, if_else_stmt, if_stmt, switch_stmt, while_stmt};
 use c_decls::declaration;
 use c_descent::{
     Class, Context, Fault, Mark, Setting, comes, label_ahead, name_of, spec_ahead, taken,
@@ -104,14 +104,7 @@ fn case<'a>(
     let (value, rest) = conditional(context, count, behind)?;
     let (_colon, behind) = taken(context, count, 0, colon, rest)?;
     let (body, rest) = boxed(context, false, count + 1, behind)?;
-    Ok((
-        Stmt::Case {
-            pos: at.pos,
-            value,
-            body,
-        },
-        rest,
-    ))
+    Ok((case_stmt(at.pos, value, body), rest))
 }
 
 /// A default and its statement.
@@ -176,24 +169,17 @@ fn else_part<'a>(
     context: &Context<'_>,
     count: u32,
     at: Pos,
-    condition: Expr,
+    condition: Box<Expr>,
     then: Box<Stmt>,
     tokens: &'a [Placed],
 ) -> Result<(Stmt, &'a [Placed]), Fault<'a>>
-    ensures goes { Answers count (scene_of context.now) (part.AStmt (part.Else at (expr_tree condition) (boxed_tree then))) tokens.now (λ s. stmt_tree s) result }
+    ensures goes { Answers count (scene_of context.now) (part.AStmt (part.Else at (boxed_expr condition) (boxed_tree then))) tokens.now (λ s. stmt_tree s) result }
     ensures shorter { IfOk result (λ x. length x.1.now ≤ length tokens.now) }
 {
     if else_comes(&then, tokens) {
         return else_form(context, count, at, condition, then, tokens);
     }
-    Ok((
-        Stmt::If {
-            pos: at,
-            condition,
-            then,
-        },
-        tokens,
-    ))
+    Ok((if_stmt(at, condition, then), tokens))
 }
 
 /// Whether an else comes that is this if's.
@@ -209,25 +195,17 @@ fn else_form<'a>(
     context: &Context<'_>,
     count: u32,
     at: Pos,
-    condition: Expr,
+    condition: Box<Expr>,
     then: Box<Stmt>,
     tokens: &'a [Placed],
 ) -> Result<(Stmt, &'a [Placed]), Fault<'a>>
     requires { (first_is is_else_word tokens.now && not (ends_open (boxed_tree then))) ≡ true }
-    ensures goes { Answers count (scene_of context.now) (part.AStmt (part.Else at (expr_tree condition) (boxed_tree then))) tokens.now (λ s. stmt_tree s) result }
+    ensures goes { Answers count (scene_of context.now) (part.AStmt (part.Else at (boxed_expr condition) (boxed_tree then))) tokens.now (λ s. stmt_tree s) result }
     ensures shorter { IfOk result (λ x. length x.1.now < length tokens.now) }
 {
     let (_word, behind) = taken(context, count, 0, Class::Keyword(Keyword::Else), tokens)?;
     let (otherwise, rest) = substatement(context, false, count + 1, behind)?;
-    Ok((
-        Stmt::IfElse {
-            pos: at,
-            condition,
-            then,
-            otherwise,
-        },
-        rest,
-    ))
+    Ok((if_else_stmt(at, condition, then, otherwise), rest))
 }
 
 /// A switch.
@@ -245,14 +223,7 @@ fn choice<'a>(
     let (at, behind) = taken(context, count, 0, Class::Keyword(Keyword::Switch), tokens)?;
     let (value, rest) = condition(context, count, behind)?;
     let (body, rest) = substatement(context, true, count + 1, rest)?;
-    Ok((
-        Stmt::Switch {
-            pos: at.pos,
-            value,
-            body,
-        },
-        rest,
-    ))
+    Ok((switch_stmt(at.pos, value, body), rest))
 }
 
 /// A loop that begins with its condition.
@@ -270,14 +241,7 @@ fn while_loop<'a>(
     let (at, behind) = taken(context, count, 0, Class::Keyword(Keyword::While), tokens)?;
     let (condition, rest) = condition(context, count, behind)?;
     let (body, rest) = substatement(context, false, count + 1, rest)?;
-    Ok((
-        Stmt::While {
-            pos: at.pos,
-            condition,
-            body,
-        },
-        rest,
-    ))
+    Ok((while_stmt(at.pos, condition, body), rest))
 }
 
 /// A loop that ends with its condition.
@@ -298,14 +262,7 @@ fn do_loop<'a>(
     let (_word, behind) = taken(context, count, 0, Class::Keyword(Keyword::While), rest)?;
     let (condition, rest) = condition(context, count, behind)?;
     let (_end, rest) = taken(context, count, 0, semicolon, rest)?;
-    Ok((
-        Stmt::DoWhile {
-            pos: at.pos,
-            body,
-            condition,
-        },
-        rest,
-    ))
+    Ok((do_stmt(at.pos, body, condition), rest))
 }
 
 /// A `for`.

@@ -16,7 +16,7 @@ pub returns-in_err-push_declared-clause-goes : goal.returns-in_err-push_declared
 returns-in_err-push_declared-clause-goes c = starved c.from_residual-in_err-push_declared.ensures.1
 
 pub loop-comma-init : goal.loop-comma-init
-loop-comma-init c = ((λ o g. initialised_at c.in_ok-init.ensures.goes o (same_ending (c.in_ok-push_declared.ensures ∙ ap (λ (v : List InitDeclarator). map initdeclarator_tree v ++ initdeclarator_tree (record { declarator = c.args.first; init = c.in_ok-init.init }) ∷ []) c.new-inits.ensures.items) g)), omega (arith, c.in_ok-init.ensures.shorter))
+loop-comma-init c = ((λ o g. initialised_at c.in_ok-init.ensures.goes o (same_ending (c.in_ok-push_declared.ensures ∙ ap (λ (v : List InitDeclarator). map initdeclarator_tree v ++ initdeclarator_tree (record { declarator = c.args.first.value; init = c.in_ok-init.init }) ∷ []) c.new-inits.ensures.items) g)), omega (arith, c.in_ok-init.ensures.shorter))
 
 pub returns-in_err-_comma-clause-goes : goal.returns-in_err-_comma-clause-goes
 returns-in_err-_comma-clause-goes c = not_after c.from_residual-in_err-_comma.ensures.1 (begin {p = ADecl (Ending (specs_tree c.args.specs) (map initdeclarator_tree c.loop-comma.inits.items))} c.loop-comma.invariant.0 refl (if_false _ (sym c.comes.ensures ∙ c.loop-comma-test.true))) c.in_err-_comma.ensures.goes

@@ -4,7 +4,7 @@ use Rattle.c_written.specs.WrittenDecl.{init_tree, inits_from}
 use Rattle.c_grammar.specs.Parts.{Initialiser, Initialisers, MoreInitialisers, NextInitialiser}
 use Rattle.std.proofs.Common.{refl, sym, ◌∙◌, arith}
 use Rattle.std.specs.Prelude.{Ok, Err}
-use Rattle.c_written.proofs.WrittenDeclTrees.{init_value, init_braces}
+use Rattle.c_written.proofs.WrittenDeclTrees.{init_braces}
 use Rattle.c_descent.proofs.Steps.{borne, if_false, if_true, starved, unborne}
 use Rattle.c_decls.proofs.Starts.{brace_first}
 use Rattle.c_descent.proofs.Paths.{after, barred_at, begin, behind, decides, ends, goes_so, inside, not_after, not_behind, not_inside}
@@ -21,7 +21,7 @@ pub initialiser-returns-in_err-value-clause-goes : goal.initialiser-returns-in_e
 initialiser-returns-in_err-value-clause-goes t c = not_behind c.from_residual.ensures.1 (begin {p = Initialiser} (λ o g. g) (unborne _ (sym c.designator_ahead.ensures ∙ c.if-designator_ahead.false)) (if_false _ (sym c.comes.ensures ∙ c.if-comes.false))) c.in_err-value.ensures.goes
 
 pub initialiser-returns-clause-goes : goal.initialiser-returns-clause-goes
-initialiser-returns-clause-goes t c = ends (behind (begin {p = Initialiser} (λ o g. g) (unborne _ (sym c.designator_ahead.ensures ∙ c.if-designator_ahead.false)) (if_false _ (sym c.comes.ensures ∙ c.if-comes.false))) c.in_ok-value.ensures.goes) (init_value _)
+initialiser-returns-clause-goes t c = ends (behind (begin {p = Initialiser} (λ o g. g) (unborne _ (sym c.designator_ahead.ensures ∙ c.if-designator_ahead.false)) (if_false _ (sym c.comes.ensures ∙ c.if-comes.false))) c.in_ok-value.ensures.goes) c.value_init.ensures
 
 pub braces-returns-in_err-at-clause-goes : goal.braces-returns-in_err-at-clause-goes
 braces-returns-in_err-at-clause-goes t c = not_after c.from_residual.ensures.1 (begin {p = Initialiser} (λ o g. g) (unborne _ (brace_first _ c.requires)) (if_true _ c.requires)) c.in_err-at.ensures.goes

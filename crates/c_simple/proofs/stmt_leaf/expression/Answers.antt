@@ -1,8 +1,5 @@
-use Rattle.std.proofs.Common.{refl, ap, ◌∙◌}
+use Rattle.std.proofs.Common.{refl, ap}
 use Rattle.std.specs.Prelude.{not}
-use Rattle.c_written.specs.Written.{expr_tree}
-use Rattle.c_written.specs.WrittenFile as trees
-use Rattle.c_written.proofs.WrittenFileTrees.{stmt_expression}
 use Rattle.c_simple.specs.declared.stmt_kind.StatementKind.TheVariants as statements
 use Rattle.c_simple.proofs.Starts.{statement_begins}
 use Rattle.c_descent.proofs.Paths.{after, behind, ends, not_after, not_behind, where_so}
@@ -15,4 +12,4 @@ pub returns-in_err-_end-clause-goes : goal.returns-in_err-_end-clause-goes
 returns-in_err-_end-clause-goes c = λ b. not_after c.from_residual-in_err-_end.ensures.1 (behind (where_so (statement_begins statements.Expression c.requires refl) (ap not c.requires.0)) c.in_ok-value.ensures.goes) c.in_err-_end.ensures.goes
 
 pub returns-clause-goes : goal.returns-clause-goes
-returns-clause-goes c = λ b. ends (after (behind (where_so (statement_begins statements.Expression c.requires refl) (ap not c.requires.0)) c.in_ok-value.ensures.goes) c.in_ok-_end.ensures.goes) (stmt_expression _ _ ∙ ap (λ p. trees.Expression p (expr_tree c.in_ok-value.value)) c.pos.ensures)
+returns-clause-goes c = λ b. ends (after (behind (where_so (statement_begins statements.Expression c.requires refl) (ap not c.requires.0)) c.in_ok-value.ensures.goes) c.in_ok-_end.ensures.goes) c.expression_stmt.ensures

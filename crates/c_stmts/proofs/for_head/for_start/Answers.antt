@@ -1,6 +1,9 @@
 use Rattle.c_grammar.specs.Parts.{ForStart}
 use Rattle.std.proofs.Common.{refl, sym, ap, ◌∙◌}
 use Rattle.std.specs.Prelude.{not}
+use Rattle.c_written.specs.declared.written.Expr.{Expr}
+use Rattle.c_written.specs.Written.{expr_tree}
+use Rattle.c_written.specs.WrittenFile as trees
 use Rattle.c_written.proofs.WrittenFileTrees.{forstart_nothing, forstart_value, forstart_declares}
 use Rattle.c_descent.proofs.Steps.{if_false, if_true}
 use Rattle.c_descent.proofs.Paths.{after, begin, behind, ends, not_after, not_behind, where_so}
@@ -25,4 +28,4 @@ pub returns-in_err-_end-2-clause-goes : goal.returns-in_err-_end-2-clause-goes
 returns-in_err-_end-2-clause-goes c = not_after c.from_residual-in_err-_end-2.ensures.1 (behind (where_so (begin {p = ForStart} (λ o g. g) refl (if_false _ (sym c.comes.ensures ∙ c.if-comes.false) ∙ if_false _ (sym c.spec_ahead.ensures ∙ c.if-spec_ahead.false))) (ap not (sym c.spec_ahead.ensures ∙ c.if-spec_ahead.false))) c.in_ok-value.ensures.goes) c.in_err-_end-2.ensures.goes
 
 pub returns-clause-goes : goal.returns-clause-goes
-returns-clause-goes c = ends (after (behind (where_so (begin {p = ForStart} (λ o g. g) refl (if_false _ (sym c.comes.ensures ∙ c.if-comes.false) ∙ if_false _ (sym c.spec_ahead.ensures ∙ c.if-spec_ahead.false))) (ap not (sym c.spec_ahead.ensures ∙ c.if-spec_ahead.false))) c.in_ok-value.ensures.goes) c.in_ok-_end-2.ensures.goes) (forstart_value _)
+returns-clause-goes c = ends (after (behind (where_so (begin {p = ForStart} (λ o g. g) refl (if_false _ (sym c.comes.ensures ∙ c.if-comes.false) ∙ if_false _ (sym c.spec_ahead.ensures ∙ c.if-spec_ahead.false))) (ap not (sym c.spec_ahead.ensures ∙ c.if-spec_ahead.false))) c.in_ok-value.ensures.goes) c.in_ok-_end-2.ensures.goes) (forstart_value _ ∙ ap (λ (v : Expr). trees.Value (expr_tree v)) c.into_inner.ensures)

@@ -1,4 +1,3 @@
-use Rattle.c_written.specs.Written.{expr_tree}
 use Rattle.c_grammar.specs.Parts.{AStmt, Statement, Else, Item, Items}
 use Rattle.std.proofs.Common.{refl, sym, ap, ◌∙◌, arith}
 use Rattle.std.specs.Prelude.{not, ◌&&◌}
@@ -9,8 +8,8 @@ use Rattle.c_grammar.specs.Refused.{first_is}
 use Rattle.c_written.specs.WrittenFile as trees
 use Rattle.c_written.specs.WrittenFile.{stmt_tree, blockitems_from}
 use Rattle.c_grammar.proofs.Sweep.{and_right}
-use Rattle.c_descent.specs.Views.{scene_of}
-use Rattle.c_written.proofs.WrittenFileTrees.{blockitem_declaration, blockitem_statement, blockitems_nil, stmt_block, stmt_case, stmt_default, stmt_do_while, stmt_if, stmt_if_else, stmt_label, stmt_switch, stmt_while}
+use Rattle.c_descent.specs.Views.{boxed_expr, scene_of}
+use Rattle.c_written.proofs.WrittenFileTrees.{blockitem_declaration, blockitem_statement, blockitems_nil, stmt_block, stmt_default, stmt_label}
 use Rattle.c_stmts.specs.Kinds.{boxed_tree}
 use Rattle.c_simple.specs.declared.stmt_kind.StatementKind.TheVariants as statements
 use Rattle.c_descent.proofs.Steps.{failed, halt, halts, if_false, if_true, starved}
@@ -49,7 +48,7 @@ pub case-returns-in_err-body-clause-goes : goal.case-returns-in_err-body-clause-
 case-returns-in_err-body-clause-goes t c = not_inside c.from_residual-in_err-body.ensures.1 (after (behind (after (statement_begins statements.Case c.requires refl) c.in_ok-at.ensures.goes) c.in_ok-value.ensures.goes) c.in_ok-_colon.ensures.goes) c.in_err-body.ensures.goes
 
 pub case-returns-clause-goes : goal.case-returns-clause-goes
-case-returns-clause-goes t c = ends (inside (after (behind (after (statement_begins statements.Case c.requires refl) c.in_ok-at.ensures.goes) c.in_ok-value.ensures.goes) c.in_ok-_colon.ensures.goes) c.in_ok-body.ensures.goes) (stmt_case _ _ _)
+case-returns-clause-goes t c = ends (inside (after (behind (after (statement_begins statements.Case c.requires refl) c.in_ok-at.ensures.goes) c.in_ok-value.ensures.goes) c.in_ok-_colon.ensures.goes) c.in_ok-body.ensures.goes) c.case_stmt.ensures
 
 pub otherwise-returns-in_err-at-clause-goes : goal.otherwise-returns-in_err-at-clause-goes
 otherwise-returns-in_err-at-clause-goes t c = not_after c.from_residual.ensures.1 (statement_begins statements.Default c.requires refl) c.in_err-at.ensures.goes
@@ -97,7 +96,7 @@ pub choice-returns-in_err-body-clause-goes : goal.choice-returns-in_err-body-cla
 choice-returns-in_err-body-clause-goes t c = not_inside c.from_residual-in_err-body.ensures.1 (tried (after (statement_begins statements.Switch c.requires refl) c.in_ok-at.ensures.goes) c.in_ok-value.ensures.goes) c.in_err-body.ensures.goes
 
 pub choice-returns-clause-goes : goal.choice-returns-clause-goes
-choice-returns-clause-goes t c = ends (inside (tried (after (statement_begins statements.Switch c.requires refl) c.in_ok-at.ensures.goes) c.in_ok-value.ensures.goes) c.in_ok-body.ensures.goes) (stmt_switch _ _ _)
+choice-returns-clause-goes t c = ends (inside (tried (after (statement_begins statements.Switch c.requires refl) c.in_ok-at.ensures.goes) c.in_ok-value.ensures.goes) c.in_ok-body.ensures.goes) c.switch_stmt.ensures
 
 pub while_loop-returns-in_err-at-clause-goes : goal.while_loop-returns-in_err-at-clause-goes
 while_loop-returns-in_err-at-clause-goes t c = not_after c.from_residual.ensures.1 (statement_begins statements.While c.requires refl) c.in_err-at.ensures.goes
@@ -109,7 +108,7 @@ pub while_loop-returns-in_err-body-clause-goes : goal.while_loop-returns-in_err-
 while_loop-returns-in_err-body-clause-goes t c = not_inside c.from_residual-in_err-body.ensures.1 (tried (after (statement_begins statements.While c.requires refl) c.in_ok-at.ensures.goes) c.in_ok-condition.ensures.goes) c.in_err-body.ensures.goes
 
 pub while_loop-returns-clause-goes : goal.while_loop-returns-clause-goes
-while_loop-returns-clause-goes t c = ends (inside (tried (after (statement_begins statements.While c.requires refl) c.in_ok-at.ensures.goes) c.in_ok-condition.ensures.goes) c.in_ok-body.ensures.goes) (stmt_while _ _ _)
+while_loop-returns-clause-goes t c = ends (inside (tried (after (statement_begins statements.While c.requires refl) c.in_ok-at.ensures.goes) c.in_ok-condition.ensures.goes) c.in_ok-body.ensures.goes) c.while_stmt.ensures
 
 pub do_loop-returns-in_err-at-clause-goes : goal.do_loop-returns-in_err-at-clause-goes
 do_loop-returns-in_err-at-clause-goes t c = not_after c.from_residual.ensures.1 (statement_begins statements.Do c.requires refl) c.in_err-at.ensures.goes
@@ -127,7 +126,7 @@ pub do_loop-returns-in_err-_end-clause-goes : goal.do_loop-returns-in_err-_end-c
 do_loop-returns-in_err-_end-clause-goes t c = not_after c.from_residual-in_err-_end.ensures.1 (tried (after (inside (after (statement_begins statements.Do c.requires refl) c.in_ok-at.ensures.goes) c.in_ok-body.ensures.goes) c.in_ok-_word.ensures.goes) c.in_ok-condition.ensures.goes) c.in_err-_end.ensures.goes
 
 pub do_loop-returns-clause-goes : goal.do_loop-returns-clause-goes
-do_loop-returns-clause-goes t c = ends (after (tried (after (inside (after (statement_begins statements.Do c.requires refl) c.in_ok-at.ensures.goes) c.in_ok-body.ensures.goes) c.in_ok-_word.ensures.goes) c.in_ok-condition.ensures.goes) c.in_ok-_end.ensures.goes) (stmt_do_while _ _ _)
+do_loop-returns-clause-goes t c = ends (after (tried (after (inside (after (statement_begins statements.Do c.requires refl) c.in_ok-at.ensures.goes) c.in_ok-body.ensures.goes) c.in_ok-_word.ensures.goes) c.in_ok-condition.ensures.goes) c.in_ok-_end.ensures.goes) c.do_stmt.ensures
 
 pub for_loop-returns-in_err-head-clause-goes : goal.for_loop-returns-in_err-head-clause-goes
 for_loop-returns-in_err-head-clause-goes t c = not_led c.from_residual.ensures.1 (c.in_err-head.ensures.goes c.args.switched)
@@ -193,13 +192,13 @@ pub else_part-returns-then-else_comes-clause-goes : goal.else_part-returns-then-
 else_part-returns-then-else_comes-clause-goes t c = c.else_form.ensures.goes
 
 pub else_part-returns-clause-goes : goal.else_part-returns-clause-goes
-else_part-returns-clause-goes t c = ends (begin {p = AStmt (Else c.args.at (expr_tree c.args.condition) (boxed_tree c.args.then))} (λ o g. g) refl (if_false _ (ap (λ (v : Stmt). first_is is_else_word c.args.tokens.now && not (ends_open (stmt_tree v))) (sym c.deref.ensures) ∙ sym c.else_comes.ensures ∙ c.if-else_comes.false))) (stmt_if _ _ _)
+else_part-returns-clause-goes t c = ends (begin {p = AStmt (Else c.args.at (boxed_expr c.args.condition) (boxed_tree c.args.then))} (λ o g. g) refl (if_false _ (ap (λ (v : Stmt). first_is is_else_word c.args.tokens.now && not (ends_open (stmt_tree v))) (sym c.deref.ensures) ∙ sym c.else_comes.ensures ∙ c.if-else_comes.false))) c.if_stmt.ensures
 
 pub else_form-returns-in_err-_word-clause-goes : goal.else_form-returns-in_err-_word-clause-goes
-else_form-returns-in_err-_word-clause-goes t c = not_after c.from_residual.ensures.1 (where_so (begin {p = AStmt (Else c.args.at (expr_tree c.args.condition) (boxed_tree c.args.then))} (λ o g. g) refl (if_true _ c.requires)) (and_right _ _ c.requires)) c.in_err-_word.ensures.goes
+else_form-returns-in_err-_word-clause-goes t c = not_after c.from_residual.ensures.1 (where_so (begin {p = AStmt (Else c.args.at (boxed_expr c.args.condition) (boxed_tree c.args.then))} (λ o g. g) refl (if_true _ c.requires)) (and_right _ _ c.requires)) c.in_err-_word.ensures.goes
 
 pub else_form-returns-in_err-otherwise-clause-goes : goal.else_form-returns-in_err-otherwise-clause-goes
-else_form-returns-in_err-otherwise-clause-goes t c = not_inside c.from_residual-in_err-otherwise.ensures.1 (after (where_so (begin {p = AStmt (Else c.args.at (expr_tree c.args.condition) (boxed_tree c.args.then))} (λ o g. g) refl (if_true _ c.requires)) (and_right _ _ c.requires)) c.in_ok-_word.ensures.goes) c.in_err-otherwise.ensures.goes
+else_form-returns-in_err-otherwise-clause-goes t c = not_inside c.from_residual-in_err-otherwise.ensures.1 (after (where_so (begin {p = AStmt (Else c.args.at (boxed_expr c.args.condition) (boxed_tree c.args.then))} (λ o g. g) refl (if_true _ c.requires)) (and_right _ _ c.requires)) c.in_ok-_word.ensures.goes) c.in_err-otherwise.ensures.goes
 
 pub else_form-returns-clause-goes : goal.else_form-returns-clause-goes
-else_form-returns-clause-goes t c = ends (inside (after (where_so (begin {p = AStmt (Else c.args.at (expr_tree c.args.condition) (boxed_tree c.args.then))} (λ o g. g) refl (if_true _ c.requires)) (and_right _ _ c.requires)) c.in_ok-_word.ensures.goes) c.in_ok-otherwise.ensures.goes) (stmt_if_else _ _ _ _)
+else_form-returns-clause-goes t c = ends (inside (after (where_so (begin {p = AStmt (Else c.args.at (boxed_expr c.args.condition) (boxed_tree c.args.then))} (λ o g. g) refl (if_true _ c.requires)) (and_right _ _ c.requires)) c.in_ok-_word.ensures.goes) c.in_ok-otherwise.ensures.goes) c.if_else_stmt.ensures
