@@ -2,7 +2,7 @@
 #![tactic(auto, using(c_written::proofs::Trees::the_written_trees))]
 
 ghost use Rattle.std.specs.Prelude.{◌≡◌, IfOk, option_map};
-ghost use Rattle.c_written.specs.Written.{declarator_tree, declarators_from, declarators_then, enumerator_tree, enumerators_from, enumerators_then, expr_tree, memberdecl_tree, memberdecls_from, memberdecls_then, more_declarators, more_enumerators, more_members, more_params, more_specs, no_declarators, no_enumerators, no_members, no_params, no_specs, param_tree, params_from, params_then, spec_tree, specs_from, specs_then, specs_tree, Array, Grouped, OpenArray, Pointer, Valued, Function, Members};
+ghost use Rattle.c_written.specs.Written.{declarator_tree, declarators_from, declarators_then, enumerator_tree, enumerators_from, enumerators_then, memberdecl_tree, memberdecls_from, memberdecls_then, more_declarators, more_enumerators, more_members, more_params, more_specs, no_declarators, no_enumerators, no_members, no_params, no_specs, param_tree, params_from, params_then, spec_tree, specs_from, specs_then, specs_tree, Array, Grouped, OpenArray, Pointer, Valued, Function, Members};
 ghost use Rattle.c_grammar.specs.Made.{declared_word, function_of, is_bare_void, is_given, is_type, param_of, specs_pos};
 ghost use Rattle.c_descent.specs.Kinds.{is_void_alone, is_void_spec, is_void_word};
 ghost use Rattle.c_descent.specs.Views.{boxed_declarator, boxed_expr};

@@ -22,8 +22,8 @@ use c_leaves::{
     structure_head, structure_of, tells_type, type_comes_again, typedef_name,
 };
 use c_written::{
-    Construct, Declarator, Enumerator, Enumerators, Keyword, MemberDecl, MemberDecls, Name, Placed,
-    Pos, Punctuator, Spec, Specs, Tag,
+    Construct, Declarator, Enumerator, Enumerators, MemberDecl, MemberDecls, Name, Placed, Pos,
+    Punctuator, Spec, Specs, Tag,
 };
 
 /// Specs, as many as there are.

@@ -1,5 +1,5 @@
 -- Steps of the descent through what begins a struct or an enumeration.
-use Rattle.std.proofs.Common.{◌≡◌, refl, sym, subst, ℕ, true, false, List, [], ◌∷◌}
+use Rattle.std.proofs.Common.{◌≡◌, refl, subst, ℕ, true, false, List, [], ◌∷◌}
 use Rattle.std.specs.Prelude.{Option, Some, None, IfSome}
 use Rattle.c_written.specs.declared.place.Pos.{Pos}
 use Rattle.c_written.specs.declared.token.Placed.{Placed}
@@ -17,7 +17,6 @@ use Rattle.c_grammar.specs.Grammar.{type_rule}
 use Rattle.c_grammar.specs.TypeRules as types
 use Rattle.c_grammar.specs.Refused.{first_is, is_brace}
 use Rattle.c_grammar.specs.Descent.{Outcome, Done, Stop, Goes, Follows, is_done, no_rule, refusal}
-use Rattle.c_descent.specs.declared.type_kind.TagKind.{TagKind}
 use Rattle.c_descent.specs.declared.type_kind.TagKind.TheVariants as tags
 use Rattle.c_descent.specs.Kinds.{tag_at, tag_of}
 use Rattle.c_descent.proofs.Steps.{by, here, stops_here, done, if_true, if_false}

@@ -1,7 +1,6 @@
 -- How the functions of the cycle read their parts.
 use Rattle.std.proofs.Common.{refl, sym, ap, ◌∙◌, not, arith}
 use Rattle.c_written.specs.Written as trees
-use Rattle.c_written.specs.Written.{exprs_from, exprs_tree}
 use Rattle.c_written.proofs.WrittenTrees.{spec_struct_body, spec_enum_body, enumerator_plain}
 use Rattle.c_grammar.specs.Parts as part
 use Rattle.c_grammar.specs.Process as process

@@ -1,5 +1,5 @@
 use Rattle.std.proofs.Common.{◌+◌, ◌*◌, ◌≤◌, length, ◌≡◌}
-use Rattle.c_written.specs.Written.{ExprTree, ExprTrees, expr_tree, exprs_from, DeclaratorTree, EnumeratorTrees, MemberDeclTree, MemberDeclTrees, SpecTrees, declarator_tree, declarators_from, enumerators_from, memberdecls_from, params_from, specs_from, specs_tree}
+use Rattle.c_written.specs.Written.{ExprTree, ExprTrees, exprs_from, DeclaratorTree, EnumeratorTrees, MemberDeclTree, MemberDeclTrees, SpecTrees, declarators_from, enumerators_from, memberdecls_from, params_from, specs_from, specs_tree}
 use Rattle.c_grammar.specs.Parts as part
 use Rattle.c_grammar.specs.Descent.{Outcome, Goes}
 use Rattle.c_descent.specs.Views.{boxed_declarator, boxed_expr, scene_of, level_view, role_view}
