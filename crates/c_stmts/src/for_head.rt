@@ -1,14 +1,14 @@
 // The head of a `for`.
 #![tactic(auto)]
 
-ghost use Rattle.std.specs.Prelude.{◌≡◌, ℕ, ◌+◌, ◌<◌, ◌≤◌, Bool, List, length, option_map, IfOk};
+ghost use Rattle.std.specs.Prelude.{◌≡◌, ℕ, ◌+◌, ◌<◌, ◌≤◌, Bool, List, Option, length, IfOk};
 ghost use Rattle.c_written.specs.WrittenFile.{For, forstart_tree, stmt_tree};
 ghost use Rattle.c_grammar.specs.Parts as part;
 ghost use Rattle.c_descent.specs.Answers.{Answers};
-ghost use Rattle.c_descent.specs.Views.{boxed_expr, scene_of};
-ghost use Rattle.c_simple.specs.Kinds.{StatementStarts};
+ghost use Rattle.c_descent.specs.Views.{scene_of};
+ghost use Rattle.c_simple.specs.Kinds.{StatementStarts, closing_view};
 ghost use Rattle.c_simple.specs.declared.stmt_kind.StatementKind.{StatementKind};
-ghost use Rattle.c_stmts.specs.Kinds.{ForHeads, boxed_tree};
+ghost use Rattle.c_stmts.specs.Kinds.{ForHeads, boxed_option, boxed_tree};
 
 use c_decls::declaration;
 use c_descent::{Class, Context, Fault, Level, Mark, comes, spec_ahead, taken};
@@ -16,13 +16,13 @@ use c_exprs::run;
 use c_simple::{Closing, optional, unboxed};
 use c_written::{Expr, ForStart, Keyword, Placed, Pos, Punctuator, Stmt};
 
-/// What stands before the statement of a `for`.
+/// What stands before the statement of a `for`, each part in a box of its own.
 #[derive(Drop)]
 pub struct ForHead {
     pub pos: Pos,
-    pub start: ForStart,
-    pub condition: Option<Box<Expr>>,
-    pub step: Option<Box<Expr>>,
+    pub start: Box<ForStart>,
+    pub condition: Box<Option<Expr>>,
+    pub step: Box<Option<Expr>>,
 }
 
 /// The head of a `for`.
@@ -39,9 +39,9 @@ pub fn for_head<'a>(
     let opens = Class::Sign(Punctuator::LeftParenthesis);
     let (at, behind) = taken(context, count, 0, Class::Keyword(Keyword::For), tokens)?;
     let (_opening, behind) = taken(context, count, 1, opens, behind)?;
-    let (start, rest) = for_start(context, count + 1, behind)?;
-    let (condition, rest) = optional(context, Closing::BySemicolon, count + 1, rest)?;
-    let (step, rest) = optional(context, Closing::ByParenthesis, count + 1, rest)?;
+    let (start, rest) = boxed_start(context, count + 1, behind)?;
+    let (condition, rest) = boxed_optional(context, Closing::BySemicolon, count + 1, rest)?;
+    let (step, rest) = boxed_optional(context, Closing::ByParenthesis, count + 1, rest)?;
     Ok((
         ForHead {
             pos: at.pos,
@@ -55,17 +55,46 @@ pub fn for_head<'a>(
 
 /// A `for`, of its head and its statement.
 pub fn for_stmt(head: ForHead, body: Box<Stmt>) -> Stmt
-    ensures { stmt_tree result ≡ For head.pos (forstart_tree head.start) (option_map (λ v. boxed_expr v) head.condition) (option_map (λ v. boxed_expr v) head.step) (boxed_tree body) }
+    ensures { stmt_tree result ≡ For head.pos (forstart_tree head.start.value) (boxed_option head.condition) (boxed_option head.step) (boxed_tree body) }
 {
-    let condition = unboxed(head.condition);
-    let step = unboxed(head.step);
+    let start = Box::into_inner(head.start);
+    let condition = Box::into_inner(head.condition);
+    let step = Box::into_inner(head.step);
     Stmt::For {
         pos: head.pos,
-        start: head.start,
+        start,
         condition,
         step,
         body,
     }
+}
+
+/// An expression that may be missing, and what ends it.
+fn boxed_optional<'a>(
+    context: &Context<'_>,
+    closing: Closing,
+    count: u32,
+    tokens: &'a [Placed],
+) -> Result<(Box<Option<Expr>>, &'a [Placed]), Fault<'a>>
+    ensures goes { Answers count (scene_of context.now) (part.Optionally (closing_view closing)) tokens.now (λ e. boxed_option e) result }
+    ensures shorter { IfOk result (λ x. length x.1.now < length tokens.now) }
+{
+    let (value, rest) = optional(context, closing, count, tokens)?;
+    let whole = Box::new(context.alloc, unboxed(value))?;
+    Ok((whole, rest))
+}
+
+/// How a `for` begins, up to its first semicolon.
+fn boxed_start<'a>(
+    context: &Context<'_>,
+    count: u32,
+    tokens: &'a [Placed],
+) -> Result<(Box<ForStart>, &'a [Placed]), Fault<'a>>
+    ensures goes { Answers count (scene_of context.now) part.ForStart tokens.now (λ s. forstart_tree s.value) result }
+    ensures shorter { IfOk result (λ x. length x.1.now < length tokens.now) }
+{
+    let (start, rest) = for_start(context, count, tokens)?;
+    Ok((Box::new(context.alloc, start)?, rest))
 }
 
 /// How a `for` begins, up to its first semicolon.
