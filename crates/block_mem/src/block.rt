@@ -41,6 +41,7 @@ impl Block {
         })
     }
 
+    /// The bytes, from the first to the last.
     pub fn bytes(&self) -> &[Byte]
         ensures { result.now ≡ self.now.bytes }
     {

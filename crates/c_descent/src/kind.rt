@@ -48,6 +48,7 @@ pub enum PrimaryKind {
     Neither,
 }
 
+/// What follows a conditional: an assignment operator, or none.
 pub fn assign_at(tokens: &[Placed]) -> AssignKind
     ensures { result ≡ assign_at tokens.now }
 {
@@ -94,6 +95,7 @@ pub fn assign_sign(op: AssignOp) -> Punctuator
     }
 }
 
+/// What a unary expression begins with.
 pub fn prefix_at(tokens: &[Placed]) -> PrefixKind
     ensures { result ≡ prefix_at tokens.now }
 {
@@ -157,6 +159,7 @@ pub fn step_sign(way: StepWay) -> Punctuator
     }
 }
 
+/// What follows an operand: a postfix form, or none.
 pub fn suffix_at(tokens: &[Placed]) -> SuffixKind
     ensures { result ≡ suffix_at tokens.now }
 {
@@ -180,6 +183,7 @@ fn suffix_of(sign: Punctuator) -> SuffixKind
     }
 }
 
+/// What a primary expression begins with.
 pub fn primary_at(context: &Context<'_>, tokens: &[Placed]) -> PrimaryKind
     ensures { result ≡ primary_at (scene_of context.now) tokens.now }
 {

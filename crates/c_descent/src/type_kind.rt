@@ -82,6 +82,7 @@ impl Role {
     }
 }
 
+/// Which spec comes.
 pub fn spec_at(context: &Context<'_>, tokens: &[Placed]) -> SpecKind
     ensures { result ≡ spec_at (scene_of context.now) tokens.now }
 {
@@ -160,6 +161,7 @@ pub fn type_word(word: TypeWord) -> Keyword
     }
 }
 
+/// What follows `struct` or `enum`.
 pub fn tag_at(tokens: &[Placed]) -> TagKind
     ensures { result ≡ tag_at tokens.now }
 {
@@ -183,6 +185,7 @@ fn tag_of(token: &Token) -> TagKind
     }
 }
 
+/// What a declarator of this role begins with, behind its stars.
 pub fn direct_at(context: &Context<'_>, role: Role, tokens: &[Placed]) -> DirectKind
     ensures { result ≡ direct_at (scene_of context.now) (role_view role) tokens.now }
 {
@@ -227,6 +230,7 @@ fn nameless_kind(role: Role) -> DirectKind
     }
 }
 
+/// What follows a declarator: brackets, parameters, or neither.
 pub fn tail_at(tokens: &[Placed]) -> TailKind
     ensures { result ≡ tail_at tokens.now }
 {

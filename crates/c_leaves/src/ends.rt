@@ -55,14 +55,14 @@ pub fn comma_end<'a>(
     Ok((Enumerators::from_vec(items), rest))
 }
 
-// A typedef name comes behind specs that tell a type.
+/// A typedef name comes behind specs that tell a type.
 pub fn type_comes_again(context: &Context<'_>, has_type: bool, tokens: &[Placed]) -> bool
     ensures { result ≡ (first_is (is_type_name (scene_of context.now)) tokens.now && has_type) }
 {
     type_name_ahead(context, tokens) && has_type
 }
 
-// Whether specs tell a type, with one more.
+/// Whether specs tell a type, with one more.
 pub fn tells_type(before: bool, next: &Spec) -> bool
     ensures { result ≡ (before || is_type (spec_tree next.now)) }
 {

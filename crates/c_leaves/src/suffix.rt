@@ -115,13 +115,14 @@ pub fn word_of(base: Box<Expr>) -> (Pos, Name)
     }
 }
 
-// The parenthesis of a call comes, and no plain word stands before it.
+/// The parenthesis of a call comes, and no plain word stands before it.
 pub fn calls_no_word(base: &Expr, tokens: &[Placed]) -> bool
     ensures { result ≡ (first_is is_open tokens.now && not (is_word (expr_tree base.now))) }
 {
     comes(Mark::Open, tokens) && !is_word(base)
 }
 
+/// Whether no postfix form comes.
 pub fn is_no_suffix(kind: SuffixKind) -> bool
     ensures { result ≡ is_no_suffix kind }
 {

@@ -77,20 +77,21 @@ pub fn no_parameters<'a>(
     Ok((whole, rest))
 }
 
-// Parameters come where a name is missing.
+/// Parameters come where a name is missing.
 pub fn params_come(context: &Context<'_>, role: Role, tokens: &[Placed]) -> bool
     ensures { result ≡ (may_omit (role_view role) && params_ahead (scene_of context.now) tokens.now) }
 {
     role.may_omit() && params_ahead(context, tokens)
 }
 
-// The parenthesis of parameters comes, and no plain word stands before it.
+/// The parenthesis of parameters comes, and no plain word stands before it.
 pub fn calls_no_name(is_plain: bool, inner: &Declarator, tokens: &[Placed]) -> bool
     ensures { result ≡ (first_is is_open tokens.now && (not is_plain && is_given (declarator_tree inner.now))) }
 {
     comes(Mark::Open, tokens) && !is_plain && is_given(inner)
 }
 
+/// Whether neither brackets nor parameters come.
 pub fn is_no_tail(kind: TailKind) -> bool
     ensures { result ≡ is_no_tail kind }
 {

@@ -184,6 +184,7 @@ impl Facts {
         items
     }
 
+    /// The facts, in their order.
     pub fn as_slice(&self) -> &[Fact]
         ensures { result.now ≡ self.now }
     {
@@ -233,6 +234,7 @@ impl Alarms {
         items
     }
 
+    /// The alarms, in their order.
     pub fn as_slice(&self) -> &[Alarm]
         ensures { result.now ≡ self.now }
     {

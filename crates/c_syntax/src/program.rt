@@ -113,6 +113,7 @@ impl Members {
         items
     }
 
+    /// The members, in their order.
     pub fn as_slice(&self) -> &[Member]
         ensures { result.now ≡ self.now }
     {
@@ -166,6 +167,7 @@ impl StructDefs {
         items
     }
 
+    /// The structs, in their order.
     pub fn as_slice(&self) -> &[StructDef]
         ensures { result.now ≡ self.now }
     {
@@ -219,6 +221,7 @@ impl Objects {
         items
     }
 
+    /// The objects, in their order.
     pub fn as_slice(&self) -> &[Object]
         ensures { result.now ≡ self.now }
     {
@@ -273,6 +276,7 @@ impl TFunctions {
         items
     }
 
+    /// The functions, in their order.
     pub fn as_slice(&self) -> &[TFunction]
         ensures { result.now ≡ self.now }
     {
@@ -322,6 +326,7 @@ impl InitBytes {
         items
     }
 
+    /// The bytes, in their order.
     pub fn as_slice(&self) -> &[InitByte]
         ensures { result.now ≡ self.now }
     {
@@ -371,6 +376,7 @@ impl Initials {
         items
     }
 
+    /// The initial values, in their order.
     pub fn as_slice(&self) -> &[Initial]
         ensures { result.now ≡ self.now }
     {

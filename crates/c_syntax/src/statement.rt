@@ -190,6 +190,7 @@ impl TStmts {
         items
     }
 
+    /// The statements, in their order.
     pub fn as_slice(&self) -> &[TStmt]
         ensures { tstmts_from result.now ≡ tstmts_tree self.now }
     {
@@ -244,6 +245,7 @@ impl TInits {
         items
     }
 
+    /// The initialisers, in their order.
     pub fn as_slice(&self) -> &[TInit]
         ensures { result.now ≡ self.now }
     {

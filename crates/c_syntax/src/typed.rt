@@ -265,6 +265,7 @@ impl TExprs {
         items
     }
 
+    /// The expressions, in their order.
     pub fn as_slice(&self) -> &[TExpr]
         ensures { texprs_from result.now ≡ texprs_tree self.now }
     {

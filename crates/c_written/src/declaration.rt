@@ -67,6 +67,7 @@ impl Inits {
         items
     }
 
+    /// The initialisers, in their order.
     pub fn as_slice(&self) -> &[Init]
         ensures { inits_from result.now ≡ inits_tree self.now }
     {
@@ -121,6 +122,7 @@ impl InitDeclarators {
         items
     }
 
+    /// The declarators, in their order.
     pub fn as_slice(&self) -> &[InitDeclarator]
         ensures { result.now ≡ self.now }
     {

@@ -182,6 +182,7 @@ impl BlockItems {
         items
     }
 
+    /// The items, in their order.
     pub fn as_slice(&self) -> &[BlockItem]
         ensures { blockitems_from result.now ≡ blockitems_tree self.now }
     {
@@ -238,6 +239,7 @@ impl Outers {
         items
     }
 
+    /// The declarations and functions, in their order.
     pub fn as_slice(&self) -> &[Outer]
         ensures { result.now ≡ self.now }
     {

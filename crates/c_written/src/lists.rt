@@ -45,6 +45,7 @@ impl Name {
         items
     }
 
+    /// The bytes, in their order.
     pub fn as_slice(&self) -> &[u8]
         ensures { result.now ≡ self.now }
     {
@@ -93,6 +94,7 @@ impl Bytes {
         items
     }
 
+    /// The bytes, in their order.
     pub fn as_slice(&self) -> &[u8]
         ensures { result.now ≡ self.now }
     {
@@ -141,6 +143,7 @@ impl Numbers {
         items
     }
 
+    /// The numbers, in their order.
     pub fn as_slice(&self) -> &[u64]
         ensures { result.now ≡ self.now }
     {
@@ -190,6 +193,7 @@ impl Places {
         items
     }
 
+    /// The places, in their order.
     pub fn as_slice(&self) -> &[Pos]
         ensures { result.now ≡ self.now }
     {
@@ -238,6 +242,7 @@ impl Names {
         items
     }
 
+    /// The names, in their order.
     pub fn as_slice(&self) -> &[Name]
         ensures { result.now ≡ self.now }
     {

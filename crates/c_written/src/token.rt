@@ -184,6 +184,7 @@ impl PlacedList {
         items
     }
 
+    /// The tokens, in their order.
     pub fn as_slice(&self) -> &[Placed]
         ensures { result.now ≡ self.now }
     {
@@ -233,6 +234,7 @@ impl Marks {
         items
     }
 
+    /// The marks, in their order.
     pub fn as_slice(&self) -> &[Mark]
         ensures { result.now ≡ self.now }
     {

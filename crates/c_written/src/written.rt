@@ -438,6 +438,7 @@ impl Exprs {
         items
     }
 
+    /// The expressions, in their order.
     pub fn as_slice(&self) -> &[Expr]
         ensures { exprs_from result.now ≡ exprs_tree self.now }
     {
@@ -461,6 +462,7 @@ impl Specs {
         items
     }
 
+    /// The specs, in their order.
     pub fn as_slice(&self) -> &[Spec]
         ensures { specs_from result.now ≡ specs_tree self.now }
     {
@@ -484,6 +486,7 @@ impl MemberDecls {
         items
     }
 
+    /// The lines of members, in their order.
     pub fn as_slice(&self) -> &[MemberDecl]
         ensures { memberdecls_from result.now ≡ memberdecls_tree self.now }
     {
@@ -507,6 +510,7 @@ impl Enumerators {
         items
     }
 
+    /// The constants, in their order.
     pub fn as_slice(&self) -> &[Enumerator]
         ensures { enumerators_from result.now ≡ enumerators_tree self.now }
     {
@@ -530,6 +534,7 @@ impl Declarators {
         items
     }
 
+    /// The declarators, in their order.
     pub fn as_slice(&self) -> &[Declarator]
         ensures { declarators_from result.now ≡ declarators_tree self.now }
     {
@@ -562,6 +567,7 @@ impl Params {
         items
     }
 
+    /// The parameters, in their order.
     pub fn as_slice(&self) -> &[Param]
         ensures { params_from result.now ≡ params_tree self.now }
     {
