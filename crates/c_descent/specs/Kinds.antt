@@ -17,6 +17,10 @@ use Rattle.c_grammar.specs.Parts.{Scene, Level, Joint, Role, Naming, OfMember, O
 use Rattle.c_grammar.specs.Classes.{names_type, level_of}
 use Rattle.c_grammar.specs.Made.{is_bare_void}
 use Rattle.c_grammar.specs.Choice.{joint_of, same_level, assign_of_sign as compound_of_sign}
+use Rattle.c_descent.specs.declared.level.Level.{Level as Rank}
+use Rattle.c_descent.specs.declared.level.Level.TheVariants as ranks
+use Rattle.c_descent.specs.declared.level.Operand.{Operand}
+use Rattle.c_descent.specs.declared.level.Operand.TheVariants as operands
 use Rattle.c_descent.specs.declared.kind.AssignKind.{AssignKind}
 use Rattle.c_descent.specs.declared.kind.AssignKind.TheVariants as assigns
 use Rattle.c_descent.specs.declared.kind.PrefixKind.{PrefixKind}
@@ -47,6 +51,20 @@ sign_of _ = None
 abbrev pub sign_at : List Placed → Option Punctuator
 sign_at [] = None
 sign_at (t ∷ ts) = sign_of t.token
+
+-- what the joints of a level stand between
+abbrev pub operand_of : Rank → Operand
+operand_of ranks.Commas = operands.Assignment
+operand_of ranks.Ors = operands.Run ranks.Ands
+operand_of ranks.Ands = operands.Run ranks.BitOrs
+operand_of ranks.BitOrs = operands.Run ranks.BitXors
+operand_of ranks.BitXors = operands.Run ranks.BitAnds
+operand_of ranks.BitAnds = operands.Run ranks.Equalities
+operand_of ranks.Equalities = operands.Run ranks.Relations
+operand_of ranks.Relations = operands.Run ranks.Shifts
+operand_of ranks.Shifts = operands.Run ranks.Sums
+operand_of ranks.Sums = operands.Run ranks.Products
+operand_of ranks.Products = operands.Cast
 
 -- the joint, where it is of the level
 abbrev pub joint_where : {l : Level} (j : Joint) → Option (level_of j ≡ l) → Option Joint

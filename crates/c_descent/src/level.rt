@@ -2,7 +2,7 @@
 
 ghost use Rattle.std.specs.Prelude.{◌≡◌, option_map};
 ghost use Rattle.c_descent.specs.Views.{joint_view, level_view};
-ghost use Rattle.c_descent.specs.Kinds.{joint_here, joint_for};
+ghost use Rattle.c_descent.specs.Kinds.{joint_here, joint_for, operand_of};
 ghost use Rattle.c_grammar.specs.Choice.{joint_of_sign};
 ghost use Rattle.c_grammar.specs.Classes.{joint_sign};
 ghost use Rattle.c_grammar.specs.Parts as part;
@@ -24,6 +24,34 @@ pub enum Level {
     Shifts,
     Sums,
     Products,
+}
+
+/// What stands on either side of a joint of a level.
+#[derive(Clone, Copy, Debug, PartialEq, Eq)]
+pub enum Operand {
+    Assignment,
+    /// The operands of the next level, and joints between them.
+    Run(Level),
+    Cast,
+}
+
+/// The operands of a level.
+pub fn operand_of(level: Level) -> Operand
+    ensures { result ≡ operand_of level }
+{
+    match level {
+        Level::Commas => Operand::Assignment,
+        Level::Ors => Operand::Run(Level::Ands),
+        Level::Ands => Operand::Run(Level::BitOrs),
+        Level::BitOrs => Operand::Run(Level::BitXors),
+        Level::BitXors => Operand::Run(Level::BitAnds),
+        Level::BitAnds => Operand::Run(Level::Equalities),
+        Level::Equalities => Operand::Run(Level::Relations),
+        Level::Relations => Operand::Run(Level::Shifts),
+        Level::Shifts => Operand::Run(Level::Sums),
+        Level::Sums => Operand::Run(Level::Products),
+        Level::Products => Operand::Cast,
+    }
 }
 
 /// What stands between two operands.

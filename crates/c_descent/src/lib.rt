@@ -29,7 +29,7 @@ pub use kind::{
     AssignKind, PrefixKind, PrimaryKind, SuffixKind, assign_at, assign_sign, prefix_at, primary_at,
     step_sign, suffix_at, unary_sign,
 };
-pub use level::{Joint, Level, joint_at, joint_sign};
+pub use level::{Joint, Level, Operand, joint_at, joint_sign, operand_of};
 pub use look::{
     Mark, comes, designator_ahead, label_ahead, params_ahead, plain_word_ahead, spec_ahead,
     type_ahead, type_name_ahead,

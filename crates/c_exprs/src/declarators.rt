@@ -1,11 +1,10 @@
 // Declarators and parameters.
-#![tactic(auto, using(c_written::proofs::Trees::the_written_trees))]
+#![tactic(auto)]
 
 ghost use Rattle.std.specs.Prelude.{◌≡◌, ◌<◌, ◌≤◌, length, IfOk};
 ghost use Rattle.c_written.specs.Written.{param_tree, params_from};
 ghost use Rattle.c_grammar.specs.Parts as part;
 ghost use Rattle.c_descent.specs.Answers.{Answers, DeclaratorStarts, DirectStarts, Extends, TailStarts};
-ghost use Rattle.c_leaves.specs.Readers.{ReadsSize};
 ghost use Rattle.c_descent.specs.Kinds.{tail_at};
 ghost use Rattle.c_descent.specs.Views.{boxed_declarator, role_view, scene_of};
 
@@ -17,7 +16,7 @@ use c_descent::{
     plain_word_ahead, pointer_declarator, push_param, refused, tail_at, taken, type_name_ahead,
 };
 use c_leaves::{calls_no_name, consts, is_no_tail, no_parameters, no_size, params_come};
-use c_written::{Construct, Declarator, Expr, Name, Param, Placed, Pos, Punctuator};
+use c_written::{Construct, Declarator, Name, Param, Placed, Pos, Punctuator};
 
 /// A declarator, or an abstract one.
 #[cycle(descent)]
@@ -249,25 +248,11 @@ fn size<'a>(
         }
         return no_size(context, role, count, at, inner, tokens);
     }
-    let (value, rest) = given_size(context, count, tokens)?;
-    let whole = array_declarator(context.alloc, at, inner, value)?;
-    Ok((whole, rest))
-}
-
-/// A size, and the bracket that closes.
-#[cycle(descent)]
-fn given_size<'a>(
-    context: &Context<'_>,
-    count: u32,
-    tokens: &'a [Placed],
-) -> Result<(Box<Expr>, &'a [Placed]), Fault<'a>>
-    ensures goes { ReadsSize count (scene_of context.now) tokens.now result }
-    ensures shorter { IfOk result (λ x. length x.1.now < length tokens.now) }
-{
     let closes = Class::Sign(Punctuator::RightBracket);
     let (value, rest) = conditional(context, count, tokens)?;
     let (_close, rest) = taken(context, count, 0, closes, rest)?;
-    Ok((value, rest))
+    let whole = array_declarator(context.alloc, at, inner, value)?;
+    Ok((whole, rest))
 }
 
 /// What follows the parenthesis that opens parameters.

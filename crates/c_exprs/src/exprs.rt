@@ -1,5 +1,5 @@
 // Expressions.
-#![tactic(auto, using(c_written::proofs::Trees::the_written_trees))]
+#![tactic(auto)]
 
 ghost use Rattle.std.specs.Prelude.{◌≡◌, ◌+◌, ◌<◌, ◌≤◌, true, length, IfOk};
 ghost use Rattle.c_written.specs.Written.{exprs_from, exprs_tree};
@@ -8,23 +8,20 @@ ghost use Rattle.c_grammar.specs.ExprRules.{operand};
 ghost use Rattle.c_grammar.specs.Parts as part;
 ghost use Rattle.c_descent.specs.Answers.{Answers, CallComes, Steps, SuffixComes};
 ghost use Rattle.c_grammar.specs.Descent.{Goes};
-ghost use Rattle.c_leaves.specs.Readers.{ReadsBehind, ReadsBracketed, ReadsChoices};
+ghost use Rattle.c_leaves.specs.Readers.{ReadsBehind};
 ghost use Rattle.c_descent.specs.Kinds.{assign_at, prefix_at, primary_at, suffix_at};
 ghost use Rattle.c_descent.specs.Views.{boxed_expr, level_view, scene_of};
 
 use crate::declarators::declarator;
 use crate::types::specs;
 use c_descent::{
-    AssignKind, Class, Context, Fault, Level, Mark, PrefixKind, PrimaryKind, Role, SuffixKind,
-    assign_at, assign_expr, assign_sign, barred, barred_call, call_expr, cast_expr, comes,
-    compound_expr, cond_expr, enclosed_expr, index_expr, joined, joint_at, joint_sign, one_expr,
-    pre_step_expr, prefix_at, primary_at, push_expr, refused, sizeof_expr, sizeof_type, step_sign,
-    suffix_at, taken, type_ahead, unary_expr, unary_sign,
+    AssignKind, Class, Context, Fault, Level, Mark, Operand, PrefixKind, PrimaryKind, Role,
+    SuffixKind, assign_at, assign_expr, assign_sign, barred, barred_call, call_expr, cast_expr,
+    comes, compound_expr, cond_expr, enclosed_expr, index_expr, joined, joint_at, joint_sign,
+    one_expr, operand_of, pre_step_expr, prefix_at, primary_at, push_expr, sizeof_expr,
+    sizeof_type, step_sign, suffix_at, taken, type_ahead, unary_expr, unary_sign,
 };
-use c_leaves::{
-    arrow, calls_no_word, character, dot, is_no_suffix, no_arguments, number, post_step, strings,
-    word, word_of,
-};
+use c_leaves::{calls_no_word, is_no_suffix, no_arguments, simple_primary, simple_suffix, word_of};
 use c_written::{
     AssignOp, Construct, Expr, Exprs, Keyword, Placed, Pos, Punctuator, StepWay, UnaryOp,
 };
@@ -55,18 +52,10 @@ fn operand<'a>(
     ensures goes { Answers count (scene_of context.now) (part.AnExpr (operand (level_view level))) tokens.now (λ e. boxed_expr e) result }
     ensures shorter { IfOk result (λ x. length x.1.now < length tokens.now) }
 {
-    match level {
-        Level::Commas => assignment(context, count, tokens),
-        Level::Ors => run(context, Level::Ands, count, tokens),
-        Level::Ands => run(context, Level::BitOrs, count, tokens),
-        Level::BitOrs => run(context, Level::BitXors, count, tokens),
-        Level::BitXors => run(context, Level::BitAnds, count, tokens),
-        Level::BitAnds => run(context, Level::Equalities, count, tokens),
-        Level::Equalities => run(context, Level::Relations, count, tokens),
-        Level::Relations => run(context, Level::Shifts, count, tokens),
-        Level::Shifts => run(context, Level::Sums, count, tokens),
-        Level::Sums => run(context, Level::Products, count, tokens),
-        Level::Products => cast(context, count, tokens),
+    match operand_of(level) {
+        Operand::Assignment => assignment(context, count, tokens),
+        Operand::Run(next) => run(context, next, count, tokens),
+        Operand::Cast => cast(context, count, tokens),
     }
 }
 
@@ -208,27 +197,13 @@ fn chosen<'a>(
     if !comes(Mark::Question, tokens) {
         return Ok((condition, tokens));
     }
-    let ((at, then, otherwise), rest) = choices(context, count, tokens)?;
-    let whole = cond_expr(context.alloc, at, condition, then, otherwise)?;
-    Ok((whole, rest))
-}
-
-/// `?`, what is chosen where the condition holds, and what is chosen otherwise.
-#[cycle(descent)]
-fn choices<'a>(
-    context: &Context<'_>,
-    count: u32,
-    tokens: &'a [Placed],
-) -> Result<((Pos, Box<Expr>, Box<Expr>), &'a [Placed]), Fault<'a>>
-    ensures goes { ReadsChoices count (scene_of context.now) tokens.now result }
-    ensures shorter { IfOk result (λ x. length x.1.now < length tokens.now) }
-{
     let question = Class::Sign(Punctuator::Question);
     let (at, behind) = taken(context, count, 1, question, tokens)?;
     let (then, rest) = run(context, Level::Commas, count + 1, behind)?;
     let (_colon, behind) = taken(context, count, 1, Class::Sign(Punctuator::Colon), rest)?;
     let (otherwise, rest) = conditional(context, count + 1, behind)?;
-    Ok(((at.pos, then, otherwise), rest))
+    let whole = cond_expr(context.alloc, at.pos, condition, then, otherwise)?;
+    Ok((whole, rest))
 }
 
 /// A cast, or a unary expression.
@@ -461,10 +436,7 @@ fn suffix<'a>(
     match kind {
         SuffixKind::Index => index(context, count, base, tokens),
         SuffixKind::Call => call(context, count, base, tokens),
-        SuffixKind::Dot => dot(context, count, base, tokens),
-        SuffixKind::Arrow => arrow(context, count, base, tokens),
-        SuffixKind::Step(way) => post_step(context, count, way, base, tokens),
-        SuffixKind::Nothing => unreachable!(),
+        _ => simple_suffix(context, count, kind, base, tokens),
     }
 }
 
@@ -481,28 +453,13 @@ fn index<'a>(
     ensures within { IfOk result (λ _. count + 1 ≤ 200) }
     ensures shorter { IfOk result (λ x. length x.1.now < length tokens.now) }
 {
-    let ((at, place), rest) = bracketed(context, count, tokens)?;
-    let whole = index_expr(context.alloc, at, base, place)?;
-    Ok((whole, rest))
-}
-
-/// The brackets of an index, and what stands between them.
-#[cycle(descent)]
-fn bracketed<'a>(
-    context: &Context<'_>,
-    count: u32,
-    tokens: &'a [Placed],
-) -> Result<((Pos, Box<Expr>), &'a [Placed]), Fault<'a>>
-    ensures goes { ReadsBracketed count (scene_of context.now) tokens.now result }
-    ensures within { IfOk result (λ _. count + 1 ≤ 200) }
-    ensures shorter { IfOk result (λ x. length x.1.now < length tokens.now) }
-{
     let opens = Class::Sign(Punctuator::LeftBracket);
     let closes = Class::Sign(Punctuator::RightBracket);
     let (at, behind) = taken(context, count, 2, opens, tokens)?;
     let (place, rest) = run(context, Level::Commas, count + 2, behind)?;
     let (_close, rest) = taken(context, count, 1, closes, rest)?;
-    Ok(((at.pos, place), rest))
+    let whole = index_expr(context.alloc, at.pos, base, place)?;
+    Ok((whole, rest))
 }
 
 /// The arguments of a call.
@@ -537,12 +494,8 @@ fn primary<'a>(
     ensures shorter { IfOk result (λ x. length x.1.now < length tokens.now) }
 {
     match primary_at(context, tokens) {
-        PrimaryKind::Word => word(context, count, tokens),
-        PrimaryKind::Number => number(context, count, tokens),
-        PrimaryKind::Character => character(context, count, tokens),
-        PrimaryKind::Text => strings(context, count, tokens),
         PrimaryKind::Enclosed => enclosed(context, count, tokens),
-        PrimaryKind::Neither => Err(refused(context, count, tokens)),
+        _ => simple_primary(context, count, tokens),
     }
 }
 

@@ -1,5 +1,5 @@
 // Specs: the words and types that begin a declaration.
-#![tactic(auto, using(c_written::proofs::Trees::the_written_trees))]
+#![tactic(auto)]
 
 ghost use Rattle.std.specs.Prelude.{◌≡◌, ◌<◌, ◌≤◌, length, IfOk};
 ghost use Rattle.c_written.specs.Written.{enumerator_tree, enumerators_from, enumerators_tree, declarators_from, memberdecl_tree, memberdecls_from, memberdecls_tree, spec_tree, specs_from, specs_tree};
@@ -15,11 +15,11 @@ use crate::exprs::conditional;
 use c_descent::{
     Class, Context, Fault, Mark, Role, SpecKind, barred, comes, is_type, name_of, one_declarator,
     one_enumerator, one_member, one_spec, push_declarator, push_enumerator, push_member, push_spec,
-    refused, spec_ahead, spec_at, taken, valued_enumerator,
+    spec_ahead, spec_at, taken, valued_enumerator,
 };
 use c_leaves::{
-    basic, comma_end, constant, enumeration_head, enumeration_of, members_end, storage,
-    structure_head, structure_of, tells_type, type_comes_again, typedef_name,
+    comma_end, enumeration_head, enumeration_of, members_end, simple_spec, structure_head,
+    structure_of, tells_type, type_comes_again,
 };
 use c_written::{
     Construct, Declarator, Enumerator, Enumerators, MemberDecl, MemberDecls, Name, Placed, Pos,
@@ -83,13 +83,9 @@ fn spec<'a>(
     ensures shorter { IfOk result (λ x. length x.1.now < length tokens.now) }
 {
     match spec_at(context, tokens) {
-        SpecKind::TypedefName => typedef_name(context, count, tokens),
-        SpecKind::Storage(word) => storage(context, count, word, tokens),
-        SpecKind::Const => constant(context, count, tokens),
-        SpecKind::Basic(word) => basic(context, count, word, tokens),
         SpecKind::Structure => structure(context, count, tokens),
         SpecKind::Enumeration => enumeration(context, count, tokens),
-        SpecKind::Neither => Err(refused(context, count, tokens)),
+        _ => simple_spec(context, count, tokens),
     }
 }
 

@@ -13,7 +13,7 @@ use Rattle.c_written.specs.declared.token.Token.TheVariants as kinds
 use Rattle.c_written.specs.declared.written.Expr.{Expr}
 use Rattle.c_written.specs.declared.written.Expr.TheVariants as variants
 use Rattle.c_written.specs.Written.{expr_tree, ExprTree, ExprTrees, exprs_then, Word, Call}
-use Rattle.c_grammar.specs.Parts.{Scene, Part, Value, ExprPart, More, Assignment, Suffixes, AnExpr, Arguments, MoreArguments}
+use Rattle.c_grammar.specs.Parts.{Scene, Part, Value, ExprPart, Run, More, Assignment, Cast, Suffixes, AnExpr, Arguments, MoreArguments}
 use Rattle.c_grammar.specs.Parts as parts
 use Rattle.c_grammar.specs.Process.{Process, give, token, part}
 use Rattle.c_grammar.specs.Classes.{sign, joint_sign}
@@ -26,19 +26,32 @@ use Rattle.c_grammar.specs.Made.{is_word, joined}
 use Rattle.c_grammar.specs.Descent.{Outcome, Done, Stop, Goes, Follows, goes_on, stops, is_done}
 use Rattle.c_descent.specs.declared.fault.Fault.{Fault}
 use Rattle.c_descent.specs.declared.level.Level.{Level}
+use Rattle.c_descent.specs.declared.level.Level.TheVariants as levels
+use Rattle.c_descent.specs.declared.level.Operand.{Operand}
+use Rattle.c_descent.specs.declared.level.Operand.TheVariants as operands
 use Rattle.c_descent.specs.declared.level.Joint.{Joint}
 use Rattle.c_descent.specs.Views.{boxed_expr, level_view, joint_view, is_question}
 use Rattle.c_descent.specs.Answers.{Gives, Halts, Takes, SuffixComes}
 use Rattle.c_leaves.specs.Readers.{ReadsBehind}
 use Rattle.c_descent.specs.declared.kind.SuffixKind.{SuffixKind}
 use Rattle.c_descent.specs.declared.kind.SuffixKind.TheVariants as suffixes
-use Rattle.c_descent.specs.Kinds.{joint_here, suffix_at, is_no_suffix}
+use Rattle.c_descent.specs.Kinds.{joint_here, operand_of, suffix_at, is_no_suffix}
 use Rattle.c_descent.proofs.Choices.{Chosen, MoreTells, more_is, SuffixTells, suffix_is}
 use Rattle.c_descent.proofs.Steps.{by, take, here, stops_here, if_false, halts, stall, step}
 
--- the operand of a level that is known
-pub operand_at : {A : Type 0} {d : ℕ} {w : Scene} {ts : List Placed} {view : A → ExprTree} {r : Result (A × Bor (List Placed)) Fault} {l m : Level} → l ≡ m → Gives (λ o. Goes d w (AnExpr (operand (level_view m))) ts o) view r → Gives (λ o. Goes d w (AnExpr (operand (level_view l))) ts o) view r
-operand_at {A} {d} {w} {ts} {view} {r} e h = subst (λ v. Gives (λ o. Goes d w (AnExpr (operand (level_view v))) ts o) view r) (sym e) h
+-- the operand as a part of an expression
+abbrev pub operand_part : Operand → ExprPart
+operand_part operands.Assignment = Assignment
+operand_part (operands.Run l) = Run (level_view l)
+operand_part operands.Cast = Cast
+
+operand_is : (l : Level) → operand (level_view l) ≡ operand_part (operand_of l)
+operand_is levels.Commas = refl
+operand_is _ = refl
+
+-- the operand of a level
+pub operand_at : {A : Type 0} {d : ℕ} {w : Scene} {ts : List Placed} {view : A → ExprTree} {r : Result (A × Bor (List Placed)) Fault} (l : Level) {k : Operand} → operand_of l ≡ k → Gives (λ o. Goes d w (AnExpr (operand_part k)) ts o) view r → Gives (λ o. Goes d w (AnExpr (operand (level_view l))) ts o) view r
+operand_at {A} {d} {w} {ts} {view} {r} l e h = subst (λ x. Gives (λ o. Goes d w (AnExpr x) ts o) view r) (sym (operand_is l ∙ ap operand_part e)) h
 
 question_token : (w : Scene) (condition : ExprTree) (at : Pos) (k : Token) (ts : List Placed) → is_question k ≡ false → Chosen (expr_rule (exprs.not_chosen {w = w} {condition = condition})) (record { pos = at; token = k } ∷ ts)
 question_token w condition at (kinds.Punctuator signs.Question) ts e = absurd (let h : true ≡ false = e in cc)

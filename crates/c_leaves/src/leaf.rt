@@ -7,15 +7,36 @@ ghost use Rattle.c_grammar.specs.Parts as part;
 ghost use Rattle.c_descent.specs.Views.{boxed_expr, scene_of};
 ghost use Rattle.c_descent.specs.Kinds.{primary_at, spec_at};
 ghost use Rattle.c_descent.specs.Answers.{Answers};
+ghost use Rattle.c_leaves.specs.Readers.{IsNotEnclosed, IsSimpleSpec};
 
 use c_descent::{
     Class, Context, Fault, Mark, PrimaryKind, SpecKind, byte_of, bytes_of, comes, constant_of,
-    name_of, push_bytes, storage_word, taken, type_word,
+    name_of, primary_at, push_bytes, refused, spec_at, storage_word, taken, type_word,
 };
 use c_written::{Bytes, Expr, Keyword, Placed, Pos, Spec, StorageWord, TypeWord};
 
+/// A primary expression that holds no other.
+pub fn simple_primary<'a>(
+    context: &Context<'_>,
+    count: u32,
+    tokens: &'a [Placed],
+) -> Result<(Box<Expr>, &'a [Placed]), Fault<'a>>
+    requires { IsNotEnclosed (scene_of context.now) tokens.now }
+    ensures goes { Answers count (scene_of context.now) (part.AnExpr part.Primary) tokens.now (λ e. boxed_expr e) result }
+    ensures shorter { IfOk result (λ x. length x.1.now < length tokens.now) }
+{
+    match primary_at(context, tokens) {
+        PrimaryKind::Word => word(context, count, tokens),
+        PrimaryKind::Number => number(context, count, tokens),
+        PrimaryKind::Character => character(context, count, tokens),
+        PrimaryKind::Text => strings(context, count, tokens),
+        PrimaryKind::Enclosed => unreachable!(),
+        PrimaryKind::Neither => Err(refused(context, count, tokens)),
+    }
+}
+
 /// A word.
-pub fn word<'a>(
+fn word<'a>(
     context: &Context<'_>,
     count: u32,
     tokens: &'a [Placed],
@@ -37,7 +58,7 @@ pub fn word<'a>(
 }
 
 /// A number.
-pub fn number<'a>(
+fn number<'a>(
     context: &Context<'_>,
     count: u32,
     tokens: &'a [Placed],
@@ -58,7 +79,7 @@ pub fn number<'a>(
 }
 
 /// A character constant.
-pub fn character<'a>(
+fn character<'a>(
     context: &Context<'_>,
     count: u32,
     tokens: &'a [Placed],
@@ -79,7 +100,7 @@ pub fn character<'a>(
 }
 
 /// Strings that stand next to each other, which are one literal.
-pub fn strings<'a>(
+fn strings<'a>(
     context: &Context<'_>,
     count: u32,
     tokens: &'a [Placed],
@@ -122,8 +143,29 @@ fn more_strings<'a>(
     Ok((whole, rest))
 }
 
+/// A spec that holds no other.
+pub fn simple_spec<'a>(
+    context: &Context<'_>,
+    count: u32,
+    tokens: &'a [Placed],
+) -> Result<(Spec, &'a [Placed]), Fault<'a>>
+    requires { IsSimpleSpec (scene_of context.now) tokens.now }
+    ensures goes { Answers count (scene_of context.now) (part.ASpec part.Spec) tokens.now (λ s. spec_tree s) result }
+    ensures shorter { IfOk result (λ x. length x.1.now < length tokens.now) }
+{
+    match spec_at(context, tokens) {
+        SpecKind::TypedefName => typedef_name(context, count, tokens),
+        SpecKind::Storage(word) => storage(context, count, word, tokens),
+        SpecKind::Const => constant(context, count, tokens),
+        SpecKind::Basic(word) => basic(context, count, word, tokens),
+        SpecKind::Structure => unreachable!(),
+        SpecKind::Enumeration => unreachable!(),
+        SpecKind::Neither => Err(refused(context, count, tokens)),
+    }
+}
+
 /// A typedef name.
-pub fn typedef_name<'a>(
+fn typedef_name<'a>(
     context: &Context<'_>,
     count: u32,
     tokens: &'a [Placed],
@@ -144,7 +186,7 @@ pub fn typedef_name<'a>(
 }
 
 /// A storage word.
-pub fn storage<'a>(
+fn storage<'a>(
     context: &Context<'_>,
     count: u32,
     word: StorageWord,
@@ -165,7 +207,7 @@ pub fn storage<'a>(
 }
 
 /// `const`.
-pub fn constant<'a>(
+fn constant<'a>(
     context: &Context<'_>,
     count: u32,
     tokens: &'a [Placed],
@@ -179,7 +221,7 @@ pub fn constant<'a>(
 }
 
 /// A type word.
-pub fn basic<'a>(
+fn basic<'a>(
     context: &Context<'_>,
     count: u32,
     word: TypeWord,

@@ -6,10 +6,10 @@ ghost use Rattle.c_written.specs.Written.{Word, expr_tree, exprs_tree};
 ghost use Rattle.c_grammar.specs.Ahead.{is_close, is_open};
 ghost use Rattle.c_grammar.specs.Made.{is_word};
 ghost use Rattle.c_grammar.specs.Parts as part;
-ghost use Rattle.c_descent.specs.Answers.{Answers, Steps};
+ghost use Rattle.c_descent.specs.Answers.{Answers, Steps, SuffixComes};
 ghost use Rattle.c_grammar.specs.Descent.{Goes};
 ghost use Rattle.c_grammar.specs.Refused.{first_is};
-ghost use Rattle.c_leaves.specs.Readers.{ReadsMember};
+ghost use Rattle.c_leaves.specs.Readers.{IsSimpleSuffix, ReadsMember};
 ghost use Rattle.c_descent.specs.Kinds.{is_no_suffix, suffix_at};
 ghost use Rattle.c_descent.specs.Views.{boxed_expr, scene_of};
 
@@ -19,8 +19,32 @@ use c_descent::{
 };
 use c_written::{Expr, Exprs, Name, Placed, Pos, Punctuator, StepWay};
 
+/// A postfix form that holds no other expression.
+pub fn simple_suffix<'a>(
+    context: &Context<'_>,
+    count: u32,
+    kind: SuffixKind,
+    base: Box<Expr>,
+    tokens: &'a [Placed],
+) -> Result<(Box<Expr>, &'a [Placed]), Fault<'a>>
+    requires comes { SuffixComes tokens.now kind (boxed_expr base) }
+    requires simple { IsSimpleSuffix kind }
+    ensures goes { Steps (λ o. Goes count (scene_of context.now) (part.AnExpr (part.Suffixes (boxed_expr base))) tokens.now o) (λ e rest o. Goes (count + 1) (scene_of context.now) (part.AnExpr (part.Suffixes (boxed_expr e))) rest o) result }
+    ensures within { IfOk result (λ _. count + 1 ≤ 200) }
+    ensures shorter { IfOk result (λ x. length x.1.now < length tokens.now) }
+{
+    match kind {
+        SuffixKind::Dot => dot(context, count, base, tokens),
+        SuffixKind::Arrow => arrow(context, count, base, tokens),
+        SuffixKind::Step(way) => post_step(context, count, way, base, tokens),
+        SuffixKind::Index => unreachable!(),
+        SuffixKind::Call => unreachable!(),
+        SuffixKind::Nothing => unreachable!(),
+    }
+}
+
 /// `.` and a member.
-pub fn dot<'a>(
+fn dot<'a>(
     context: &Context<'_>,
     count: u32,
     base: Box<Expr>,
@@ -37,7 +61,7 @@ pub fn dot<'a>(
 }
 
 /// `->` and a member.
-pub fn arrow<'a>(
+fn arrow<'a>(
     context: &Context<'_>,
     count: u32,
     base: Box<Expr>,
@@ -71,7 +95,7 @@ fn member<'a>(
 }
 
 /// `++` or `--` behind an expression.
-pub fn post_step<'a>(
+fn post_step<'a>(
     context: &Context<'_>,
     count: u32,
     way: StepWay,

@@ -8,14 +8,14 @@ use Rattle.c_grammar.specs.Grammar.{expr_rule, type_rule}
 use Rattle.c_grammar.specs.ExprRules as rule
 use Rattle.c_grammar.specs.TypeRules as kind
 use Rattle.c_grammar.specs.Descent.{goes_on, stops, is_done, is_barred, no_rule, passes, fails}
-use Rattle.c_descent.specs.Views.{boxed_declarator, boxed_expr, scene_of, level_view, role_view}
+use Rattle.c_descent.specs.Views.{boxed_declarator, boxed_expr, scene_of, level_view}
 use Rattle.c_descent.specs.Answers.{given, halted, stepped}
 use Rattle.c_descent.proofs.Steps.{relayed, halts, failed, starved, stalls, starves, answer, halt, take, refuse, step, stall, stopped, by, here, stops_here, done, if_true, if_false, borne, unborne, sign_is}
 use Rattle.c_descent.proofs.Choices.{primary_is, prefix_is, suffix_is, assign_is, more_is}
 use Rattle.c_leaves.proofs.ExprSteps.{operand_at, not_question, is_question_ahead, suffix_free, tail_expr, suffixes_at, behind_sign, joint_step, joint_stop, argument_step, arguments_at, and_left, rebased, nothing_of, call_by, no_joint}
 use Rattle.c_leaves.proofs.TagSteps.{structure_alone, structure_braces, enumeration_alone, enumeration_braces}
 use Rattle.c_grammar.specs.Made.{function_of}
-use Rattle.c_descent.proofs.TypeSteps.{spec_is, specs_at, members_at, declarators_at, enumerators_at, value_at, again_is, spec_step, member_step, declarator_step, next_step, enumerator_step, carried, one_type, more_type}
+use Rattle.c_descent.proofs.TypeSteps.{specs_at, members_at, declarators_at, enumerators_at, value_at, again_is, spec_step, member_step, declarator_step, next_step, enumerator_step, carried, one_type, more_type}
 use Rattle.c_leaves.proofs.DeclaratorSteps.{direct_is, tail_is, no_tail, tails_at, tails_named, tails_absent, parameters_at, tail_declarator, parameter_step, regiven, renamed, both_true, first_false}
 use Rattle.c_exprs.proofs.+descent.Goals as goal
 
@@ -25,38 +25,14 @@ exprs::run-returns-in_err-first-clause-goes t c = failed c.from_residual.ensures
 pub exprs::run-returns-clause-goes : goal.exprs::run-returns-clause-goes
 exprs::run-returns-clause-goes t c = relayed c.more.ensures.goes (λ x g. by (expr_rule rule.run) (refl) (refl) (here (answer c.in_ok-first.ensures.goes) (here g (is_done)))) (λ why rest g. by (expr_rule rule.run) (refl) (refl) (here (answer c.in_ok-first.ensures.goes) (stops_here g)))
 
-pub exprs::operand-returns-in-Commas-clause-goes : goal.exprs::operand-returns-in-Commas-clause-goes
-exprs::operand-returns-in-Commas-clause-goes t c = operand_at c.in-Commas.is c.assignment.ensures.goes
+pub exprs::operand-returns-in-Assignment-clause-goes : goal.exprs::operand-returns-in-Assignment-clause-goes
+exprs::operand-returns-in-Assignment-clause-goes t c = operand_at c.args.level (sym c.in-Assignment.ensures) c.assignment.ensures.goes
 
-pub exprs::operand-returns-in-Ors-clause-goes : goal.exprs::operand-returns-in-Ors-clause-goes
-exprs::operand-returns-in-Ors-clause-goes t c = operand_at c.in-Ors.is c.run.ensures.goes
+pub exprs::operand-returns-in-Run-clause-goes : goal.exprs::operand-returns-in-Run-clause-goes
+exprs::operand-returns-in-Run-clause-goes t c = operand_at c.args.level (sym c.in-Run.ensures) c.run.ensures.goes
 
-pub exprs::operand-returns-in-Ands-clause-goes : goal.exprs::operand-returns-in-Ands-clause-goes
-exprs::operand-returns-in-Ands-clause-goes t c = operand_at c.in-Ands.is c.run-in-Ands.ensures.goes
-
-pub exprs::operand-returns-in-BitOrs-clause-goes : goal.exprs::operand-returns-in-BitOrs-clause-goes
-exprs::operand-returns-in-BitOrs-clause-goes t c = operand_at c.in-BitOrs.is c.run-in-BitOrs.ensures.goes
-
-pub exprs::operand-returns-in-BitXors-clause-goes : goal.exprs::operand-returns-in-BitXors-clause-goes
-exprs::operand-returns-in-BitXors-clause-goes t c = operand_at c.in-BitXors.is c.run-in-BitXors.ensures.goes
-
-pub exprs::operand-returns-in-BitAnds-clause-goes : goal.exprs::operand-returns-in-BitAnds-clause-goes
-exprs::operand-returns-in-BitAnds-clause-goes t c = operand_at c.in-BitAnds.is c.run-in-BitAnds.ensures.goes
-
-pub exprs::operand-returns-in-Equalities-clause-goes : goal.exprs::operand-returns-in-Equalities-clause-goes
-exprs::operand-returns-in-Equalities-clause-goes t c = operand_at c.in-Equalities.is c.run-in-Equalities.ensures.goes
-
-pub exprs::operand-returns-in-Relations-clause-goes : goal.exprs::operand-returns-in-Relations-clause-goes
-exprs::operand-returns-in-Relations-clause-goes t c = operand_at c.in-Relations.is c.run-in-Relations.ensures.goes
-
-pub exprs::operand-returns-in-Shifts-clause-goes : goal.exprs::operand-returns-in-Shifts-clause-goes
-exprs::operand-returns-in-Shifts-clause-goes t c = operand_at c.in-Shifts.is c.run-in-Shifts.ensures.goes
-
-pub exprs::operand-returns-in-Sums-clause-goes : goal.exprs::operand-returns-in-Sums-clause-goes
-exprs::operand-returns-in-Sums-clause-goes t c = operand_at c.in-Sums.is c.run-in-Sums.ensures.goes
-
-pub exprs::operand-returns-in-Products-clause-goes : goal.exprs::operand-returns-in-Products-clause-goes
-exprs::operand-returns-in-Products-clause-goes t c = operand_at c.in-Products.is c.cast.ensures.goes
+pub exprs::operand-returns-in-Cast-clause-goes : goal.exprs::operand-returns-in-Cast-clause-goes
+exprs::operand-returns-in-Cast-clause-goes t c = operand_at c.args.level (sym c.in-Cast.ensures) c.cast.ensures.goes
 
 pub exprs::assignment-returns-in_err-left-clause-goes : goal.exprs::assignment-returns-in_err-left-clause-goes
 exprs::assignment-returns-in_err-left-clause-goes t c = failed c.from_residual.ensures.1 (halts (halt c.in_err-left.ensures.goes) (λ why rest g. by (expr_rule rule.assignment) (refl) (refl) (stops_here g)))
@@ -95,28 +71,22 @@ pub exprs::chosen-returns-then-not-comes-clause-goes : goal.exprs::chosen-return
 exprs::chosen-returns-then-not-comes-clause-goes t c = given (by (expr_rule rule.not_chosen) refl (not_question (scene_of c.args.context.now) (boxed_expr c.args.condition) c.args.tokens.now (sym c.if-not-comes.ensures)) is_done)
 
 pub exprs::chosen-returns-in_err-at-clause-goes : goal.exprs::chosen-returns-in_err-at-clause-goes
-exprs::chosen-returns-in_err-at-clause-goes t c = failed c.from_residual.ensures.1 (halts (stall (c.in_err-at.ensures.goes (part.AnExpr (part.Chosen (boxed_expr c.args.condition))) (λ at first second. process.give (trees.Cond at (boxed_expr c.args.condition) first second)))) (λ why rest g. by (expr_rule rule.chosen) refl (is_question_ahead (scene_of c.args.context.now) (boxed_expr c.args.condition) c.args.tokens.now (sym c.if-not-comes.ensures)) g))
+exprs::chosen-returns-in_err-at-clause-goes t c = failed c.from_residual.ensures.1 (halts (refuse c.in_err-at.ensures.goes) (λ why rest g. by (expr_rule rule.chosen) refl (is_question_ahead (scene_of c.args.context.now) (boxed_expr c.args.condition) c.args.tokens.now (sym c.if-not-comes.ensures)) (g _ _)))
+
+pub exprs::chosen-returns-in_err-then-clause-goes : goal.exprs::chosen-returns-in_err-then-clause-goes
+exprs::chosen-returns-in_err-then-clause-goes t c = failed c.from_residual-in_err-then.ensures.1 (halts (halt c.in_err-then.ensures.goes) (λ why rest g. by (expr_rule rule.chosen) refl (is_question_ahead (scene_of c.args.context.now) (boxed_expr c.args.condition) c.args.tokens.now (sym c.if-not-comes.ensures)) (take c.in_ok-at.ensures.goes (stops g))))
+
+pub exprs::chosen-returns-in_err-_colon-clause-goes : goal.exprs::chosen-returns-in_err-_colon-clause-goes
+exprs::chosen-returns-in_err-_colon-clause-goes t c = failed c.from_residual-in_err-_colon.ensures.1 (halts (refuse c.in_err-_colon.ensures.goes) (λ why rest g. by (expr_rule rule.chosen) refl (is_question_ahead (scene_of c.args.context.now) (boxed_expr c.args.condition) c.args.tokens.now (sym c.if-not-comes.ensures)) (take c.in_ok-at.ensures.goes (goes_on (answer c.in_ok-then.ensures.goes) (g _ _)))))
+
+pub exprs::chosen-returns-in_err-otherwise-clause-goes : goal.exprs::chosen-returns-in_err-otherwise-clause-goes
+exprs::chosen-returns-in_err-otherwise-clause-goes t c = failed c.from_residual-in_err-otherwise.ensures.1 (halts (halt c.in_err-otherwise.ensures.goes) (λ why rest g. by (expr_rule rule.chosen) refl (is_question_ahead (scene_of c.args.context.now) (boxed_expr c.args.condition) c.args.tokens.now (sym c.if-not-comes.ensures)) (take c.in_ok-at.ensures.goes (goes_on (answer c.in_ok-then.ensures.goes) (take c.in_ok-_colon.ensures.goes (stops g))))))
+
+pub exprs::chosen-returns-clause-goes : goal.exprs::chosen-returns-clause-goes
+exprs::chosen-returns-clause-goes t c = given (by (expr_rule rule.chosen) refl (is_question_ahead (scene_of c.args.context.now) (boxed_expr c.args.condition) c.args.tokens.now (sym c.if-not-comes.ensures)) (take c.in_ok-at.ensures.goes (goes_on (answer c.in_ok-then.ensures.goes) (take c.in_ok-_colon.ensures.goes (goes_on (answer c.in_ok-otherwise.ensures.goes) (done c.in_ok-whole.ensures))))))
 
 pub exprs::chosen-returns-in_err-whole-clause-goes : goal.exprs::chosen-returns-in_err-whole-clause-goes
 exprs::chosen-returns-in_err-whole-clause-goes t c = starved c.from_residual-in_err-whole.ensures.1
-
-pub exprs::chosen-returns-clause-goes : goal.exprs::chosen-returns-clause-goes
-exprs::chosen-returns-clause-goes t c = given (by (expr_rule rule.chosen) refl (is_question_ahead (scene_of c.args.context.now) (boxed_expr c.args.condition) c.args.tokens.now (sym c.if-not-comes.ensures)) (step (c.in_ok-at.ensures.goes (part.AnExpr (part.Chosen (boxed_expr c.args.condition))) (λ at first second. process.give (trees.Cond at (boxed_expr c.args.condition) first second))) _ (done c.in_ok-whole.ensures)))
-
-pub exprs::choices-returns-in_err-at-clause-goes : goal.exprs::choices-returns-in_err-at-clause-goes
-exprs::choices-returns-in_err-at-clause-goes t c = λ p k. stalls c.from_residual.ensures.1 (halts (refuse c.in_err-at.ensures.goes) (λ why rest g. g _ _))
-
-pub exprs::choices-returns-in_err-then-clause-goes : goal.exprs::choices-returns-in_err-then-clause-goes
-exprs::choices-returns-in_err-then-clause-goes t c = λ p k. stalls c.from_residual-in_err-then.ensures.1 (halts (halt c.in_err-then.ensures.goes) (λ why rest g. take c.in_ok-at.ensures.goes (stops g)))
-
-pub exprs::choices-returns-in_err-_colon-clause-goes : goal.exprs::choices-returns-in_err-_colon-clause-goes
-exprs::choices-returns-in_err-_colon-clause-goes t c = λ p k. stalls c.from_residual-in_err-_colon.ensures.1 (halts (refuse c.in_err-_colon.ensures.goes) (λ why rest g. take c.in_ok-at.ensures.goes (goes_on (answer c.in_ok-then.ensures.goes) (g _ _))))
-
-pub exprs::choices-returns-in_err-otherwise-clause-goes : goal.exprs::choices-returns-in_err-otherwise-clause-goes
-exprs::choices-returns-in_err-otherwise-clause-goes t c = λ p k. stalls c.from_residual-in_err-otherwise.ensures.1 (halts (halt c.in_err-otherwise.ensures.goes) (λ why rest g. take c.in_ok-at.ensures.goes (goes_on (answer c.in_ok-then.ensures.goes) (take c.in_ok-_colon.ensures.goes (stops g)))))
-
-pub exprs::choices-returns-clause-goes : goal.exprs::choices-returns-clause-goes
-exprs::choices-returns-clause-goes t c = λ p k. stepped (λ o h. take c.in_ok-at.ensures.goes (goes_on (answer c.in_ok-then.ensures.goes) (take c.in_ok-_colon.ensures.goes (goes_on (answer c.in_ok-otherwise.ensures.goes) h))))
 
 pub exprs::cast_form-returns-in_err-at-clause-goes : goal.exprs::cast_form-returns-in_err-at-clause-goes
 exprs::cast_form-returns-in_err-at-clause-goes t c = failed c.from_residual.ensures.1 (halts (refuse c.in_err-at.ensures.goes) (λ why rest g. by (expr_rule rule.cast) (refl) (if_true _ c.requires) (passes (c.requires) (g _ _))))
@@ -223,29 +193,20 @@ exprs::enclosed-returns-in_err-whole-clause-goes t c = starved c.from_residual-i
 pub exprs::enclosed-returns-clause-goes : goal.exprs::enclosed-returns-clause-goes
 exprs::enclosed-returns-clause-goes t c = given (by (expr_rule rule.enclosed) (refl) (primary_is (scene_of c.args.context.now) c.args.tokens.now c.requires) (take c.in_ok-opening.ensures.goes (goes_on (answer c.in_ok-inner.ensures.goes) (take c.in_ok-_close.ensures.goes (done c.in_ok-whole.ensures)))))
 
-pub exprs::primary-returns-in-Neither-clause-goes : goal.exprs::primary-returns-in-Neither-clause-goes
-exprs::primary-returns-in-Neither-clause-goes t c = halted (stopped c.refused.ensures (no_rule refl (primary_is (scene_of c.args.context.now) c.args.tokens.now (sym c.in-Neither.ensures))))
-
 pub exprs::index-returns-in_err-at-clause-goes : goal.exprs::index-returns-in_err-at-clause-goes
-exprs::index-returns-in_err-at-clause-goes t c = stalls c.from_residual.ensures.1 (halts (stall (c.in_err-at.ensures.goes (part.AnExpr (part.Suffixes (boxed_expr c.args.base))) (λ at place. process.part 1 (scene_of c.args.context.now) (part.AnExpr (part.Suffixes (trees.Index at (boxed_expr c.args.base) place))) process.give))) (λ why rest g. by (expr_rule rule.index) (suffix_free (scene_of c.args.context.now) (boxed_expr c.args.base) c.args.tokens.now (suffix_is (scene_of c.args.context.now) (boxed_expr c.args.base) c.args.tokens.now c.requires).1) ((suffix_is (scene_of c.args.context.now) (boxed_expr c.args.base) c.args.tokens.now c.requires).0) g))
+exprs::index-returns-in_err-at-clause-goes t c = stalls c.from_residual.ensures.1 (halts (refuse c.in_err-at.ensures.goes) (λ why rest g. by (expr_rule rule.index) (suffix_free (scene_of c.args.context.now) (boxed_expr c.args.base) c.args.tokens.now (suffix_is (scene_of c.args.context.now) (boxed_expr c.args.base) c.args.tokens.now c.requires).1) ((suffix_is (scene_of c.args.context.now) (boxed_expr c.args.base) c.args.tokens.now c.requires).0) (g _ _)))
+
+pub exprs::index-returns-in_err-place-clause-goes : goal.exprs::index-returns-in_err-place-clause-goes
+exprs::index-returns-in_err-place-clause-goes t c = stalls c.from_residual-in_err-place.ensures.1 (halts (halt c.in_err-place.ensures.goes) (λ why rest g. by (expr_rule rule.index) (suffix_free (scene_of c.args.context.now) (boxed_expr c.args.base) c.args.tokens.now (suffix_is (scene_of c.args.context.now) (boxed_expr c.args.base) c.args.tokens.now c.requires).1) ((suffix_is (scene_of c.args.context.now) (boxed_expr c.args.base) c.args.tokens.now c.requires).0) (take c.in_ok-at.ensures.goes (stops g))))
+
+pub exprs::index-returns-in_err-_close-clause-goes : goal.exprs::index-returns-in_err-_close-clause-goes
+exprs::index-returns-in_err-_close-clause-goes t c = stalls c.from_residual-in_err-_close.ensures.1 (halts (refuse c.in_err-_close.ensures.goes) (λ why rest g. by (expr_rule rule.index) (suffix_free (scene_of c.args.context.now) (boxed_expr c.args.base) c.args.tokens.now (suffix_is (scene_of c.args.context.now) (boxed_expr c.args.base) c.args.tokens.now c.requires).1) ((suffix_is (scene_of c.args.context.now) (boxed_expr c.args.base) c.args.tokens.now c.requires).0) (take c.in_ok-at.ensures.goes (goes_on (answer c.in_ok-place.ensures.goes) (g _ _)))))
+
+pub exprs::index-returns-clause-goes : goal.exprs::index-returns-clause-goes
+exprs::index-returns-clause-goes t c = stepped (λ o h. by (expr_rule rule.index) (suffix_free (scene_of c.args.context.now) (boxed_expr c.args.base) c.args.tokens.now (suffix_is (scene_of c.args.context.now) (boxed_expr c.args.base) c.args.tokens.now c.requires).1) ((suffix_is (scene_of c.args.context.now) (boxed_expr c.args.base) c.args.tokens.now c.requires).0) (take c.in_ok-at.ensures.goes (goes_on (answer c.in_ok-place.ensures.goes) (take c.in_ok-_close.ensures.goes (tail_expr o (suffixes_at c.in_ok-whole.ensures h))))))
 
 pub exprs::index-returns-in_err-whole-clause-goes : goal.exprs::index-returns-in_err-whole-clause-goes
 exprs::index-returns-in_err-whole-clause-goes t c = starves c.from_residual-in_err-whole.ensures.1
-
-pub exprs::index-returns-clause-goes : goal.exprs::index-returns-clause-goes
-exprs::index-returns-clause-goes t c = stepped (λ o h. by (expr_rule rule.index) (suffix_free (scene_of c.args.context.now) (boxed_expr c.args.base) c.args.tokens.now (suffix_is (scene_of c.args.context.now) (boxed_expr c.args.base) c.args.tokens.now c.requires).1) ((suffix_is (scene_of c.args.context.now) (boxed_expr c.args.base) c.args.tokens.now c.requires).0) (step (c.in_ok-at.ensures.goes (part.AnExpr (part.Suffixes (boxed_expr c.args.base))) (λ at place. process.part 1 (scene_of c.args.context.now) (part.AnExpr (part.Suffixes (trees.Index at (boxed_expr c.args.base) place))) process.give)) o (tail_expr o (suffixes_at c.in_ok-whole.ensures h))))
-
-pub exprs::bracketed-returns-in_err-at-clause-goes : goal.exprs::bracketed-returns-in_err-at-clause-goes
-exprs::bracketed-returns-in_err-at-clause-goes t c = λ p k. stalls c.from_residual.ensures.1 (halts (refuse c.in_err-at.ensures.goes) (λ why rest g. g _ _))
-
-pub exprs::bracketed-returns-in_err-place-clause-goes : goal.exprs::bracketed-returns-in_err-place-clause-goes
-exprs::bracketed-returns-in_err-place-clause-goes t c = λ p k. stalls c.from_residual-in_err-place.ensures.1 (halts (halt c.in_err-place.ensures.goes) (λ why rest g. take c.in_ok-at.ensures.goes (stops g)))
-
-pub exprs::bracketed-returns-in_err-_close-clause-goes : goal.exprs::bracketed-returns-in_err-_close-clause-goes
-exprs::bracketed-returns-in_err-_close-clause-goes t c = λ p k. stalls c.from_residual-in_err-_close.ensures.1 (halts (refuse c.in_err-_close.ensures.goes) (λ why rest g. take c.in_ok-at.ensures.goes (goes_on (answer c.in_ok-place.ensures.goes) (g _ _))))
-
-pub exprs::bracketed-returns-clause-goes : goal.exprs::bracketed-returns-clause-goes
-exprs::bracketed-returns-clause-goes t c = λ p k. stepped (λ o h. take c.in_ok-at.ensures.goes (goes_on (answer c.in_ok-place.ensures.goes) (take c.in_ok-_close.ensures.goes h)))
 
 pub exprs::suffixes-returns-then-calls_no_word-clause-goes : goal.exprs::suffixes-returns-then-calls_no_word-clause-goes
 exprs::suffixes-returns-then-calls_no_word-clause-goes t c = halted (stopped (c.barred_call.ensures (boxed_expr c.forms.base) (and_left _ _ (rebased _ c.deref.ensures c.if-calls_no_word.ensures))) (c.forms.invariant.0 _ (is_barred (borne _ (rebased _ c.deref.ensures c.if-calls_no_word.ensures)))))
@@ -339,9 +300,6 @@ types::specs-returns-in_err-items-clause-goes t c = starved c.from_residual-in_e
 
 pub types::specs-returns-clause-goes : goal.types::specs-returns-clause-goes
 types::specs-returns-clause-goes t c = relayed c.more_specs.ensures.goes (λ x g. by (type_rule kind.specs) (refl) (refl) (here (answer c.in_ok-first.ensures.goes) (here (specs_at c.in_ok-items.ensures g) (is_done)))) (λ why rest g. by (type_rule kind.specs) (refl) (refl) (here (answer c.in_ok-first.ensures.goes) (stops_here (specs_at c.in_ok-items.ensures g))))
-
-pub types::spec-returns-in-Neither-clause-goes : goal.types::spec-returns-in-Neither-clause-goes
-types::spec-returns-in-Neither-clause-goes t c = halted (stopped c.refused.ensures (no_rule refl (spec_is _ _ (sym c.in-Neither.ensures))))
 
 pub types::structure-returns-in_err-at-clause-goes : goal.types::structure-returns-in_err-at-clause-goes
 types::structure-returns-in_err-at-clause-goes t c = failed c.from_residual.ensures.1 (stall c.in_err-at.ensures.goes)
@@ -596,22 +554,16 @@ pub declarators::size-returns-then-is_member-clause-goes : goal.declarators::siz
 declarators::size-returns-then-is_member-clause-goes t c = halted (stopped c.barred.ensures (is_barred (borne _ (both_true (sym c.if-comes.ensures) (sym c.if-is_member.ensures)))))
 
 pub declarators::size-returns-in_err-value-clause-goes : goal.declarators::size-returns-in_err-value-clause-goes
-declarators::size-returns-in_err-value-clause-goes t c = failed c.from_residual.ensures.1 (halts (stall (c.in_err-value.ensures.goes (part.ADeclarator (part.Size (role_view c.args.role) c.args.at (boxed_declarator c.args.inner))) (λ e. process.give (trees.Array c.args.at (boxed_declarator c.args.inner) e)))) (λ why rest g. by (type_rule kind.size) (unborne _ (first_false _ (sym c.if-comes.ensures))) (if_false _ (sym c.if-comes.ensures)) g))
+declarators::size-returns-in_err-value-clause-goes t c = failed c.from_residual.ensures.1 (halts (halt c.in_err-value.ensures.goes) (λ why rest g. by (type_rule kind.size) (unborne _ (first_false _ (sym c.if-comes.ensures))) (if_false _ (sym c.if-comes.ensures)) (stops_here g)))
+
+pub declarators::size-returns-in_err-_close-clause-goes : goal.declarators::size-returns-in_err-_close-clause-goes
+declarators::size-returns-in_err-_close-clause-goes t c = failed c.from_residual-in_err-_close.ensures.1 (halts (refuse c.in_err-_close.ensures.goes) (λ why rest g. by (type_rule kind.size) (unborne _ (first_false _ (sym c.if-comes.ensures))) (if_false _ (sym c.if-comes.ensures)) (here (answer c.in_ok-value.ensures.goes) (g _ _))))
+
+pub declarators::size-returns-clause-goes : goal.declarators::size-returns-clause-goes
+declarators::size-returns-clause-goes t c = given (by (type_rule kind.size) (unborne _ (first_false _ (sym c.if-comes.ensures))) (if_false _ (sym c.if-comes.ensures)) (here (answer c.in_ok-value.ensures.goes) (take c.in_ok-_close.ensures.goes (done c.in_ok-whole.ensures))))
 
 pub declarators::size-returns-in_err-whole-clause-goes : goal.declarators::size-returns-in_err-whole-clause-goes
 declarators::size-returns-in_err-whole-clause-goes t c = starved c.from_residual-in_err-whole.ensures.1
-
-pub declarators::size-returns-clause-goes : goal.declarators::size-returns-clause-goes
-declarators::size-returns-clause-goes t c = given (by (type_rule kind.size) (unborne _ (first_false _ (sym c.if-comes.ensures))) (if_false _ (sym c.if-comes.ensures)) (step (c.in_ok-value.ensures.goes (part.ADeclarator (part.Size (role_view c.args.role) c.args.at (boxed_declarator c.args.inner))) (λ e. process.give (trees.Array c.args.at (boxed_declarator c.args.inner) e))) _ (done c.in_ok-whole.ensures)))
-
-pub declarators::given_size-returns-in_err-value-clause-goes : goal.declarators::given_size-returns-in_err-value-clause-goes
-declarators::given_size-returns-in_err-value-clause-goes t c = λ p k. stalls c.from_residual.ensures.1 (halts (halt c.in_err-value.ensures.goes) (λ why rest g. stops_here g))
-
-pub declarators::given_size-returns-in_err-_close-clause-goes : goal.declarators::given_size-returns-in_err-_close-clause-goes
-declarators::given_size-returns-in_err-_close-clause-goes t c = λ p k. stalls c.from_residual-in_err-_close.ensures.1 (halts (refuse c.in_err-_close.ensures.goes) (λ why rest g. here (answer c.in_ok-value.ensures.goes) (g _ _)))
-
-pub declarators::given_size-returns-clause-goes : goal.declarators::given_size-returns-clause-goes
-declarators::given_size-returns-clause-goes t c = λ p k. stepped (λ o h. here (answer c.in_ok-value.ensures.goes) (take c.in_ok-_close.ensures.goes h))
 
 pub declarators::parameters-returns-in_err-first-clause-goes : goal.declarators::parameters-returns-in_err-first-clause-goes
 declarators::parameters-returns-in_err-first-clause-goes t c = failed c.from_residual.ensures.1 (halts (halt c.in_err-first.ensures.goes) (λ why rest g. by (type_rule kind.parameters) (refl) (if_false _ (sym c.if-comes.ensures)) (stops_here g)))

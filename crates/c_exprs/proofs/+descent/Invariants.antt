@@ -172,15 +172,6 @@ decreases-declarators::parameter l = 64 * length l.tokens.now + 3
 abbrev pub decreases-exprs::right_side : goal.decreases-exprs::right_side
 decreases-exprs::right_side l = 64 * length l.tokens.now + 0
 
-abbrev pub decreases-exprs::choices : goal.decreases-exprs::choices
-decreases-exprs::choices l = 64 * length l.tokens.now + 0
-
-abbrev pub decreases-exprs::bracketed : goal.decreases-exprs::bracketed
-decreases-exprs::bracketed l = 64 * length l.tokens.now + 0
-
-abbrev pub decreases-declarators::given_size : goal.decreases-declarators::given_size
-decreases-declarators::given_size l = 64 * length l.tokens.now + 30
-
 abbrev pub decreases-exprs::run : goal.decreases-exprs::run
 decreases-exprs::run l = 64 * length l.tokens.now + (9 + rank l.level)
 
