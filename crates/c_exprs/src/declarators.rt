@@ -51,9 +51,9 @@ fn pointer<'a>(
     ensures shorter { IfOk result (λ x. length x.1.now < length tokens.now) }
 {
     let star = Class::Sign(Punctuator::Star);
-    let (at, behind) = taken(context, count, 1, star, tokens)?;
-    let (is_const, after) = consts(context, role, count + 1, at.pos, behind)?;
-    let (inner, rest) = declarator(context, role, count + 1, after)?;
+    let (at, behind) = read!(taken(context, count, 1, star, tokens));
+    let (is_const, after) = read!(consts(context, role, count + 1, at.pos, behind));
+    let (inner, rest) = read!(declarator(context, role, count + 1, after));
     let whole = pointer_declarator(context.alloc, at.pos, is_const, inner)?;
     Ok((whole, rest))
 }
@@ -92,7 +92,7 @@ fn named<'a>(
     ensures goes { Answers count (scene_of context.now) (part.ADeclarator (part.Direct (role_view role))) tokens.now (λ d. boxed_declarator d) result }
     ensures shorter { IfOk result (λ x. length x.1.now < length tokens.now) }
 {
-    let (word, behind) = taken(context, count, 0, Class::Word, tokens)?;
+    let (word, behind) = read!(taken(context, count, 0, Class::Word, tokens));
     let name = name_of(context.alloc, &word.token)?;
     let pos = word.pos;
     let first = Box::new(context.alloc, Declarator::Name { pos, name })?;
@@ -129,12 +129,12 @@ fn grouped<'a>(
 {
     let opens = Class::Sign(Punctuator::LeftParenthesis);
     let closes = Class::Sign(Punctuator::RightParenthesis);
-    let (opening, behind) = taken(context, count, 1, opens, tokens)?;
-    let (inner, rest) = declarator(context, role, count + 1, behind)?;
+    let (opening, behind) = read!(taken(context, count, 1, opens, tokens));
+    let (inner, rest) = read!(declarator(context, role, count + 1, behind));
     if !is_given(&inner) {
         return Err(refused(context, count, rest));
     }
-    let (_close, behind) = taken(context, count, 0, closes, rest)?;
+    let (_close, behind) = read!(taken(context, count, 0, closes, rest));
     let first = grouped_declarator(context.alloc, opening.pos, inner)?;
     tails(context, role, count, false, first, behind)
 }
@@ -163,7 +163,7 @@ fn tails<'a>(
         if is_no_tail(kind) {
             return Ok((inner, rest));
         }
-        let (longer, after) = tail(context, role, count, kind, inner, rest)?;
+        let (longer, after) = read!(tail(context, role, count, kind, inner, rest));
         is_plain = false;
         inner = longer;
         rest = after;
@@ -205,8 +205,8 @@ fn array<'a>(
     ensures shorter { IfOk result (λ x. length x.1.now < length tokens.now) }
 {
     let opens = Class::Sign(Punctuator::LeftBracket);
-    let (at, behind) = taken(context, count, 1, opens, tokens)?;
-    let (whole, rest) = size(context, role, count + 1, at.pos, inner, behind)?;
+    let (at, behind) = read!(taken(context, count, 1, opens, tokens));
+    let (whole, rest) = read!(size(context, role, count + 1, at.pos, inner, behind));
     Ok((whole, rest))
 }
 
@@ -224,8 +224,8 @@ fn function<'a>(
     ensures shorter { IfOk result (λ x. length x.1.now < length tokens.now) }
 {
     let opens = Class::Sign(Punctuator::LeftParenthesis);
-    let (at, behind) = taken(context, count, 1, opens, tokens)?;
-    let (whole, rest) = parameters(context, count + 1, at.pos, inner, behind)?;
+    let (at, behind) = read!(taken(context, count, 1, opens, tokens));
+    let (whole, rest) = read!(parameters(context, count + 1, at.pos, inner, behind));
     Ok((whole, rest))
 }
 
@@ -249,8 +249,8 @@ fn size<'a>(
         return no_size(context, role, count, at, inner, tokens);
     }
     let closes = Class::Sign(Punctuator::RightBracket);
-    let (value, rest) = conditional(context, count, tokens)?;
-    let (_close, rest) = taken(context, count, 0, closes, rest)?;
+    let (value, rest) = read!(conditional(context, count, tokens));
+    let (_close, rest) = read!(taken(context, count, 0, closes, rest));
     let whole = array_declarator(context.alloc, at, inner, value)?;
     Ok((whole, rest))
 }
@@ -270,7 +270,7 @@ fn parameters<'a>(
     if comes(Mark::Close, tokens) {
         return no_parameters(context, count, at, inner, tokens);
     }
-    let (first, rest) = parameter(context, count, tokens)?;
+    let (first, rest) = read!(parameter(context, count, tokens));
     let params = one_param(context.alloc, first)?;
     more_parameters(context, count, at, inner, params, rest)
 }
@@ -291,13 +291,19 @@ fn more_parameters<'a>(
     let mut params = before;
     let mut rest = tokens;
     'others: while !comes(Mark::Close, rest) {
-        let (_comma, behind) = taken(context, count, 0, Class::Sign(Punctuator::Comma), rest)?;
-        let (next, after) = parameter(context, count, behind)?;
+        let (_comma, behind) = read!(taken(
+            context,
+            count,
+            0,
+            Class::Sign(Punctuator::Comma),
+            rest
+        ));
+        let (next, after) = read!(parameter(context, count, behind));
         push_param(&mut params, next)?;
         rest = after;
     }
     let closes = Class::Sign(Punctuator::RightParenthesis);
-    let (_close, rest) = taken(context, count, 0, closes, rest)?;
+    let (_close, rest) = read!(taken(context, count, 0, closes, rest));
     let whole = function_declarator(context.alloc, at, inner, params)?;
     Ok((whole, rest))
 }
@@ -315,7 +321,7 @@ fn parameter<'a>(
     if plain_word_ahead(context, tokens) {
         return Err(barred(count, Construct::OldParameters, tokens));
     }
-    let (words, rest) = specs(context, count, tokens)?;
-    let (shape, rest) = declarator(context, Role::OfParameter, count, rest)?;
+    let (words, rest) = read!(specs(context, count, tokens));
+    let (shape, rest) = read!(declarator(context, Role::OfParameter, count, rest));
     Ok((param_of(words, shape), rest))
 }

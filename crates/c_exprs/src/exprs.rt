@@ -37,7 +37,7 @@ pub fn run<'a>(
     ensures goes { Answers count (scene_of context.now) (part.AnExpr (part.Run (level_view level))) tokens.now (λ e. boxed_expr e) result }
     ensures shorter { IfOk result (λ x. length x.1.now < length tokens.now) }
 {
-    let (first, rest) = operand(context, level, count, tokens)?;
+    let (first, rest) = read!(operand(context, level, count, tokens));
     more(context, level, count, first, rest)
 }
 
@@ -75,7 +75,13 @@ fn more<'a>(
     let mut rest = tokens;
     let mut depth = count;
     'joints: while let Some(joint) = joint_at(level, rest) {
-        let ((at, right), after) = right_side(context, level, depth, joint_sign(joint), rest)?;
+        let ((at, right), after) = read!(right_side(
+            context,
+            level,
+            depth,
+            joint_sign(joint),
+            rest
+        ));
         left = joined(context.alloc, joint, at, left, right)?;
         rest = after;
         depth += 1;
@@ -96,8 +102,8 @@ fn right_side<'a>(
     ensures within { IfOk result (λ _. count + 1 ≤ 200) }
     ensures shorter { IfOk result (λ x. length x.1.now < length tokens.now) }
 {
-    let (at, behind) = taken(context, count, 1, Class::Sign(sign), tokens)?;
-    let (right, rest) = operand(context, level, count + 1, behind)?;
+    let (at, behind) = read!(taken(context, count, 1, Class::Sign(sign), tokens));
+    let (right, rest) = read!(operand(context, level, count + 1, behind));
     Ok(((at.pos, right), rest))
 }
 
@@ -111,7 +117,7 @@ pub fn assignment<'a>(
     ensures goes { Answers count (scene_of context.now) (part.AnExpr part.Assignment) tokens.now (λ e. boxed_expr e) result }
     ensures shorter { IfOk result (λ x. length x.1.now < length tokens.now) }
 {
-    let (left, rest) = conditional(context, count, tokens)?;
+    let (left, rest) = read!(conditional(context, count, tokens));
     assigned(context, count, left, rest)
 }
 
@@ -146,7 +152,7 @@ fn plain_assigned<'a>(
     ensures shorter { IfOk result (λ x. length x.1.now ≤ length tokens.now) }
 {
     let sign = Punctuator::Assign;
-    let ((at, right), rest) = right_side(context, Level::Commas, count, sign, tokens)?;
+    let ((at, right), rest) = read!(right_side(context, Level::Commas, count, sign, tokens));
     let whole = assign_expr(context.alloc, at, left, right)?;
     Ok((whole, rest))
 }
@@ -164,7 +170,13 @@ fn compound_assigned<'a>(
     ensures goes { Answers count (scene_of context.now) (part.AnExpr (part.Assigned (boxed_expr left))) tokens.now (λ e. boxed_expr e) result }
     ensures shorter { IfOk result (λ x. length x.1.now ≤ length tokens.now) }
 {
-    let ((at, right), rest) = right_side(context, Level::Commas, count, assign_sign(op), tokens)?;
+    let ((at, right), rest) = read!(right_side(
+        context,
+        Level::Commas,
+        count,
+        assign_sign(op),
+        tokens
+    ));
     let whole = compound_expr(context.alloc, at, op, left, right)?;
     Ok((whole, rest))
 }
@@ -179,7 +191,7 @@ pub fn conditional<'a>(
     ensures goes { Answers count (scene_of context.now) (part.AnExpr part.Conditional) tokens.now (λ e. boxed_expr e) result }
     ensures shorter { IfOk result (λ x. length x.1.now < length tokens.now) }
 {
-    let (condition, rest) = run(context, Level::Ors, count, tokens)?;
+    let (condition, rest) = read!(run(context, Level::Ors, count, tokens));
     chosen(context, count, condition, rest)
 }
 
@@ -198,10 +210,10 @@ fn chosen<'a>(
         return Ok((condition, tokens));
     }
     let question = Class::Sign(Punctuator::Question);
-    let (at, behind) = taken(context, count, 1, question, tokens)?;
-    let (then, rest) = run(context, Level::Commas, count + 1, behind)?;
-    let (_colon, behind) = taken(context, count, 1, Class::Sign(Punctuator::Colon), rest)?;
-    let (otherwise, rest) = conditional(context, count + 1, behind)?;
+    let (at, behind) = read!(taken(context, count, 1, question, tokens));
+    let (then, rest) = read!(run(context, Level::Commas, count + 1, behind));
+    let (_colon, behind) = read!(taken(context, count, 1, Class::Sign(Punctuator::Colon), rest));
+    let (otherwise, rest) = read!(conditional(context, count + 1, behind));
     let whole = cond_expr(context.alloc, at.pos, condition, then, otherwise)?;
     Ok((whole, rest))
 }
@@ -235,11 +247,11 @@ fn cast_form<'a>(
 {
     let opens = Class::Sign(Punctuator::LeftParenthesis);
     let closes = Class::Sign(Punctuator::RightParenthesis);
-    let (at, behind) = taken(context, count, 1, opens, tokens)?;
-    let (words, rest) = specs(context, count + 2, behind)?;
-    let (shape, rest) = declarator(context, Role::OfTypeName, count + 2, rest)?;
-    let (_close, behind) = taken(context, count, 1, closes, rest)?;
-    let (inner, rest) = cast_operand(context, count + 1, behind)?;
+    let (at, behind) = read!(taken(context, count, 1, opens, tokens));
+    let (words, rest) = read!(specs(context, count + 2, behind));
+    let (shape, rest) = read!(declarator(context, Role::OfTypeName, count + 2, rest));
+    let (_close, behind) = read!(taken(context, count, 1, closes, rest));
+    let (inner, rest) = read!(cast_operand(context, count + 1, behind));
     let whole = cast_expr(context.alloc, at.pos, words, shape, inner)?;
     Ok((whole, rest))
 }
@@ -290,7 +302,7 @@ fn size_of<'a>(
     ensures shorter { IfOk result (λ x. length x.1.now < length tokens.now) }
 {
     let keyword = Class::Keyword(Keyword::Sizeof);
-    let (at, behind) = taken(context, count, 1, keyword, tokens)?;
+    let (at, behind) = read!(taken(context, count, 1, keyword, tokens));
     sized(context, count + 1, at.pos, behind)
 }
 
@@ -307,8 +319,8 @@ fn pre_step<'a>(
     ensures shorter { IfOk result (λ x. length x.1.now < length tokens.now) }
 {
     let sign = Class::Sign(step_sign(way));
-    let (at, behind) = taken(context, count, 1, sign, tokens)?;
-    let (inner, rest) = unary(context, count + 1, behind)?;
+    let (at, behind) = read!(taken(context, count, 1, sign, tokens));
+    let (inner, rest) = read!(unary(context, count + 1, behind));
     let whole = pre_step_expr(context.alloc, at.pos, way, inner)?;
     Ok((whole, rest))
 }
@@ -326,8 +338,8 @@ fn unary_form<'a>(
     ensures shorter { IfOk result (λ x. length x.1.now < length tokens.now) }
 {
     let sign = Class::Sign(unary_sign(op));
-    let (at, behind) = taken(context, count, 1, sign, tokens)?;
-    let (inner, rest) = cast(context, count + 1, behind)?;
+    let (at, behind) = read!(taken(context, count, 1, sign, tokens));
+    let (inner, rest) = read!(cast(context, count + 1, behind));
     let whole = unary_expr(context.alloc, at.pos, op, inner)?;
     Ok((whole, rest))
 }
@@ -346,7 +358,7 @@ fn sized<'a>(
     if type_ahead(context, tokens) {
         return sized_type(context, count, at, tokens);
     }
-    let (inner, rest) = unary(context, count, tokens)?;
+    let (inner, rest) = read!(unary(context, count, tokens));
     let whole = sizeof_expr(context.alloc, at, inner)?;
     Ok((whole, rest))
 }
@@ -365,10 +377,10 @@ fn sized_type<'a>(
 {
     let opens = Class::Sign(Punctuator::LeftParenthesis);
     let closes = Class::Sign(Punctuator::RightParenthesis);
-    let (_opening, behind) = taken(context, count, 1, opens, tokens)?;
-    let (words, rest) = specs(context, count + 1, behind)?;
-    let (shape, rest) = declarator(context, Role::OfTypeName, count + 1, rest)?;
-    let (_close, rest) = taken(context, count, 0, closes, rest)?;
+    let (_opening, behind) = read!(taken(context, count, 1, opens, tokens));
+    let (words, rest) = read!(specs(context, count + 1, behind));
+    let (shape, rest) = read!(declarator(context, Role::OfTypeName, count + 1, rest));
+    let (_close, rest) = read!(taken(context, count, 0, closes, rest));
     if comes(Mark::Brace, rest) {
         return Err(barred(count, Construct::CompoundLiteral, rest));
     }
@@ -386,7 +398,7 @@ fn postfix<'a>(
     ensures goes { Answers count (scene_of context.now) (part.AnExpr part.Postfix) tokens.now (λ e. boxed_expr e) result }
     ensures shorter { IfOk result (λ x. length x.1.now < length tokens.now) }
 {
-    let (base, rest) = primary(context, count, tokens)?;
+    let (base, rest) = read!(primary(context, count, tokens));
     suffixes(context, count, base, rest)
 }
 
@@ -412,7 +424,7 @@ fn suffixes<'a>(
         if is_no_suffix(kind) {
             return Ok((base, rest));
         }
-        let (longer, after) = suffix(context, depth, kind, base, rest)?;
+        let (longer, after) = read!(suffix(context, depth, kind, base, rest));
         base = longer;
         rest = after;
         depth += 1;
@@ -455,9 +467,9 @@ fn index<'a>(
 {
     let opens = Class::Sign(Punctuator::LeftBracket);
     let closes = Class::Sign(Punctuator::RightBracket);
-    let (at, behind) = taken(context, count, 2, opens, tokens)?;
-    let (place, rest) = run(context, Level::Commas, count + 2, behind)?;
-    let (_close, rest) = taken(context, count, 1, closes, rest)?;
+    let (at, behind) = read!(taken(context, count, 2, opens, tokens));
+    let (place, rest) = read!(run(context, Level::Commas, count + 2, behind));
+    let (_close, rest) = read!(taken(context, count, 1, closes, rest));
     let whole = index_expr(context.alloc, at.pos, base, place)?;
     Ok((whole, rest))
 }
@@ -477,8 +489,8 @@ fn call<'a>(
 {
     let opens = Class::Sign(Punctuator::LeftParenthesis);
     let (pos, name) = word_of(base);
-    let (_opening, behind) = taken(context, count, 2, opens, tokens)?;
-    let (args, rest) = arguments(context, count + 2, behind)?;
+    let (_opening, behind) = read!(taken(context, count, 2, opens, tokens));
+    let (args, rest) = read!(arguments(context, count + 2, behind));
     let whole = call_expr(context.alloc, pos, name, args)?;
     Ok((whole, rest))
 }
@@ -512,9 +524,9 @@ fn enclosed<'a>(
 {
     let opens = Class::Sign(Punctuator::LeftParenthesis);
     let closes = Class::Sign(Punctuator::RightParenthesis);
-    let (opening, behind) = taken(context, count, 1, opens, tokens)?;
-    let (inner, rest) = run(context, Level::Commas, count + 1, behind)?;
-    let (_close, rest) = taken(context, count, 0, closes, rest)?;
+    let (opening, behind) = read!(taken(context, count, 1, opens, tokens));
+    let (inner, rest) = read!(run(context, Level::Commas, count + 1, behind));
+    let (_close, rest) = read!(taken(context, count, 0, closes, rest));
     let whole = enclosed_expr(context.alloc, opening.pos, inner)?;
     Ok((whole, rest))
 }
@@ -532,7 +544,7 @@ fn arguments<'a>(
     if comes(Mark::Close, tokens) {
         return no_arguments(context, count, tokens);
     }
-    let (first, rest) = assignment(context, count, tokens)?;
+    let (first, rest) = read!(assignment(context, count, tokens));
     let args = one_expr(context.alloc, first)?;
     more_arguments(context, count, args, rest)
 }
@@ -551,12 +563,18 @@ fn more_arguments<'a>(
     let mut args = before;
     let mut rest = tokens;
     'others: while !comes(Mark::Close, rest) {
-        let (_comma, behind) = taken(context, count, 0, Class::Sign(Punctuator::Comma), rest)?;
-        let (next, after) = assignment(context, count, behind)?;
+        let (_comma, behind) = read!(taken(
+            context,
+            count,
+            0,
+            Class::Sign(Punctuator::Comma),
+            rest
+        ));
+        let (next, after) = read!(assignment(context, count, behind));
         push_expr(&mut args, next)?;
         rest = after;
     }
     let closes = Class::Sign(Punctuator::RightParenthesis);
-    let (_close, rest) = taken(context, count, 0, closes, rest)?;
+    let (_close, rest) = read!(taken(context, count, 0, closes, rest));
     Ok((Exprs::from_vec(args), rest))
 }

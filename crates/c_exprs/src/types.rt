@@ -36,7 +36,7 @@ pub fn specs<'a>(
     ensures goes { Answers count (scene_of context.now) part.Specs tokens.now (λ s. specs_tree s) result }
     ensures shorter { IfOk result (λ x. length x.1.now < length tokens.now) }
 {
-    let (first, rest) = spec(context, count, tokens)?;
+    let (first, rest) = read!(spec(context, count, tokens));
     let typed = is_type(&first);
     let items = one_spec(context.alloc, first)?;
     more_specs(context, count, typed, items, rest)
@@ -65,7 +65,7 @@ fn more_specs<'a>(
         if !spec_ahead(context, rest) {
             return Ok((Specs::from_vec(items), rest));
         }
-        let (next, after) = spec(context, count, rest)?;
+        let (next, after) = read!(spec(context, count, rest));
         has_type = tells_type(has_type, &next);
         push_spec(&mut items, next)?;
         rest = after;
@@ -100,7 +100,7 @@ fn structure<'a>(
     ensures goes { Answers count (scene_of context.now) (part.ASpec part.Spec) tokens.now (λ s. spec_tree s) result }
     ensures shorter { IfOk result (λ x. length x.1.now < length tokens.now) }
 {
-    let ((at, tag), rest) = structure_head(context, count, tokens)?;
+    let ((at, tag), rest) = read!(structure_head(context, count, tokens));
     structure_form(context, count, at, tag, rest)
 }
 
@@ -121,8 +121,8 @@ fn structure_form<'a>(
         return Ok((structure_of(at, tag, tokens), tokens));
     }
     let brace = Class::Sign(Punctuator::LeftBrace);
-    let (_opening, behind) = taken(context, count, 1, brace, tokens)?;
-    let (members, rest) = members(context, count + 1, behind)?;
+    let (_opening, behind) = read!(taken(context, count, 1, brace, tokens));
+    let (members, rest) = read!(members(context, count + 1, behind));
     let whole = Spec::StructBody {
         pos: at,
         tag,
@@ -142,7 +142,7 @@ fn enumeration<'a>(
     ensures goes { Answers count (scene_of context.now) (part.ASpec part.Spec) tokens.now (λ s. spec_tree s) result }
     ensures shorter { IfOk result (λ x. length x.1.now < length tokens.now) }
 {
-    let ((at, tag), rest) = enumeration_head(context, count, tokens)?;
+    let ((at, tag), rest) = read!(enumeration_head(context, count, tokens));
     enumeration_form(context, count, at, tag, rest)
 }
 
@@ -163,8 +163,8 @@ fn enumeration_form<'a>(
         return Ok((enumeration_of(at, tag, tokens), tokens));
     }
     let brace = Class::Sign(Punctuator::LeftBrace);
-    let (_opening, behind) = taken(context, count, 1, brace, tokens)?;
-    let (enumerators, rest) = enumerators(context, count + 1, behind)?;
+    let (_opening, behind) = read!(taken(context, count, 1, brace, tokens));
+    let (enumerators, rest) = read!(enumerators(context, count + 1, behind));
     let whole = Spec::EnumBody {
         pos: at,
         tag,
@@ -183,7 +183,7 @@ fn members<'a>(
     ensures goes { Answers count (scene_of context.now) part.Members tokens.now (λ m. memberdecls_tree m) result }
     ensures shorter { IfOk result (λ x. length x.1.now < length tokens.now) }
 {
-    let (first, rest) = member(context, count, tokens)?;
+    let (first, rest) = read!(member(context, count, tokens));
     let items = one_member(context.alloc, first)?;
     more_members(context, count, items, rest)
 }
@@ -202,12 +202,12 @@ fn more_members<'a>(
     let mut items = before;
     let mut rest = tokens;
     'lines: while !comes(Mark::RightBrace, rest) {
-        let (next, after) = member(context, count, rest)?;
+        let (next, after) = read!(member(context, count, rest));
         push_member(&mut items, next)?;
         rest = after;
     }
     let closes = Class::Sign(Punctuator::RightBrace);
-    let (_close, rest) = taken(context, count, 0, closes, rest)?;
+    let (_close, rest) = read!(taken(context, count, 0, closes, rest));
     Ok((MemberDecls::from_vec(items), rest))
 }
 
@@ -221,8 +221,8 @@ fn member<'a>(
     ensures goes { Answers count (scene_of context.now) part.AMember tokens.now (λ m. memberdecl_tree m) result }
     ensures shorter { IfOk result (λ x. length x.1.now < length tokens.now) }
 {
-    let (words, rest) = specs(context, count, tokens)?;
-    let (first, rest) = declarator(context, Role::OfMember, count, rest)?;
+    let (words, rest) = read!(specs(context, count, tokens));
+    let (first, rest) = read!(declarator(context, Role::OfMember, count, rest));
     let items = one_declarator(context.alloc, first)?;
     more_declarators(context, count, words, items, rest)
 }
@@ -248,8 +248,14 @@ fn more_declarators<'a>(
         if comes(Mark::Semicolon, rest) {
             return members_end(context, count, specs, declarators, rest);
         }
-        let (_comma, behind) = taken(context, count, 0, Class::Sign(Punctuator::Comma), rest)?;
-        let (next, after) = declarator(context, Role::OfMember, count, behind)?;
+        let (_comma, behind) = read!(taken(
+            context,
+            count,
+            0,
+            Class::Sign(Punctuator::Comma),
+            rest
+        ));
+        let (next, after) = read!(declarator(context, Role::OfMember, count, behind));
         push_declarator(&mut declarators, next)?;
         rest = after;
     }
@@ -265,7 +271,7 @@ fn enumerators<'a>(
     ensures goes { Answers count (scene_of context.now) part.Enumerators tokens.now (λ e. enumerators_tree e) result }
     ensures shorter { IfOk result (λ x. length x.1.now < length tokens.now) }
 {
-    let (first, rest) = enumerator(context, count, tokens)?;
+    let (first, rest) = read!(enumerator(context, count, tokens));
     let items = one_enumerator(context.alloc, first)?;
     more_enumerators(context, count, items, rest)
 }
@@ -284,16 +290,22 @@ fn more_enumerators<'a>(
     let mut items = before;
     let mut rest = tokens;
     'values: while !comes(Mark::RightBrace, rest) {
-        let (_comma, behind) = taken(context, count, 0, Class::Sign(Punctuator::Comma), rest)?;
+        let (_comma, behind) = read!(taken(
+            context,
+            count,
+            0,
+            Class::Sign(Punctuator::Comma),
+            rest
+        ));
         if comes(Mark::RightBrace, behind) {
             return comma_end(context, count, items, behind);
         }
-        let (next, after) = enumerator(context, count, behind)?;
+        let (next, after) = read!(enumerator(context, count, behind));
         push_enumerator(&mut items, next)?;
         rest = after;
     }
     let closes = Class::Sign(Punctuator::RightBrace);
-    let (_close, rest) = taken(context, count, 0, closes, rest)?;
+    let (_close, rest) = read!(taken(context, count, 0, closes, rest));
     Ok((Enumerators::from_vec(items), rest))
 }
 
@@ -307,7 +319,7 @@ fn enumerator<'a>(
     ensures goes { Answers count (scene_of context.now) part.AnEnumerator tokens.now (λ e. enumerator_tree e) result }
     ensures shorter { IfOk result (λ x. length x.1.now < length tokens.now) }
 {
-    let (word, behind) = taken(context, count, 0, Class::Word, tokens)?;
+    let (word, behind) = read!(taken(context, count, 0, Class::Word, tokens));
     let name = name_of(context.alloc, &word.token)?;
     enumerator_value(context, count, word.pos, name, behind)
 }
@@ -328,7 +340,7 @@ fn enumerator_value<'a>(
         return Ok((Enumerator::Plain { pos: at, name }, tokens));
     }
     let sign = Class::Sign(Punctuator::Assign);
-    let (_equals, behind) = taken(context, count, 1, sign, tokens)?;
-    let (value, rest) = conditional(context, count + 1, behind)?;
+    let (_equals, behind) = read!(taken(context, count, 1, sign, tokens));
+    let (value, rest) = read!(conditional(context, count + 1, behind));
     Ok((valued_enumerator(at, name, value), rest))
 }

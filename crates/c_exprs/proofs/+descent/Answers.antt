@@ -9,7 +9,7 @@ use Rattle.c_grammar.specs.ExprRules as rule
 use Rattle.c_grammar.specs.TypeRules as kind
 use Rattle.c_grammar.specs.Descent.{goes_on, stops, is_done, is_barred, no_rule, passes, fails}
 use Rattle.c_descent.specs.Views.{boxed_declarator, boxed_expr, scene_of, level_view}
-use Rattle.c_descent.specs.Answers.{given, halted, stepped}
+use Rattle.c_descent.specs.Answers.{given, halted, stalled, stepped}
 use Rattle.c_descent.proofs.Steps.{relayed, halts, failed, starved, stalls, starves, answer, halt, take, refuse, step, stall, stopped, by, here, stops_here, done, if_true, if_false, borne, unborne, sign_is}
 use Rattle.c_descent.proofs.Choices.{primary_is, prefix_is, suffix_is, assign_is, more_is}
 use Rattle.c_leaves.proofs.ExprSteps.{operand_at, not_question, is_question_ahead, suffix_free, tail_expr, suffixes_at, behind_sign, joint_step, joint_stop, argument_step, arguments_at, and_left, rebased, nothing_of, call_by, no_joint}
@@ -19,11 +19,11 @@ use Rattle.c_descent.proofs.TypeSteps.{specs_at, members_at, declarators_at, enu
 use Rattle.c_leaves.proofs.DeclaratorSteps.{direct_is, tail_is, no_tail, tails_at, tails_named, tails_absent, parameters_at, tail_declarator, parameter_step, regiven, renamed, both_true, first_false}
 use Rattle.c_exprs.proofs.+descent.Goals as goal
 
-pub exprs::run-returns-in_err-first-clause-goes : goal.exprs::run-returns-in_err-first-clause-goes
-exprs::run-returns-in_err-first-clause-goes t c = failed c.from_residual.ensures.1 (halts (halt c.in_err-first.ensures.goes) (λ why rest g. by (expr_rule rule.run) (refl) (refl) (stops_here g)))
+pub exprs::run-returns-in-Err-clause-goes : goal.exprs::run-returns-in-Err-clause-goes
+exprs::run-returns-in-Err-clause-goes t c = halted (halts (halt c.in-Err.ensures.goes) (λ why rest g. by (expr_rule rule.run) (refl) (refl) (stops_here g)))
 
 pub exprs::run-returns-clause-goes : goal.exprs::run-returns-clause-goes
-exprs::run-returns-clause-goes t c = relayed c.more.ensures.goes (λ x g. by (expr_rule rule.run) (refl) (refl) (here (answer c.in_ok-first.ensures.goes) (here g (is_done)))) (λ why rest g. by (expr_rule rule.run) (refl) (refl) (here (answer c.in_ok-first.ensures.goes) (stops_here g)))
+exprs::run-returns-clause-goes t c = relayed c.more.ensures.goes (λ x g. by (expr_rule rule.run) (refl) (refl) (here (answer c.in-Ok.ensures.goes) (here g (is_done)))) (λ why rest g. by (expr_rule rule.run) (refl) (refl) (here (answer c.in-Ok.ensures.goes) (stops_here g)))
 
 pub exprs::operand-returns-in-Assignment-clause-goes : goal.exprs::operand-returns-in-Assignment-clause-goes
 exprs::operand-returns-in-Assignment-clause-goes t c = operand_at c.args.level (sym c.in-Assignment.ensures) c.assignment.ensures.goes
@@ -34,80 +34,80 @@ exprs::operand-returns-in-Run-clause-goes t c = operand_at c.args.level (sym c.i
 pub exprs::operand-returns-in-Cast-clause-goes : goal.exprs::operand-returns-in-Cast-clause-goes
 exprs::operand-returns-in-Cast-clause-goes t c = operand_at c.args.level (sym c.in-Cast.ensures) c.cast.ensures.goes
 
-pub exprs::assignment-returns-in_err-left-clause-goes : goal.exprs::assignment-returns-in_err-left-clause-goes
-exprs::assignment-returns-in_err-left-clause-goes t c = failed c.from_residual.ensures.1 (halts (halt c.in_err-left.ensures.goes) (λ why rest g. by (expr_rule rule.assignment) (refl) (refl) (stops_here g)))
+pub exprs::assignment-returns-in-Err-clause-goes : goal.exprs::assignment-returns-in-Err-clause-goes
+exprs::assignment-returns-in-Err-clause-goes t c = halted (halts (halt c.in-Err.ensures.goes) (λ why rest g. by (expr_rule rule.assignment) (refl) (refl) (stops_here g)))
 
 pub exprs::assignment-returns-clause-goes : goal.exprs::assignment-returns-clause-goes
-exprs::assignment-returns-clause-goes t c = relayed c.assigned.ensures.goes (λ x g. by (expr_rule rule.assignment) (refl) (refl) (here (answer c.in_ok-left.ensures.goes) (here g (is_done)))) (λ why rest g. by (expr_rule rule.assignment) (refl) (refl) (here (answer c.in_ok-left.ensures.goes) (stops_here g)))
+exprs::assignment-returns-clause-goes t c = relayed c.assigned.ensures.goes (λ x g. by (expr_rule rule.assignment) (refl) (refl) (here (answer c.in-Ok.ensures.goes) (here g (is_done)))) (λ why rest g. by (expr_rule rule.assignment) (refl) (refl) (here (answer c.in-Ok.ensures.goes) (stops_here g)))
 
 pub exprs::assigned-returns-in-Nothing-clause-goes : goal.exprs::assigned-returns-in-Nothing-clause-goes
 exprs::assigned-returns-in-Nothing-clause-goes t c = given (by (expr_rule rule.not_assigned) refl (assign_is (scene_of c.args.context.now) (boxed_expr c.args.left) c.args.tokens.now (sym c.in-Nothing.ensures)) is_done)
 
-pub exprs::plain_assigned-returns-in_err-at-clause-goes : goal.exprs::plain_assigned-returns-in_err-at-clause-goes
-exprs::plain_assigned-returns-in_err-at-clause-goes t c = failed c.from_residual.ensures.1 (halts (stall (c.in_err-at.ensures.goes (part.AnExpr (part.Assigned (boxed_expr c.args.left))) (λ at right. process.give (trees.Assign at (boxed_expr c.args.left) right)))) (λ why rest g. by (expr_rule rule.assigned) refl (assign_is (scene_of c.args.context.now) (boxed_expr c.args.left) c.args.tokens.now c.requires) g))
+pub exprs::plain_assigned-returns-in-Err-clause-goes : goal.exprs::plain_assigned-returns-in-Err-clause-goes
+exprs::plain_assigned-returns-in-Err-clause-goes t c = halted (halts (stall (c.in-Err.ensures.goes (part.AnExpr (part.Assigned (boxed_expr c.args.left))) (λ at right. process.give (trees.Assign at (boxed_expr c.args.left) right)))) (λ why rest g. by (expr_rule rule.assigned) refl (assign_is (scene_of c.args.context.now) (boxed_expr c.args.left) c.args.tokens.now c.requires) g))
 
 pub exprs::plain_assigned-returns-in_err-whole-clause-goes : goal.exprs::plain_assigned-returns-in_err-whole-clause-goes
-exprs::plain_assigned-returns-in_err-whole-clause-goes t c = starved c.from_residual-in_err-whole.ensures.1
+exprs::plain_assigned-returns-in_err-whole-clause-goes t c = starved c.from_residual.ensures.1
 
 pub exprs::plain_assigned-returns-clause-goes : goal.exprs::plain_assigned-returns-clause-goes
-exprs::plain_assigned-returns-clause-goes t c = given (by (expr_rule rule.assigned) refl (assign_is (scene_of c.args.context.now) (boxed_expr c.args.left) c.args.tokens.now c.requires) (step (c.in_ok-at.ensures.goes (part.AnExpr (part.Assigned (boxed_expr c.args.left))) (λ at right. process.give (trees.Assign at (boxed_expr c.args.left) right))) _ (done c.in_ok-whole.ensures)))
+exprs::plain_assigned-returns-clause-goes t c = given (by (expr_rule rule.assigned) refl (assign_is (scene_of c.args.context.now) (boxed_expr c.args.left) c.args.tokens.now c.requires) (step (c.in-Ok.ensures.goes (part.AnExpr (part.Assigned (boxed_expr c.args.left))) (λ at right. process.give (trees.Assign at (boxed_expr c.args.left) right))) _ (done c.in_ok-whole.ensures)))
 
-pub exprs::compound_assigned-returns-in_err-at-clause-goes : goal.exprs::compound_assigned-returns-in_err-at-clause-goes
-exprs::compound_assigned-returns-in_err-at-clause-goes t c = failed c.from_residual.ensures.1 (halts (stall (behind_sign c.assign_sign.ensures c.in_err-at.ensures.goes (part.AnExpr (part.Assigned (boxed_expr c.args.left))) (λ at right. process.give (trees.Compound at c.args.op (boxed_expr c.args.left) right)))) (λ why rest g. by (expr_rule (rule.compound c.args.op)) refl (assign_is (scene_of c.args.context.now) (boxed_expr c.args.left) c.args.tokens.now c.requires) g))
+pub exprs::compound_assigned-returns-in-Err-clause-goes : goal.exprs::compound_assigned-returns-in-Err-clause-goes
+exprs::compound_assigned-returns-in-Err-clause-goes t c = halted (halts (stall (behind_sign c.assign_sign.ensures c.in-Err.ensures.goes (part.AnExpr (part.Assigned (boxed_expr c.args.left))) (λ at right. process.give (trees.Compound at c.args.op (boxed_expr c.args.left) right)))) (λ why rest g. by (expr_rule (rule.compound c.args.op)) refl (assign_is (scene_of c.args.context.now) (boxed_expr c.args.left) c.args.tokens.now c.requires) g))
 
 pub exprs::compound_assigned-returns-in_err-whole-clause-goes : goal.exprs::compound_assigned-returns-in_err-whole-clause-goes
-exprs::compound_assigned-returns-in_err-whole-clause-goes t c = starved c.from_residual-in_err-whole.ensures.1
+exprs::compound_assigned-returns-in_err-whole-clause-goes t c = starved c.from_residual.ensures.1
 
 pub exprs::compound_assigned-returns-clause-goes : goal.exprs::compound_assigned-returns-clause-goes
-exprs::compound_assigned-returns-clause-goes t c = given (by (expr_rule (rule.compound c.args.op)) refl (assign_is (scene_of c.args.context.now) (boxed_expr c.args.left) c.args.tokens.now c.requires) (step (behind_sign c.assign_sign.ensures c.in_ok-at.ensures.goes (part.AnExpr (part.Assigned (boxed_expr c.args.left))) (λ at right. process.give (trees.Compound at c.args.op (boxed_expr c.args.left) right))) _ (done c.in_ok-whole.ensures)))
+exprs::compound_assigned-returns-clause-goes t c = given (by (expr_rule (rule.compound c.args.op)) refl (assign_is (scene_of c.args.context.now) (boxed_expr c.args.left) c.args.tokens.now c.requires) (step (behind_sign c.assign_sign.ensures c.in-Ok.ensures.goes (part.AnExpr (part.Assigned (boxed_expr c.args.left))) (λ at right. process.give (trees.Compound at c.args.op (boxed_expr c.args.left) right))) _ (done c.in_ok-whole.ensures)))
 
-pub exprs::conditional-returns-in_err-condition-clause-goes : goal.exprs::conditional-returns-in_err-condition-clause-goes
-exprs::conditional-returns-in_err-condition-clause-goes t c = failed c.from_residual.ensures.1 (halts (halt c.in_err-condition.ensures.goes) (λ why rest g. by (expr_rule rule.conditional) (refl) (refl) (stops_here g)))
+pub exprs::conditional-returns-in-Err-clause-goes : goal.exprs::conditional-returns-in-Err-clause-goes
+exprs::conditional-returns-in-Err-clause-goes t c = halted (halts (halt c.in-Err.ensures.goes) (λ why rest g. by (expr_rule rule.conditional) (refl) (refl) (stops_here g)))
 
 pub exprs::conditional-returns-clause-goes : goal.exprs::conditional-returns-clause-goes
-exprs::conditional-returns-clause-goes t c = relayed c.chosen.ensures.goes (λ x g. by (expr_rule rule.conditional) (refl) (refl) (here (answer c.in_ok-condition.ensures.goes) (here g (is_done)))) (λ why rest g. by (expr_rule rule.conditional) (refl) (refl) (here (answer c.in_ok-condition.ensures.goes) (stops_here g)))
+exprs::conditional-returns-clause-goes t c = relayed c.chosen.ensures.goes (λ x g. by (expr_rule rule.conditional) (refl) (refl) (here (answer c.in-Ok.ensures.goes) (here g (is_done)))) (λ why rest g. by (expr_rule rule.conditional) (refl) (refl) (here (answer c.in-Ok.ensures.goes) (stops_here g)))
 
 pub exprs::chosen-returns-then-not-comes-clause-goes : goal.exprs::chosen-returns-then-not-comes-clause-goes
 exprs::chosen-returns-then-not-comes-clause-goes t c = given (by (expr_rule rule.not_chosen) refl (not_question (scene_of c.args.context.now) (boxed_expr c.args.condition) c.args.tokens.now (sym c.if-not-comes.ensures)) is_done)
 
-pub exprs::chosen-returns-in_err-at-clause-goes : goal.exprs::chosen-returns-in_err-at-clause-goes
-exprs::chosen-returns-in_err-at-clause-goes t c = failed c.from_residual.ensures.1 (halts (refuse c.in_err-at.ensures.goes) (λ why rest g. by (expr_rule rule.chosen) refl (is_question_ahead (scene_of c.args.context.now) (boxed_expr c.args.condition) c.args.tokens.now (sym c.if-not-comes.ensures)) (g _ _)))
+pub exprs::chosen-returns-in-Err-clause-goes : goal.exprs::chosen-returns-in-Err-clause-goes
+exprs::chosen-returns-in-Err-clause-goes t c = halted (halts (refuse c.in-Err.ensures.goes) (λ why rest g. by (expr_rule rule.chosen) refl (is_question_ahead (scene_of c.args.context.now) (boxed_expr c.args.condition) c.args.tokens.now (sym c.if-not-comes.ensures)) (g _ _)))
 
-pub exprs::chosen-returns-in_err-then-clause-goes : goal.exprs::chosen-returns-in_err-then-clause-goes
-exprs::chosen-returns-in_err-then-clause-goes t c = failed c.from_residual-in_err-then.ensures.1 (halts (halt c.in_err-then.ensures.goes) (λ why rest g. by (expr_rule rule.chosen) refl (is_question_ahead (scene_of c.args.context.now) (boxed_expr c.args.condition) c.args.tokens.now (sym c.if-not-comes.ensures)) (take c.in_ok-at.ensures.goes (stops g))))
+pub exprs::chosen-returns-in-Err-run-clause-goes : goal.exprs::chosen-returns-in-Err-run-clause-goes
+exprs::chosen-returns-in-Err-run-clause-goes t c = halted (halts (halt c.in-Err-run.ensures.goes) (λ why rest g. by (expr_rule rule.chosen) refl (is_question_ahead (scene_of c.args.context.now) (boxed_expr c.args.condition) c.args.tokens.now (sym c.if-not-comes.ensures)) (take c.in-Ok.ensures.goes (stops g))))
 
-pub exprs::chosen-returns-in_err-_colon-clause-goes : goal.exprs::chosen-returns-in_err-_colon-clause-goes
-exprs::chosen-returns-in_err-_colon-clause-goes t c = failed c.from_residual-in_err-_colon.ensures.1 (halts (refuse c.in_err-_colon.ensures.goes) (λ why rest g. by (expr_rule rule.chosen) refl (is_question_ahead (scene_of c.args.context.now) (boxed_expr c.args.condition) c.args.tokens.now (sym c.if-not-comes.ensures)) (take c.in_ok-at.ensures.goes (goes_on (answer c.in_ok-then.ensures.goes) (g _ _)))))
+pub exprs::chosen-returns-in-Err-taken-clause-goes : goal.exprs::chosen-returns-in-Err-taken-clause-goes
+exprs::chosen-returns-in-Err-taken-clause-goes t c = halted (halts (refuse c.in-Err-taken.ensures.goes) (λ why rest g. by (expr_rule rule.chosen) refl (is_question_ahead (scene_of c.args.context.now) (boxed_expr c.args.condition) c.args.tokens.now (sym c.if-not-comes.ensures)) (take c.in-Ok.ensures.goes (goes_on (answer c.in-Ok-run.ensures.goes) (g _ _)))))
 
-pub exprs::chosen-returns-in_err-otherwise-clause-goes : goal.exprs::chosen-returns-in_err-otherwise-clause-goes
-exprs::chosen-returns-in_err-otherwise-clause-goes t c = failed c.from_residual-in_err-otherwise.ensures.1 (halts (halt c.in_err-otherwise.ensures.goes) (λ why rest g. by (expr_rule rule.chosen) refl (is_question_ahead (scene_of c.args.context.now) (boxed_expr c.args.condition) c.args.tokens.now (sym c.if-not-comes.ensures)) (take c.in_ok-at.ensures.goes (goes_on (answer c.in_ok-then.ensures.goes) (take c.in_ok-_colon.ensures.goes (stops g))))))
+pub exprs::chosen-returns-in-Err-conditional-clause-goes : goal.exprs::chosen-returns-in-Err-conditional-clause-goes
+exprs::chosen-returns-in-Err-conditional-clause-goes t c = halted (halts (halt c.in-Err-conditional.ensures.goes) (λ why rest g. by (expr_rule rule.chosen) refl (is_question_ahead (scene_of c.args.context.now) (boxed_expr c.args.condition) c.args.tokens.now (sym c.if-not-comes.ensures)) (take c.in-Ok.ensures.goes (goes_on (answer c.in-Ok-run.ensures.goes) (take c.in-Ok-taken.ensures.goes (stops g))))))
 
 pub exprs::chosen-returns-clause-goes : goal.exprs::chosen-returns-clause-goes
-exprs::chosen-returns-clause-goes t c = given (by (expr_rule rule.chosen) refl (is_question_ahead (scene_of c.args.context.now) (boxed_expr c.args.condition) c.args.tokens.now (sym c.if-not-comes.ensures)) (take c.in_ok-at.ensures.goes (goes_on (answer c.in_ok-then.ensures.goes) (take c.in_ok-_colon.ensures.goes (goes_on (answer c.in_ok-otherwise.ensures.goes) (done c.in_ok-whole.ensures))))))
+exprs::chosen-returns-clause-goes t c = given (by (expr_rule rule.chosen) refl (is_question_ahead (scene_of c.args.context.now) (boxed_expr c.args.condition) c.args.tokens.now (sym c.if-not-comes.ensures)) (take c.in-Ok.ensures.goes (goes_on (answer c.in-Ok-run.ensures.goes) (take c.in-Ok-taken.ensures.goes (goes_on (answer c.in-Ok-conditional.ensures.goes) (done c.in_ok-whole.ensures))))))
 
 pub exprs::chosen-returns-in_err-whole-clause-goes : goal.exprs::chosen-returns-in_err-whole-clause-goes
-exprs::chosen-returns-in_err-whole-clause-goes t c = starved c.from_residual-in_err-whole.ensures.1
+exprs::chosen-returns-in_err-whole-clause-goes t c = starved c.from_residual.ensures.1
 
-pub exprs::cast_form-returns-in_err-at-clause-goes : goal.exprs::cast_form-returns-in_err-at-clause-goes
-exprs::cast_form-returns-in_err-at-clause-goes t c = failed c.from_residual.ensures.1 (halts (refuse c.in_err-at.ensures.goes) (λ why rest g. by (expr_rule rule.cast) (refl) (if_true _ c.requires) (passes (c.requires) (g _ _))))
+pub exprs::cast_form-returns-in-Err-clause-goes : goal.exprs::cast_form-returns-in-Err-clause-goes
+exprs::cast_form-returns-in-Err-clause-goes t c = halted (halts (refuse c.in-Err.ensures.goes) (λ why rest g. by (expr_rule rule.cast) (refl) (if_true _ c.requires) (passes (c.requires) (g _ _))))
 
-pub exprs::cast_form-returns-in_err-words-clause-goes : goal.exprs::cast_form-returns-in_err-words-clause-goes
-exprs::cast_form-returns-in_err-words-clause-goes t c = failed c.from_residual-in_err-words.ensures.1 (halts (halt c.in_err-words.ensures.goes) (λ why rest g. by (expr_rule rule.cast) (refl) (if_true _ c.requires) (passes (c.requires) (take c.in_ok-at.ensures.goes (stops g)))))
+pub exprs::cast_form-returns-in-Err-specs-clause-goes : goal.exprs::cast_form-returns-in-Err-specs-clause-goes
+exprs::cast_form-returns-in-Err-specs-clause-goes t c = halted (halts (halt c.in-Err-specs.ensures.goes) (λ why rest g. by (expr_rule rule.cast) (refl) (if_true _ c.requires) (passes (c.requires) (take c.in-Ok.ensures.goes (stops g)))))
 
-pub exprs::cast_form-returns-in_err-shape-clause-goes : goal.exprs::cast_form-returns-in_err-shape-clause-goes
-exprs::cast_form-returns-in_err-shape-clause-goes t c = failed c.from_residual-in_err-shape.ensures.1 (halts (halt c.in_err-shape.ensures.goes) (λ why rest g. by (expr_rule rule.cast) (refl) (if_true _ c.requires) (passes (c.requires) (take c.in_ok-at.ensures.goes (goes_on (answer c.in_ok-words.ensures.goes) (stops g))))))
+pub exprs::cast_form-returns-in-Err-declarator-clause-goes : goal.exprs::cast_form-returns-in-Err-declarator-clause-goes
+exprs::cast_form-returns-in-Err-declarator-clause-goes t c = halted (halts (halt c.in-Err-declarator.ensures.goes) (λ why rest g. by (expr_rule rule.cast) (refl) (if_true _ c.requires) (passes (c.requires) (take c.in-Ok.ensures.goes (goes_on (answer c.in-Ok-specs.ensures.goes) (stops g))))))
 
-pub exprs::cast_form-returns-in_err-_close-clause-goes : goal.exprs::cast_form-returns-in_err-_close-clause-goes
-exprs::cast_form-returns-in_err-_close-clause-goes t c = failed c.from_residual-in_err-_close.ensures.1 (halts (refuse c.in_err-_close.ensures.goes) (λ why rest g. by (expr_rule rule.cast) (refl) (if_true _ c.requires) (passes (c.requires) (take c.in_ok-at.ensures.goes (goes_on (answer c.in_ok-words.ensures.goes) (goes_on (answer c.in_ok-shape.ensures.goes) (g _ _)))))))
+pub exprs::cast_form-returns-in-Err-taken-clause-goes : goal.exprs::cast_form-returns-in-Err-taken-clause-goes
+exprs::cast_form-returns-in-Err-taken-clause-goes t c = halted (halts (refuse c.in-Err-taken.ensures.goes) (λ why rest g. by (expr_rule rule.cast) (refl) (if_true _ c.requires) (passes (c.requires) (take c.in-Ok.ensures.goes (goes_on (answer c.in-Ok-specs.ensures.goes) (goes_on (answer c.in-Ok-declarator.ensures.goes) (g _ _)))))))
 
-pub exprs::cast_form-returns-in_err-inner-clause-goes : goal.exprs::cast_form-returns-in_err-inner-clause-goes
-exprs::cast_form-returns-in_err-inner-clause-goes t c = failed c.from_residual-in_err-inner.ensures.1 (halts (halt c.in_err-inner.ensures.goes) (λ why rest g. by (expr_rule rule.cast) (refl) (if_true _ c.requires) (passes (c.requires) (take c.in_ok-at.ensures.goes (goes_on (answer c.in_ok-words.ensures.goes) (goes_on (answer c.in_ok-shape.ensures.goes) (take c.in_ok-_close.ensures.goes (stops g))))))))
+pub exprs::cast_form-returns-in-Err-cast_operand-clause-goes : goal.exprs::cast_form-returns-in-Err-cast_operand-clause-goes
+exprs::cast_form-returns-in-Err-cast_operand-clause-goes t c = halted (halts (halt c.in-Err-cast_operand.ensures.goes) (λ why rest g. by (expr_rule rule.cast) (refl) (if_true _ c.requires) (passes (c.requires) (take c.in-Ok.ensures.goes (goes_on (answer c.in-Ok-specs.ensures.goes) (goes_on (answer c.in-Ok-declarator.ensures.goes) (take c.in-Ok-taken.ensures.goes (stops g))))))))
 
 pub exprs::cast_form-returns-in_err-whole-clause-goes : goal.exprs::cast_form-returns-in_err-whole-clause-goes
-exprs::cast_form-returns-in_err-whole-clause-goes t c = starved c.from_residual-in_err-whole.ensures.1
+exprs::cast_form-returns-in_err-whole-clause-goes t c = starved c.from_residual.ensures.1
 
 pub exprs::cast_form-returns-clause-goes : goal.exprs::cast_form-returns-clause-goes
-exprs::cast_form-returns-clause-goes t c = given (by (expr_rule rule.cast) (refl) (if_true _ c.requires) (passes (c.requires) (take c.in_ok-at.ensures.goes (goes_on (answer c.in_ok-words.ensures.goes) (goes_on (answer c.in_ok-shape.ensures.goes) (take c.in_ok-_close.ensures.goes (goes_on (answer c.in_ok-inner.ensures.goes) (done c.in_ok-whole.ensures))))))))
+exprs::cast_form-returns-clause-goes t c = given (by (expr_rule rule.cast) (refl) (if_true _ c.requires) (passes (c.requires) (take c.in-Ok.ensures.goes (goes_on (answer c.in-Ok-specs.ensures.goes) (goes_on (answer c.in-Ok-declarator.ensures.goes) (take c.in-Ok-taken.ensures.goes (goes_on (answer c.in-Ok-cast_operand.ensures.goes) (done c.in_ok-whole.ensures))))))))
 
 pub exprs::cast-returns-clause-goes : goal.exprs::cast-returns-clause-goes
 exprs::cast-returns-clause-goes t c = relayed c.unary.ensures.goes (λ x g. by (expr_rule rule.no_cast) (refl) (if_false _ (sym c.if-type_ahead.ensures)) (passes (ap not (sym c.if-type_ahead.ensures)) (here g (is_done)))) (λ why rest g. by (expr_rule rule.no_cast) (refl) (if_false _ (sym c.if-type_ahead.ensures)) (passes (ap not (sym c.if-type_ahead.ensures)) (stops_here g)))
@@ -121,92 +121,92 @@ exprs::cast_operand-returns-clause-goes t c = relayed c.cast.ensures.goes (λ x 
 pub exprs::unary-returns-in-Nothing-clause-goes : goal.exprs::unary-returns-in-Nothing-clause-goes
 exprs::unary-returns-in-Nothing-clause-goes t c = relayed c.postfix.ensures.goes (λ x g. by (expr_rule rule.no_prefix) (refl) (prefix_is (scene_of c.args.context.now) c.args.tokens.now (sym c.in-Nothing.ensures)) (here g (is_done))) (λ why rest g. by (expr_rule rule.no_prefix) (refl) (prefix_is (scene_of c.args.context.now) c.args.tokens.now (sym c.in-Nothing.ensures)) (stops_here g))
 
-pub exprs::size_of-returns-in_err-at-clause-goes : goal.exprs::size_of-returns-in_err-at-clause-goes
-exprs::size_of-returns-in_err-at-clause-goes t c = failed c.from_residual.ensures.1 (halts (refuse c.in_err-at.ensures.goes) (λ why rest g. by (expr_rule rule.size_of) (refl) (prefix_is (scene_of c.args.context.now) c.args.tokens.now c.requires) (g _ _)))
+pub exprs::size_of-returns-in-Err-clause-goes : goal.exprs::size_of-returns-in-Err-clause-goes
+exprs::size_of-returns-in-Err-clause-goes t c = halted (halts (refuse c.in-Err.ensures.goes) (λ why rest g. by (expr_rule rule.size_of) (refl) (prefix_is (scene_of c.args.context.now) c.args.tokens.now c.requires) (g _ _)))
 
 pub exprs::size_of-returns-clause-goes : goal.exprs::size_of-returns-clause-goes
-exprs::size_of-returns-clause-goes t c = relayed c.sized.ensures.goes (λ x g. by (expr_rule rule.size_of) (refl) (prefix_is (scene_of c.args.context.now) c.args.tokens.now c.requires) (take c.in_ok-at.ensures.goes (goes_on g (is_done)))) (λ why rest g. by (expr_rule rule.size_of) (refl) (prefix_is (scene_of c.args.context.now) c.args.tokens.now c.requires) (take c.in_ok-at.ensures.goes (stops g)))
+exprs::size_of-returns-clause-goes t c = relayed c.sized.ensures.goes (λ x g. by (expr_rule rule.size_of) (refl) (prefix_is (scene_of c.args.context.now) c.args.tokens.now c.requires) (take c.in-Ok.ensures.goes (goes_on g (is_done)))) (λ why rest g. by (expr_rule rule.size_of) (refl) (prefix_is (scene_of c.args.context.now) c.args.tokens.now c.requires) (take c.in-Ok.ensures.goes (stops g)))
 
-pub exprs::pre_step-returns-in_err-at-clause-goes : goal.exprs::pre_step-returns-in_err-at-clause-goes
-exprs::pre_step-returns-in_err-at-clause-goes t c = failed c.from_residual.ensures.1 (halts (refuse (sign_is c.step_sign.ensures c.in_err-at.ensures.goes)) (λ why rest g. by (expr_rule (rule.pre_step c.args.way)) (refl) (prefix_is (scene_of c.args.context.now) c.args.tokens.now c.requires) (g _ _)))
+pub exprs::pre_step-returns-in-Err-clause-goes : goal.exprs::pre_step-returns-in-Err-clause-goes
+exprs::pre_step-returns-in-Err-clause-goes t c = halted (halts (refuse (sign_is c.step_sign.ensures c.in-Err.ensures.goes)) (λ why rest g. by (expr_rule (rule.pre_step c.args.way)) (refl) (prefix_is (scene_of c.args.context.now) c.args.tokens.now c.requires) (g _ _)))
 
-pub exprs::pre_step-returns-in_err-inner-clause-goes : goal.exprs::pre_step-returns-in_err-inner-clause-goes
-exprs::pre_step-returns-in_err-inner-clause-goes t c = failed c.from_residual-in_err-inner.ensures.1 (halts (halt c.in_err-inner.ensures.goes) (λ why rest g. by (expr_rule (rule.pre_step c.args.way)) (refl) (prefix_is (scene_of c.args.context.now) c.args.tokens.now c.requires) (take (sign_is c.step_sign.ensures c.in_ok-at.ensures.goes) (stops g))))
+pub exprs::pre_step-returns-in-Err-unary-clause-goes : goal.exprs::pre_step-returns-in-Err-unary-clause-goes
+exprs::pre_step-returns-in-Err-unary-clause-goes t c = halted (halts (halt c.in-Err-unary.ensures.goes) (λ why rest g. by (expr_rule (rule.pre_step c.args.way)) (refl) (prefix_is (scene_of c.args.context.now) c.args.tokens.now c.requires) (take (sign_is c.step_sign.ensures c.in-Ok.ensures.goes) (stops g))))
 
 pub exprs::pre_step-returns-in_err-whole-clause-goes : goal.exprs::pre_step-returns-in_err-whole-clause-goes
-exprs::pre_step-returns-in_err-whole-clause-goes t c = starved c.from_residual-in_err-whole.ensures.1
+exprs::pre_step-returns-in_err-whole-clause-goes t c = starved c.from_residual.ensures.1
 
 pub exprs::pre_step-returns-clause-goes : goal.exprs::pre_step-returns-clause-goes
-exprs::pre_step-returns-clause-goes t c = given (by (expr_rule (rule.pre_step c.args.way)) (refl) (prefix_is (scene_of c.args.context.now) c.args.tokens.now c.requires) (take (sign_is c.step_sign.ensures c.in_ok-at.ensures.goes) (goes_on (answer c.in_ok-inner.ensures.goes) (done c.in_ok-whole.ensures))))
+exprs::pre_step-returns-clause-goes t c = given (by (expr_rule (rule.pre_step c.args.way)) (refl) (prefix_is (scene_of c.args.context.now) c.args.tokens.now c.requires) (take (sign_is c.step_sign.ensures c.in-Ok.ensures.goes) (goes_on (answer c.in-Ok-unary.ensures.goes) (done c.in_ok-whole.ensures))))
 
-pub exprs::unary_form-returns-in_err-at-clause-goes : goal.exprs::unary_form-returns-in_err-at-clause-goes
-exprs::unary_form-returns-in_err-at-clause-goes t c = failed c.from_residual.ensures.1 (halts (refuse (sign_is c.unary_sign.ensures c.in_err-at.ensures.goes)) (λ why rest g. by (expr_rule (rule.unary c.args.op)) (refl) (prefix_is (scene_of c.args.context.now) c.args.tokens.now c.requires) (g _ _)))
+pub exprs::unary_form-returns-in-Err-clause-goes : goal.exprs::unary_form-returns-in-Err-clause-goes
+exprs::unary_form-returns-in-Err-clause-goes t c = halted (halts (refuse (sign_is c.unary_sign.ensures c.in-Err.ensures.goes)) (λ why rest g. by (expr_rule (rule.unary c.args.op)) (refl) (prefix_is (scene_of c.args.context.now) c.args.tokens.now c.requires) (g _ _)))
 
-pub exprs::unary_form-returns-in_err-inner-clause-goes : goal.exprs::unary_form-returns-in_err-inner-clause-goes
-exprs::unary_form-returns-in_err-inner-clause-goes t c = failed c.from_residual-in_err-inner.ensures.1 (halts (halt c.in_err-inner.ensures.goes) (λ why rest g. by (expr_rule (rule.unary c.args.op)) (refl) (prefix_is (scene_of c.args.context.now) c.args.tokens.now c.requires) (take (sign_is c.unary_sign.ensures c.in_ok-at.ensures.goes) (stops g))))
+pub exprs::unary_form-returns-in-Err-cast-clause-goes : goal.exprs::unary_form-returns-in-Err-cast-clause-goes
+exprs::unary_form-returns-in-Err-cast-clause-goes t c = halted (halts (halt c.in-Err-cast.ensures.goes) (λ why rest g. by (expr_rule (rule.unary c.args.op)) (refl) (prefix_is (scene_of c.args.context.now) c.args.tokens.now c.requires) (take (sign_is c.unary_sign.ensures c.in-Ok.ensures.goes) (stops g))))
 
 pub exprs::unary_form-returns-in_err-whole-clause-goes : goal.exprs::unary_form-returns-in_err-whole-clause-goes
-exprs::unary_form-returns-in_err-whole-clause-goes t c = starved c.from_residual-in_err-whole.ensures.1
+exprs::unary_form-returns-in_err-whole-clause-goes t c = starved c.from_residual.ensures.1
 
 pub exprs::unary_form-returns-clause-goes : goal.exprs::unary_form-returns-clause-goes
-exprs::unary_form-returns-clause-goes t c = given (by (expr_rule (rule.unary c.args.op)) (refl) (prefix_is (scene_of c.args.context.now) c.args.tokens.now c.requires) (take (sign_is c.unary_sign.ensures c.in_ok-at.ensures.goes) (goes_on (answer c.in_ok-inner.ensures.goes) (done c.in_ok-whole.ensures))))
+exprs::unary_form-returns-clause-goes t c = given (by (expr_rule (rule.unary c.args.op)) (refl) (prefix_is (scene_of c.args.context.now) c.args.tokens.now c.requires) (take (sign_is c.unary_sign.ensures c.in-Ok.ensures.goes) (goes_on (answer c.in-Ok-cast.ensures.goes) (done c.in_ok-whole.ensures))))
 
-pub exprs::sized-returns-in_err-inner-clause-goes : goal.exprs::sized-returns-in_err-inner-clause-goes
-exprs::sized-returns-in_err-inner-clause-goes t c = failed c.from_residual.ensures.1 (halts (halt c.in_err-inner.ensures.goes) (λ why rest g. by (expr_rule rule.size_of_expr) (refl) (if_false _ (sym c.if-type_ahead.ensures)) (passes (ap not (sym c.if-type_ahead.ensures)) (stops_here g))))
+pub exprs::sized-returns-in-Err-clause-goes : goal.exprs::sized-returns-in-Err-clause-goes
+exprs::sized-returns-in-Err-clause-goes t c = halted (halts (halt c.in-Err.ensures.goes) (λ why rest g. by (expr_rule rule.size_of_expr) (refl) (if_false _ (sym c.if-type_ahead.ensures)) (passes (ap not (sym c.if-type_ahead.ensures)) (stops_here g))))
 
 pub exprs::sized-returns-in_err-whole-clause-goes : goal.exprs::sized-returns-in_err-whole-clause-goes
-exprs::sized-returns-in_err-whole-clause-goes t c = starved c.from_residual-in_err-whole.ensures.1
+exprs::sized-returns-in_err-whole-clause-goes t c = starved c.from_residual.ensures.1
 
 pub exprs::sized-returns-clause-goes : goal.exprs::sized-returns-clause-goes
-exprs::sized-returns-clause-goes t c = given (by (expr_rule rule.size_of_expr) (refl) (if_false _ (sym c.if-type_ahead.ensures)) (passes (ap not (sym c.if-type_ahead.ensures)) (here (answer c.in_ok-inner.ensures.goes) (done c.in_ok-whole.ensures))))
+exprs::sized-returns-clause-goes t c = given (by (expr_rule rule.size_of_expr) (refl) (if_false _ (sym c.if-type_ahead.ensures)) (passes (ap not (sym c.if-type_ahead.ensures)) (here (answer c.in-Ok.ensures.goes) (done c.in_ok-whole.ensures))))
 
-pub exprs::sized_type-returns-in_err-_opening-clause-goes : goal.exprs::sized_type-returns-in_err-_opening-clause-goes
-exprs::sized_type-returns-in_err-_opening-clause-goes t c = failed c.from_residual.ensures.1 (halts (refuse c.in_err-_opening.ensures.goes) (λ why rest g. by (expr_rule rule.size_of_type) (refl) (if_true _ c.requires) (passes (c.requires) (g _ _))))
+pub exprs::sized_type-returns-in-Err-clause-goes : goal.exprs::sized_type-returns-in-Err-clause-goes
+exprs::sized_type-returns-in-Err-clause-goes t c = halted (halts (refuse c.in-Err.ensures.goes) (λ why rest g. by (expr_rule rule.size_of_type) (refl) (if_true _ c.requires) (passes (c.requires) (g _ _))))
 
-pub exprs::sized_type-returns-in_err-words-clause-goes : goal.exprs::sized_type-returns-in_err-words-clause-goes
-exprs::sized_type-returns-in_err-words-clause-goes t c = failed c.from_residual-in_err-words.ensures.1 (halts (halt c.in_err-words.ensures.goes) (λ why rest g. by (expr_rule rule.size_of_type) (refl) (if_true _ c.requires) (passes (c.requires) (take c.in_ok-_opening.ensures.goes (stops g)))))
+pub exprs::sized_type-returns-in-Err-specs-clause-goes : goal.exprs::sized_type-returns-in-Err-specs-clause-goes
+exprs::sized_type-returns-in-Err-specs-clause-goes t c = halted (halts (halt c.in-Err-specs.ensures.goes) (λ why rest g. by (expr_rule rule.size_of_type) (refl) (if_true _ c.requires) (passes (c.requires) (take c.in-Ok.ensures.goes (stops g)))))
 
-pub exprs::sized_type-returns-in_err-shape-clause-goes : goal.exprs::sized_type-returns-in_err-shape-clause-goes
-exprs::sized_type-returns-in_err-shape-clause-goes t c = failed c.from_residual-in_err-shape.ensures.1 (halts (halt c.in_err-shape.ensures.goes) (λ why rest g. by (expr_rule rule.size_of_type) (refl) (if_true _ c.requires) (passes (c.requires) (take c.in_ok-_opening.ensures.goes (goes_on (answer c.in_ok-words.ensures.goes) (stops g))))))
+pub exprs::sized_type-returns-in-Err-declarator-clause-goes : goal.exprs::sized_type-returns-in-Err-declarator-clause-goes
+exprs::sized_type-returns-in-Err-declarator-clause-goes t c = halted (halts (halt c.in-Err-declarator.ensures.goes) (λ why rest g. by (expr_rule rule.size_of_type) (refl) (if_true _ c.requires) (passes (c.requires) (take c.in-Ok.ensures.goes (goes_on (answer c.in-Ok-specs.ensures.goes) (stops g))))))
 
-pub exprs::sized_type-returns-in_err-_close-clause-goes : goal.exprs::sized_type-returns-in_err-_close-clause-goes
-exprs::sized_type-returns-in_err-_close-clause-goes t c = failed c.from_residual-in_err-_close.ensures.1 (halts (refuse c.in_err-_close.ensures.goes) (λ why rest g. by (expr_rule rule.size_of_type) (refl) (if_true _ c.requires) (passes (c.requires) (take c.in_ok-_opening.ensures.goes (goes_on (answer c.in_ok-words.ensures.goes) (goes_on (answer c.in_ok-shape.ensures.goes) (g _ _)))))))
+pub exprs::sized_type-returns-in-Err-taken-clause-goes : goal.exprs::sized_type-returns-in-Err-taken-clause-goes
+exprs::sized_type-returns-in-Err-taken-clause-goes t c = halted (halts (refuse c.in-Err-taken.ensures.goes) (λ why rest g. by (expr_rule rule.size_of_type) (refl) (if_true _ c.requires) (passes (c.requires) (take c.in-Ok.ensures.goes (goes_on (answer c.in-Ok-specs.ensures.goes) (goes_on (answer c.in-Ok-declarator.ensures.goes) (g _ _)))))))
 
-pub exprs::postfix-returns-in_err-base-clause-goes : goal.exprs::postfix-returns-in_err-base-clause-goes
-exprs::postfix-returns-in_err-base-clause-goes t c = failed c.from_residual.ensures.1 (halts (halt c.in_err-base.ensures.goes) (λ why rest g. by (expr_rule rule.postfix) (refl) (refl) (stops_here g)))
+pub exprs::postfix-returns-in-Err-clause-goes : goal.exprs::postfix-returns-in-Err-clause-goes
+exprs::postfix-returns-in-Err-clause-goes t c = halted (halts (halt c.in-Err.ensures.goes) (λ why rest g. by (expr_rule rule.postfix) (refl) (refl) (stops_here g)))
 
 pub exprs::postfix-returns-clause-goes : goal.exprs::postfix-returns-clause-goes
-exprs::postfix-returns-clause-goes t c = relayed c.suffixes.ensures.goes (λ x g. by (expr_rule rule.postfix) (refl) (refl) (here (answer c.in_ok-base.ensures.goes) (here g (is_done)))) (λ why rest g. by (expr_rule rule.postfix) (refl) (refl) (here (answer c.in_ok-base.ensures.goes) (stops_here g)))
+exprs::postfix-returns-clause-goes t c = relayed c.suffixes.ensures.goes (λ x g. by (expr_rule rule.postfix) (refl) (refl) (here (answer c.in-Ok.ensures.goes) (here g (is_done)))) (λ why rest g. by (expr_rule rule.postfix) (refl) (refl) (here (answer c.in-Ok.ensures.goes) (stops_here g)))
 
-pub exprs::enclosed-returns-in_err-opening-clause-goes : goal.exprs::enclosed-returns-in_err-opening-clause-goes
-exprs::enclosed-returns-in_err-opening-clause-goes t c = failed c.from_residual.ensures.1 (halts (refuse c.in_err-opening.ensures.goes) (λ why rest g. by (expr_rule rule.enclosed) (refl) (primary_is (scene_of c.args.context.now) c.args.tokens.now c.requires) (g _ _)))
+pub exprs::enclosed-returns-in-Err-clause-goes : goal.exprs::enclosed-returns-in-Err-clause-goes
+exprs::enclosed-returns-in-Err-clause-goes t c = halted (halts (refuse c.in-Err.ensures.goes) (λ why rest g. by (expr_rule rule.enclosed) (refl) (primary_is (scene_of c.args.context.now) c.args.tokens.now c.requires) (g _ _)))
 
-pub exprs::enclosed-returns-in_err-inner-clause-goes : goal.exprs::enclosed-returns-in_err-inner-clause-goes
-exprs::enclosed-returns-in_err-inner-clause-goes t c = failed c.from_residual-in_err-inner.ensures.1 (halts (halt c.in_err-inner.ensures.goes) (λ why rest g. by (expr_rule rule.enclosed) (refl) (primary_is (scene_of c.args.context.now) c.args.tokens.now c.requires) (take c.in_ok-opening.ensures.goes (stops g))))
+pub exprs::enclosed-returns-in-Err-run-clause-goes : goal.exprs::enclosed-returns-in-Err-run-clause-goes
+exprs::enclosed-returns-in-Err-run-clause-goes t c = halted (halts (halt c.in-Err-run.ensures.goes) (λ why rest g. by (expr_rule rule.enclosed) (refl) (primary_is (scene_of c.args.context.now) c.args.tokens.now c.requires) (take c.in-Ok.ensures.goes (stops g))))
 
-pub exprs::enclosed-returns-in_err-_close-clause-goes : goal.exprs::enclosed-returns-in_err-_close-clause-goes
-exprs::enclosed-returns-in_err-_close-clause-goes t c = failed c.from_residual-in_err-_close.ensures.1 (halts (refuse c.in_err-_close.ensures.goes) (λ why rest g. by (expr_rule rule.enclosed) (refl) (primary_is (scene_of c.args.context.now) c.args.tokens.now c.requires) (take c.in_ok-opening.ensures.goes (goes_on (answer c.in_ok-inner.ensures.goes) (g _ _)))))
+pub exprs::enclosed-returns-in-Err-taken-clause-goes : goal.exprs::enclosed-returns-in-Err-taken-clause-goes
+exprs::enclosed-returns-in-Err-taken-clause-goes t c = halted (halts (refuse c.in-Err-taken.ensures.goes) (λ why rest g. by (expr_rule rule.enclosed) (refl) (primary_is (scene_of c.args.context.now) c.args.tokens.now c.requires) (take c.in-Ok.ensures.goes (goes_on (answer c.in-Ok-run.ensures.goes) (g _ _)))))
 
 pub exprs::enclosed-returns-in_err-whole-clause-goes : goal.exprs::enclosed-returns-in_err-whole-clause-goes
-exprs::enclosed-returns-in_err-whole-clause-goes t c = starved c.from_residual-in_err-whole.ensures.1
+exprs::enclosed-returns-in_err-whole-clause-goes t c = starved c.from_residual.ensures.1
 
 pub exprs::enclosed-returns-clause-goes : goal.exprs::enclosed-returns-clause-goes
-exprs::enclosed-returns-clause-goes t c = given (by (expr_rule rule.enclosed) (refl) (primary_is (scene_of c.args.context.now) c.args.tokens.now c.requires) (take c.in_ok-opening.ensures.goes (goes_on (answer c.in_ok-inner.ensures.goes) (take c.in_ok-_close.ensures.goes (done c.in_ok-whole.ensures)))))
+exprs::enclosed-returns-clause-goes t c = given (by (expr_rule rule.enclosed) (refl) (primary_is (scene_of c.args.context.now) c.args.tokens.now c.requires) (take c.in-Ok.ensures.goes (goes_on (answer c.in-Ok-run.ensures.goes) (take c.in-Ok-taken.ensures.goes (done c.in_ok-whole.ensures)))))
 
-pub exprs::index-returns-in_err-at-clause-goes : goal.exprs::index-returns-in_err-at-clause-goes
-exprs::index-returns-in_err-at-clause-goes t c = stalls c.from_residual.ensures.1 (halts (refuse c.in_err-at.ensures.goes) (λ why rest g. by (expr_rule rule.index) (suffix_free (scene_of c.args.context.now) (boxed_expr c.args.base) c.args.tokens.now (suffix_is (scene_of c.args.context.now) (boxed_expr c.args.base) c.args.tokens.now c.requires).1) ((suffix_is (scene_of c.args.context.now) (boxed_expr c.args.base) c.args.tokens.now c.requires).0) (g _ _)))
+pub exprs::index-returns-in-Err-clause-goes : goal.exprs::index-returns-in-Err-clause-goes
+exprs::index-returns-in-Err-clause-goes t c = stalled (halts (refuse c.in-Err.ensures.goes) (λ why rest g. by (expr_rule rule.index) (suffix_free (scene_of c.args.context.now) (boxed_expr c.args.base) c.args.tokens.now (suffix_is (scene_of c.args.context.now) (boxed_expr c.args.base) c.args.tokens.now c.requires).1) ((suffix_is (scene_of c.args.context.now) (boxed_expr c.args.base) c.args.tokens.now c.requires).0) (g _ _)))
 
-pub exprs::index-returns-in_err-place-clause-goes : goal.exprs::index-returns-in_err-place-clause-goes
-exprs::index-returns-in_err-place-clause-goes t c = stalls c.from_residual-in_err-place.ensures.1 (halts (halt c.in_err-place.ensures.goes) (λ why rest g. by (expr_rule rule.index) (suffix_free (scene_of c.args.context.now) (boxed_expr c.args.base) c.args.tokens.now (suffix_is (scene_of c.args.context.now) (boxed_expr c.args.base) c.args.tokens.now c.requires).1) ((suffix_is (scene_of c.args.context.now) (boxed_expr c.args.base) c.args.tokens.now c.requires).0) (take c.in_ok-at.ensures.goes (stops g))))
+pub exprs::index-returns-in-Err-run-clause-goes : goal.exprs::index-returns-in-Err-run-clause-goes
+exprs::index-returns-in-Err-run-clause-goes t c = stalled (halts (halt c.in-Err-run.ensures.goes) (λ why rest g. by (expr_rule rule.index) (suffix_free (scene_of c.args.context.now) (boxed_expr c.args.base) c.args.tokens.now (suffix_is (scene_of c.args.context.now) (boxed_expr c.args.base) c.args.tokens.now c.requires).1) ((suffix_is (scene_of c.args.context.now) (boxed_expr c.args.base) c.args.tokens.now c.requires).0) (take c.in-Ok.ensures.goes (stops g))))
 
-pub exprs::index-returns-in_err-_close-clause-goes : goal.exprs::index-returns-in_err-_close-clause-goes
-exprs::index-returns-in_err-_close-clause-goes t c = stalls c.from_residual-in_err-_close.ensures.1 (halts (refuse c.in_err-_close.ensures.goes) (λ why rest g. by (expr_rule rule.index) (suffix_free (scene_of c.args.context.now) (boxed_expr c.args.base) c.args.tokens.now (suffix_is (scene_of c.args.context.now) (boxed_expr c.args.base) c.args.tokens.now c.requires).1) ((suffix_is (scene_of c.args.context.now) (boxed_expr c.args.base) c.args.tokens.now c.requires).0) (take c.in_ok-at.ensures.goes (goes_on (answer c.in_ok-place.ensures.goes) (g _ _)))))
+pub exprs::index-returns-in-Err-taken-clause-goes : goal.exprs::index-returns-in-Err-taken-clause-goes
+exprs::index-returns-in-Err-taken-clause-goes t c = stalled (halts (refuse c.in-Err-taken.ensures.goes) (λ why rest g. by (expr_rule rule.index) (suffix_free (scene_of c.args.context.now) (boxed_expr c.args.base) c.args.tokens.now (suffix_is (scene_of c.args.context.now) (boxed_expr c.args.base) c.args.tokens.now c.requires).1) ((suffix_is (scene_of c.args.context.now) (boxed_expr c.args.base) c.args.tokens.now c.requires).0) (take c.in-Ok.ensures.goes (goes_on (answer c.in-Ok-run.ensures.goes) (g _ _)))))
 
 pub exprs::index-returns-clause-goes : goal.exprs::index-returns-clause-goes
-exprs::index-returns-clause-goes t c = stepped (λ o h. by (expr_rule rule.index) (suffix_free (scene_of c.args.context.now) (boxed_expr c.args.base) c.args.tokens.now (suffix_is (scene_of c.args.context.now) (boxed_expr c.args.base) c.args.tokens.now c.requires).1) ((suffix_is (scene_of c.args.context.now) (boxed_expr c.args.base) c.args.tokens.now c.requires).0) (take c.in_ok-at.ensures.goes (goes_on (answer c.in_ok-place.ensures.goes) (take c.in_ok-_close.ensures.goes (tail_expr o (suffixes_at c.in_ok-whole.ensures h))))))
+exprs::index-returns-clause-goes t c = stepped (λ o h. by (expr_rule rule.index) (suffix_free (scene_of c.args.context.now) (boxed_expr c.args.base) c.args.tokens.now (suffix_is (scene_of c.args.context.now) (boxed_expr c.args.base) c.args.tokens.now c.requires).1) ((suffix_is (scene_of c.args.context.now) (boxed_expr c.args.base) c.args.tokens.now c.requires).0) (take c.in-Ok.ensures.goes (goes_on (answer c.in-Ok-run.ensures.goes) (take c.in-Ok-taken.ensures.goes (tail_expr o (suffixes_at c.in_ok-whole.ensures h))))))
 
 pub exprs::index-returns-in_err-whole-clause-goes : goal.exprs::index-returns-in_err-whole-clause-goes
-exprs::index-returns-in_err-whole-clause-goes t c = starves c.from_residual-in_err-whole.ensures.1
+exprs::index-returns-in_err-whole-clause-goes t c = starves c.from_residual.ensures.1
 
 pub exprs::suffixes-returns-then-calls_no_word-clause-goes : goal.exprs::suffixes-returns-then-calls_no_word-clause-goes
 exprs::suffixes-returns-then-calls_no_word-clause-goes t c = halted (stopped (c.barred_call.ensures (boxed_expr c.forms.base) (and_left _ _ (rebased _ c.deref.ensures c.if-calls_no_word.ensures))) (c.forms.invariant.0 _ (is_barred (borne _ (rebased _ c.deref.ensures c.if-calls_no_word.ensures)))))
@@ -214,128 +214,128 @@ exprs::suffixes-returns-then-calls_no_word-clause-goes t c = halted (stopped (c.
 pub exprs::suffixes-returns-then-is_no_suffix-clause-goes : goal.exprs::suffixes-returns-then-is_no_suffix-clause-goes
 exprs::suffixes-returns-then-is_no_suffix-clause-goes t c = given (c.forms.invariant.0 _ (by (expr_rule rule.no_suffix) (unborne _ (rebased _ c.deref.ensures c.if-calls_no_word.ensures)) (suffix_is (scene_of c.args.context.now) (boxed_expr c.forms.base) c.forms.rest.now (sym c.suffix_at-kind.ensures ∙ nothing_of _ (sym c.if-is_no_suffix.ensures))).0 is_done))
 
-pub exprs::suffixes-returns-in_err-longer-clause-goes : goal.exprs::suffixes-returns-in_err-longer-clause-goes
-exprs::suffixes-returns-in_err-longer-clause-goes t c = failed c.from_residual.ensures.1 (halts (stall c.in_err-longer.ensures.goes) (λ why rest g. c.forms.invariant.0 _ g))
+pub exprs::suffixes-returns-in-Err-clause-goes : goal.exprs::suffixes-returns-in-Err-clause-goes
+exprs::suffixes-returns-in-Err-clause-goes t c = halted (halts (stall c.in-Err.ensures.goes) (λ why rest g. c.forms.invariant.0 _ g))
 
 pub exprs::suffixes-forms-preserved : goal.exprs::suffixes-forms-preserved
-exprs::suffixes-forms-preserved t c = ((λ o g. c.forms.invariant.0 o (step c.in_ok-longer.ensures.goes o g)), omega (arith, c.in_ok-longer.ensures.shorter))
+exprs::suffixes-forms-preserved t c = ((λ o g. c.forms.invariant.0 o (step c.in-Ok.ensures.goes o g)), omega (arith, c.in-Ok.ensures.shorter))
 
-pub exprs::arguments-returns-in_err-first-clause-goes : goal.exprs::arguments-returns-in_err-first-clause-goes
-exprs::arguments-returns-in_err-first-clause-goes t c = failed c.from_residual.ensures.1 (halts (halt c.in_err-first.ensures.goes) (λ why rest g. by (expr_rule rule.arguments) refl (if_false _ (sym c.if-comes.ensures)) (stops_here g)))
+pub exprs::arguments-returns-in-Err-clause-goes : goal.exprs::arguments-returns-in-Err-clause-goes
+exprs::arguments-returns-in-Err-clause-goes t c = halted (halts (halt c.in-Err.ensures.goes) (λ why rest g. by (expr_rule rule.arguments) refl (if_false _ (sym c.if-comes.ensures)) (stops_here g)))
 
 pub exprs::arguments-returns-in_err-args-clause-goes : goal.exprs::arguments-returns-in_err-args-clause-goes
-exprs::arguments-returns-in_err-args-clause-goes t c = starved c.from_residual-in_err-args.ensures.1
+exprs::arguments-returns-in_err-args-clause-goes t c = starved c.from_residual.ensures.1
 
 pub exprs::arguments-returns-clause-goes : goal.exprs::arguments-returns-clause-goes
-exprs::arguments-returns-clause-goes t c = relayed c.more_arguments.ensures.goes (λ x g. by (expr_rule rule.arguments) refl (if_false _ (sym c.if-comes.ensures)) (here (answer c.in_ok-first.ensures.goes) (here (arguments_at c.in_ok-args.ensures g) is_done))) (λ why rest g. by (expr_rule rule.arguments) refl (if_false _ (sym c.if-comes.ensures)) (here (answer c.in_ok-first.ensures.goes) (stops_here (arguments_at c.in_ok-args.ensures g))))
+exprs::arguments-returns-clause-goes t c = relayed c.more_arguments.ensures.goes (λ x g. by (expr_rule rule.arguments) refl (if_false _ (sym c.if-comes.ensures)) (here (answer c.in-Ok.ensures.goes) (here (arguments_at c.in_ok-args.ensures g) is_done))) (λ why rest g. by (expr_rule rule.arguments) refl (if_false _ (sym c.if-comes.ensures)) (here (answer c.in-Ok.ensures.goes) (stops_here (arguments_at c.in_ok-args.ensures g))))
 
-pub exprs::more_arguments-returns-in_err-_comma-clause-goes : goal.exprs::more_arguments-returns-in_err-_comma-clause-goes
-exprs::more_arguments-returns-in_err-_comma-clause-goes t c = failed c.from_residual.ensures.1 (halts (refuse c.in_err-_comma.ensures.goes) (λ why rest g. c.others.invariant.0 _ (by (expr_rule rule.arguments_more) refl (if_false _ (sym c.others-test.ensures)) (g _ _))))
+pub exprs::more_arguments-returns-in-Err-clause-goes : goal.exprs::more_arguments-returns-in-Err-clause-goes
+exprs::more_arguments-returns-in-Err-clause-goes t c = halted (halts (refuse c.in-Err.ensures.goes) (λ why rest g. c.others.invariant.0 _ (by (expr_rule rule.arguments_more) refl (if_false _ (sym c.others-test.ensures)) (g _ _))))
 
-pub exprs::more_arguments-returns-in_err-next-clause-goes : goal.exprs::more_arguments-returns-in_err-next-clause-goes
-exprs::more_arguments-returns-in_err-next-clause-goes t c = failed c.from_residual-in_err-next.ensures.1 (halts (halt c.in_err-next.ensures.goes) (λ why rest g. c.others.invariant.0 _ (by (expr_rule rule.arguments_more) refl (if_false _ (sym c.others-test.ensures)) (take c.in_ok-_comma.ensures.goes (stops_here g)))))
+pub exprs::more_arguments-returns-in-Err-assignment-clause-goes : goal.exprs::more_arguments-returns-in-Err-assignment-clause-goes
+exprs::more_arguments-returns-in-Err-assignment-clause-goes t c = halted (halts (halt c.in-Err-assignment.ensures.goes) (λ why rest g. c.others.invariant.0 _ (by (expr_rule rule.arguments_more) refl (if_false _ (sym c.others-test.ensures)) (take c.in-Ok.ensures.goes (stops_here g)))))
 
 pub exprs::more_arguments-returns-in_err-push_expr-clause-goes : goal.exprs::more_arguments-returns-in_err-push_expr-clause-goes
-exprs::more_arguments-returns-in_err-push_expr-clause-goes t c = starved c.from_residual-in_err-push_expr.ensures.1
+exprs::more_arguments-returns-in_err-push_expr-clause-goes t c = starved c.from_residual.ensures.1
 
 pub exprs::more_arguments-others-preserved : goal.exprs::more_arguments-others-preserved
-exprs::more_arguments-others-preserved t c = ((λ o g. c.others.invariant.0 o (argument_step o (sym c.others-test.ensures) c.in_ok-_comma.ensures.goes (answer c.in_ok-next.ensures.goes) c.in_ok-push_expr.ensures g)), omega (arith, c.in_ok-_comma.ensures.shorter, c.in_ok-next.ensures.shorter))
+exprs::more_arguments-others-preserved t c = ((λ o g. c.others.invariant.0 o (argument_step o (sym c.others-test.ensures) c.in-Ok.ensures.goes (answer c.in-Ok-assignment.ensures.goes) c.in_ok-push_expr.ensures g)), omega (arith, c.in-Ok.ensures.shorter, c.in-Ok-assignment.ensures.shorter))
 
-pub exprs::more_arguments-returns-in_err-_close-clause-goes : goal.exprs::more_arguments-returns-in_err-_close-clause-goes
-exprs::more_arguments-returns-in_err-_close-clause-goes t c = failed c.from_residual-in_err-_close.ensures.1 (halts (refuse c.in_err-_close.ensures.goes) (λ why rest g. c.others.invariant.0 _ (by (expr_rule rule.arguments_end) refl (if_true _ (sym c.others-test.ensures)) (g _ _))))
+pub exprs::more_arguments-returns-in-Err-taken-clause-goes : goal.exprs::more_arguments-returns-in-Err-taken-clause-goes
+exprs::more_arguments-returns-in-Err-taken-clause-goes t c = halted (halts (refuse c.in-Err-taken.ensures.goes) (λ why rest g. c.others.invariant.0 _ (by (expr_rule rule.arguments_end) refl (if_true _ (sym c.others-test.ensures)) (g _ _))))
 
 pub exprs::more_arguments-returns-clause-goes : goal.exprs::more_arguments-returns-clause-goes
-exprs::more_arguments-returns-clause-goes t c = given (c.others.invariant.0 _ (by (expr_rule rule.arguments_end) refl (if_true _ (sym c.others-test.ensures)) (take c.in_ok-_close.ensures.goes (done c.from_vec.ensures))))
+exprs::more_arguments-returns-clause-goes t c = given (c.others.invariant.0 _ (by (expr_rule rule.arguments_end) refl (if_true _ (sym c.others-test.ensures)) (take c.in-Ok-taken.ensures.goes (done c.from_vec.ensures))))
 
-pub exprs::call-returns-in_err-_opening-clause-goes : goal.exprs::call-returns-in_err-_opening-clause-goes
-exprs::call-returns-in_err-_opening-clause-goes t c = stalls c.from_residual.ensures.1 (halts (refuse c.in_err-_opening.ensures.goes) (λ why rest g. suffixes_at (sym c.word_of-name.ensures) (call_by c.requires.0 (g _ _))))
+pub exprs::call-returns-in-Err-clause-goes : goal.exprs::call-returns-in-Err-clause-goes
+exprs::call-returns-in-Err-clause-goes t c = stalled (halts (refuse c.in-Err.ensures.goes) (λ why rest g. suffixes_at (sym c.word_of-name.ensures) (call_by c.requires.0 (g _ _))))
 
-pub exprs::call-returns-in_err-args-clause-goes : goal.exprs::call-returns-in_err-args-clause-goes
-exprs::call-returns-in_err-args-clause-goes t c = stalls c.from_residual-in_err-args.ensures.1 (halts (halt c.in_err-args.ensures.goes) (λ why rest g. suffixes_at (sym c.word_of-name.ensures) (call_by c.requires.0 (take c.in_ok-_opening.ensures.goes (stops g)))))
+pub exprs::call-returns-in-Err-arguments-clause-goes : goal.exprs::call-returns-in-Err-arguments-clause-goes
+exprs::call-returns-in-Err-arguments-clause-goes t c = stalled (halts (halt c.in-Err-arguments.ensures.goes) (λ why rest g. suffixes_at (sym c.word_of-name.ensures) (call_by c.requires.0 (take c.in-Ok.ensures.goes (stops g)))))
 
 pub exprs::call-returns-in_err-whole-clause-goes : goal.exprs::call-returns-in_err-whole-clause-goes
-exprs::call-returns-in_err-whole-clause-goes t c = starves c.from_residual-in_err-whole.ensures.1
+exprs::call-returns-in_err-whole-clause-goes t c = starves c.from_residual.ensures.1
 
 pub exprs::call-returns-clause-goes : goal.exprs::call-returns-clause-goes
-exprs::call-returns-clause-goes t c = stepped (λ o h. suffixes_at (sym c.word_of-name.ensures) (call_by c.requires.0 (take c.in_ok-_opening.ensures.goes (goes_on (answer c.in_ok-args.ensures.goes) (tail_expr o (suffixes_at c.in_ok-whole.ensures h))))))
+exprs::call-returns-clause-goes t c = stepped (λ o h. suffixes_at (sym c.word_of-name.ensures) (call_by c.requires.0 (take c.in-Ok.ensures.goes (goes_on (answer c.in-Ok-arguments.ensures.goes) (tail_expr o (suffixes_at c.in_ok-whole.ensures h))))))
 
 pub exprs::more-joints-preserved : goal.exprs::more-joints-preserved
-exprs::more-joints-preserved t c = ((λ o g. c.joints.invariant.0 o (joint_step o (sym c.in-Some.ensures) (behind_sign c.joint_sign.ensures c.in_ok-at.ensures.goes) c.in_ok-left.ensures g)), omega (arith, c.in_ok-at.ensures.shorter))
+exprs::more-joints-preserved t c = ((λ o g. c.joints.invariant.0 o (joint_step o (sym c.in-Some.ensures) (behind_sign c.joint_sign.ensures c.in-Ok.ensures.goes) c.in_ok-left.ensures g)), omega (arith, c.in-Ok.ensures.shorter))
 
-pub exprs::more-returns-in_err-at-clause-goes : goal.exprs::more-returns-in_err-at-clause-goes
-exprs::more-returns-in_err-at-clause-goes t c = failed c.from_residual.ensures.1 (halts (joint_stop (sym c.in-Some.ensures) (behind_sign c.joint_sign.ensures c.in_err-at.ensures.goes)) (λ why rest g. c.joints.invariant.0 _ g))
+pub exprs::more-returns-in-Err-clause-goes : goal.exprs::more-returns-in-Err-clause-goes
+exprs::more-returns-in-Err-clause-goes t c = halted (halts (joint_stop (sym c.in-Some.ensures) (behind_sign c.joint_sign.ensures c.in-Err.ensures.goes)) (λ why rest g. c.joints.invariant.0 _ g))
 
 pub exprs::more-returns-in_err-left-clause-goes : goal.exprs::more-returns-in_err-left-clause-goes
-exprs::more-returns-in_err-left-clause-goes t c = starved c.from_residual-in_err-left.ensures.1
+exprs::more-returns-in_err-left-clause-goes t c = starved c.from_residual.ensures.1
 
-pub exprs::right_side-returns-in_err-at-clause-goes : goal.exprs::right_side-returns-in_err-at-clause-goes
-exprs::right_side-returns-in_err-at-clause-goes t c = λ p k. stalls c.from_residual.ensures.1 (halts (refuse c.in_err-at.ensures.goes) (λ why rest g. g _ _))
+pub exprs::right_side-returns-in-Err-clause-goes : goal.exprs::right_side-returns-in-Err-clause-goes
+exprs::right_side-returns-in-Err-clause-goes t c = λ p k. stalled (halts (refuse c.in-Err.ensures.goes) (λ why rest g. g _ _))
 
-pub exprs::right_side-returns-in_err-right-clause-goes : goal.exprs::right_side-returns-in_err-right-clause-goes
-exprs::right_side-returns-in_err-right-clause-goes t c = λ p k. stalls c.from_residual-in_err-right.ensures.1 (halts (halt c.in_err-right.ensures.goes) (λ why rest g. take c.in_ok-at.ensures.goes (stops g)))
+pub exprs::right_side-returns-in-Err-operand-clause-goes : goal.exprs::right_side-returns-in-Err-operand-clause-goes
+exprs::right_side-returns-in-Err-operand-clause-goes t c = λ p k. stalled (halts (halt c.in-Err-operand.ensures.goes) (λ why rest g. take c.in-Ok.ensures.goes (stops g)))
 
 pub exprs::right_side-returns-clause-goes : goal.exprs::right_side-returns-clause-goes
-exprs::right_side-returns-clause-goes t c = λ p k. stepped (λ o h. take c.in_ok-at.ensures.goes (goes_on (answer c.in_ok-right.ensures.goes) h))
+exprs::right_side-returns-clause-goes t c = λ p k. stepped (λ o h. take c.in-Ok.ensures.goes (goes_on (answer c.in-Ok-operand.ensures.goes) h))
 
 pub exprs::sized_type-returns-then-comes-clause-goes : goal.exprs::sized_type-returns-then-comes-clause-goes
-exprs::sized_type-returns-then-comes-clause-goes t c = halted (stopped c.barred.ensures (by (expr_rule rule.size_of_type) refl (if_true _ c.requires) (passes c.requires (take c.in_ok-_opening.ensures.goes (goes_on (answer c.in_ok-words.ensures.goes) (goes_on (answer c.in_ok-shape.ensures.goes) (take c.in_ok-_close.ensures.goes (stops_here {i = part.AfterType} (is_barred (borne _ (sym c.if-comes.ensures)))))))))))
+exprs::sized_type-returns-then-comes-clause-goes t c = halted (stopped c.barred.ensures (by (expr_rule rule.size_of_type) refl (if_true _ c.requires) (passes c.requires (take c.in-Ok.ensures.goes (goes_on (answer c.in-Ok-specs.ensures.goes) (goes_on (answer c.in-Ok-declarator.ensures.goes) (take c.in-Ok-taken.ensures.goes (stops_here {i = part.AfterType} (is_barred (borne _ (sym c.if-comes.ensures)))))))))))
 
 pub exprs::sized_type-returns-in_err-whole-clause-goes : goal.exprs::sized_type-returns-in_err-whole-clause-goes
-exprs::sized_type-returns-in_err-whole-clause-goes t c = starved c.from_residual-in_err-whole.ensures.1
+exprs::sized_type-returns-in_err-whole-clause-goes t c = starved c.from_residual.ensures.1
 
 pub exprs::sized_type-returns-clause-goes : goal.exprs::sized_type-returns-clause-goes
-exprs::sized_type-returns-clause-goes t c = given (by (expr_rule rule.size_of_type) refl (if_true _ c.requires) (passes c.requires (take c.in_ok-_opening.ensures.goes (goes_on (answer c.in_ok-words.ensures.goes) (goes_on (answer c.in_ok-shape.ensures.goes) (take c.in_ok-_close.ensures.goes (here (by (expr_rule rule.after_type) (unborne _ (sym c.if-comes.ensures)) refl is_done) (done c.in_ok-whole.ensures))))))))
+exprs::sized_type-returns-clause-goes t c = given (by (expr_rule rule.size_of_type) refl (if_true _ c.requires) (passes c.requires (take c.in-Ok.ensures.goes (goes_on (answer c.in-Ok-specs.ensures.goes) (goes_on (answer c.in-Ok-declarator.ensures.goes) (take c.in-Ok-taken.ensures.goes (here (by (expr_rule rule.after_type) (unborne _ (sym c.if-comes.ensures)) refl is_done) (done c.in_ok-whole.ensures))))))))
 
 pub exprs::more-returns-clause-goes : goal.exprs::more-returns-clause-goes
 exprs::more-returns-clause-goes t c = given (c.joints.invariant.0 _ (by (expr_rule rule.run_end) refl (more_is (scene_of c.args.context.now) (level_view c.args.level) (boxed_expr c.joints.left) c.joints.rest.now (no_joint c.joint_at.result (λ j e. c.in_default.not-Some j e) c.joint_at.ensures)) is_done))
 
 pub types::specs-more_specs-requires : goal.types::specs-more_specs-requires
-types::specs-more_specs-requires t c = (omega (arith, c.in_ok-first.ensures.shorter), one_type c.is_type-typed.ensures c.in_ok-items.ensures)
+types::specs-more_specs-requires t c = (omega (arith, c.in-Ok.ensures.shorter), one_type c.is_type-typed.ensures c.in_ok-items.ensures)
 
-pub types::specs-returns-in_err-first-clause-goes : goal.types::specs-returns-in_err-first-clause-goes
-types::specs-returns-in_err-first-clause-goes t c = failed c.from_residual.ensures.1 (halts (halt c.in_err-first.ensures.goes) (λ why rest g. by (type_rule kind.specs) (refl) (refl) (stops_here g)))
+pub types::specs-returns-in-Err-clause-goes : goal.types::specs-returns-in-Err-clause-goes
+types::specs-returns-in-Err-clause-goes t c = halted (halts (halt c.in-Err.ensures.goes) (λ why rest g. by (type_rule kind.specs) (refl) (refl) (stops_here g)))
 
 pub types::specs-returns-in_err-items-clause-goes : goal.types::specs-returns-in_err-items-clause-goes
-types::specs-returns-in_err-items-clause-goes t c = starved c.from_residual-in_err-items.ensures.1
+types::specs-returns-in_err-items-clause-goes t c = starved c.from_residual.ensures.1
 
 pub types::specs-returns-clause-goes : goal.types::specs-returns-clause-goes
-types::specs-returns-clause-goes t c = relayed c.more_specs.ensures.goes (λ x g. by (type_rule kind.specs) (refl) (refl) (here (answer c.in_ok-first.ensures.goes) (here (specs_at c.in_ok-items.ensures g) (is_done)))) (λ why rest g. by (type_rule kind.specs) (refl) (refl) (here (answer c.in_ok-first.ensures.goes) (stops_here (specs_at c.in_ok-items.ensures g))))
+types::specs-returns-clause-goes t c = relayed c.more_specs.ensures.goes (λ x g. by (type_rule kind.specs) (refl) (refl) (here (answer c.in-Ok.ensures.goes) (here (specs_at c.in_ok-items.ensures g) (is_done)))) (λ why rest g. by (type_rule kind.specs) (refl) (refl) (here (answer c.in-Ok.ensures.goes) (stops_here (specs_at c.in_ok-items.ensures g))))
 
-pub types::structure-returns-in_err-at-clause-goes : goal.types::structure-returns-in_err-at-clause-goes
-types::structure-returns-in_err-at-clause-goes t c = failed c.from_residual.ensures.1 (stall c.in_err-at.ensures.goes)
+pub types::structure-returns-in-Err-clause-goes : goal.types::structure-returns-in-Err-clause-goes
+types::structure-returns-in-Err-clause-goes t c = halted (stall c.in-Err.ensures.goes)
 
 pub types::structure-returns-clause-goes : goal.types::structure-returns-clause-goes
-types::structure-returns-clause-goes t c = carried c.structure_form.ensures.goes (λ o g. step c.in_ok-at.ensures.goes o g)
+types::structure-returns-clause-goes t c = carried c.structure_form.ensures.goes (λ o g. step c.in-Ok.ensures.goes o g)
 
 pub types::structure_form-returns-then-not-comes-clause-goes : goal.types::structure_form-returns-then-not-comes-clause-goes
 types::structure_form-returns-then-not-comes-clause-goes t c = given (structure_alone c.args.at c.args.tag c.requires (sym c.if-not-comes.ensures) c.structure_of.ensures)
 
-pub types::structure_form-returns-in_err-_opening-clause-goes : goal.types::structure_form-returns-in_err-_opening-clause-goes
-types::structure_form-returns-in_err-_opening-clause-goes t c = failed c.from_residual.ensures.1 (halts (refuse c.in_err-_opening.ensures.goes) (λ why rest g. structure_braces c.args.tag (sym c.if-not-comes.ensures) (g _ _)))
+pub types::structure_form-returns-in-Err-clause-goes : goal.types::structure_form-returns-in-Err-clause-goes
+types::structure_form-returns-in-Err-clause-goes t c = halted (halts (refuse c.in-Err.ensures.goes) (λ why rest g. structure_braces c.args.tag (sym c.if-not-comes.ensures) (g _ _)))
 
-pub types::structure_form-returns-in_err-members-clause-goes : goal.types::structure_form-returns-in_err-members-clause-goes
-types::structure_form-returns-in_err-members-clause-goes t c = failed c.from_residual-in_err-members.ensures.1 (halts (halt c.in_err-members.ensures.goes) (λ why rest g. structure_braces c.args.tag (sym c.if-not-comes.ensures) (take c.in_ok-_opening.ensures.goes (stops g))))
+pub types::structure_form-returns-in-Err-members-clause-goes : goal.types::structure_form-returns-in-Err-members-clause-goes
+types::structure_form-returns-in-Err-members-clause-goes t c = halted (halts (halt c.in-Err-members.ensures.goes) (λ why rest g. structure_braces c.args.tag (sym c.if-not-comes.ensures) (take c.in-Ok.ensures.goes (stops g))))
 
 pub types::structure_form-returns-clause-goes : goal.types::structure_form-returns-clause-goes
-types::structure_form-returns-clause-goes t c = given (structure_braces c.args.tag (sym c.if-not-comes.ensures) (take c.in_ok-_opening.ensures.goes (goes_on (answer c.in_ok-members.ensures.goes) (done (spec_struct_body _ _ _)))))
+types::structure_form-returns-clause-goes t c = given (structure_braces c.args.tag (sym c.if-not-comes.ensures) (take c.in-Ok.ensures.goes (goes_on (answer c.in-Ok-members.ensures.goes) (done (spec_struct_body _ _ _)))))
 
-pub types::enumeration-returns-in_err-at-clause-goes : goal.types::enumeration-returns-in_err-at-clause-goes
-types::enumeration-returns-in_err-at-clause-goes t c = failed c.from_residual.ensures.1 (stall c.in_err-at.ensures.goes)
+pub types::enumeration-returns-in-Err-clause-goes : goal.types::enumeration-returns-in-Err-clause-goes
+types::enumeration-returns-in-Err-clause-goes t c = halted (stall c.in-Err.ensures.goes)
 
 pub types::enumeration-returns-clause-goes : goal.types::enumeration-returns-clause-goes
-types::enumeration-returns-clause-goes t c = carried c.enumeration_form.ensures.goes (λ o g. step c.in_ok-at.ensures.goes o g)
+types::enumeration-returns-clause-goes t c = carried c.enumeration_form.ensures.goes (λ o g. step c.in-Ok.ensures.goes o g)
 
 pub types::enumeration_form-returns-then-not-comes-clause-goes : goal.types::enumeration_form-returns-then-not-comes-clause-goes
 types::enumeration_form-returns-then-not-comes-clause-goes t c = given (enumeration_alone c.args.at c.args.tag c.requires (sym c.if-not-comes.ensures) c.enumeration_of.ensures)
 
-pub types::enumeration_form-returns-in_err-_opening-clause-goes : goal.types::enumeration_form-returns-in_err-_opening-clause-goes
-types::enumeration_form-returns-in_err-_opening-clause-goes t c = failed c.from_residual.ensures.1 (halts (refuse c.in_err-_opening.ensures.goes) (λ why rest g. enumeration_braces c.args.tag (sym c.if-not-comes.ensures) (g _ _)))
+pub types::enumeration_form-returns-in-Err-clause-goes : goal.types::enumeration_form-returns-in-Err-clause-goes
+types::enumeration_form-returns-in-Err-clause-goes t c = halted (halts (refuse c.in-Err.ensures.goes) (λ why rest g. enumeration_braces c.args.tag (sym c.if-not-comes.ensures) (g _ _)))
 
-pub types::enumeration_form-returns-in_err-enumerators-clause-goes : goal.types::enumeration_form-returns-in_err-enumerators-clause-goes
-types::enumeration_form-returns-in_err-enumerators-clause-goes t c = failed c.from_residual-in_err-enumerators.ensures.1 (halts (halt c.in_err-enumerators.ensures.goes) (λ why rest g. enumeration_braces c.args.tag (sym c.if-not-comes.ensures) (take c.in_ok-_opening.ensures.goes (stops g))))
+pub types::enumeration_form-returns-in-Err-enumerators-clause-goes : goal.types::enumeration_form-returns-in-Err-enumerators-clause-goes
+types::enumeration_form-returns-in-Err-enumerators-clause-goes t c = halted (halts (halt c.in-Err-enumerators.ensures.goes) (λ why rest g. enumeration_braces c.args.tag (sym c.if-not-comes.ensures) (take c.in-Ok.ensures.goes (stops g))))
 
 pub types::enumeration_form-returns-clause-goes : goal.types::enumeration_form-returns-clause-goes
-types::enumeration_form-returns-clause-goes t c = given (enumeration_braces c.args.tag (sym c.if-not-comes.ensures) (take c.in_ok-_opening.ensures.goes (goes_on (answer c.in_ok-enumerators.ensures.goes) (done (spec_enum_body _ _ _)))))
+types::enumeration_form-returns-clause-goes t c = given (enumeration_braces c.args.tag (sym c.if-not-comes.ensures) (take c.in-Ok.ensures.goes (goes_on (answer c.in-Ok-enumerators.ensures.goes) (done (spec_enum_body _ _ _)))))
 
 pub types::more_specs-returns-then-type_comes_again-clause-goes : goal.types::more_specs-returns-then-type_comes_again-clause-goes
 types::more_specs-returns-then-type_comes_again-clause-goes t c = halted (stopped c.barred.ensures (c.words.invariant.0 _ (is_barred (borne _ (again_is _ c.words.invariant.1 (sym c.if-type_comes_again.ensures))))))
@@ -343,50 +343,50 @@ types::more_specs-returns-then-type_comes_again-clause-goes t c = halted (stoppe
 pub types::more_specs-returns-then-not-spec_ahead-clause-goes : goal.types::more_specs-returns-then-not-spec_ahead-clause-goes
 types::more_specs-returns-then-not-spec_ahead-clause-goes t c = given (c.words.invariant.0 _ (by (type_rule kind.specs_end) (unborne _ (again_is _ c.words.invariant.1 (sym c.if-type_comes_again.ensures))) (if_false _ (sym c.if-not-spec_ahead.ensures)) (passes (ap not (sym c.if-not-spec_ahead.ensures)) (done c.from_vec.ensures))))
 
-pub types::more_specs-returns-in_err-next-clause-goes : goal.types::more_specs-returns-in_err-next-clause-goes
-types::more_specs-returns-in_err-next-clause-goes t c = failed c.from_residual.ensures.1 (halts (halt c.in_err-next.ensures.goes) (λ why rest g. c.words.invariant.0 _ (by (type_rule kind.specs_more) (unborne _ (again_is _ c.words.invariant.1 (sym c.if-type_comes_again.ensures))) (if_true _ (sym c.if-not-spec_ahead.ensures)) (stops_here g))))
+pub types::more_specs-returns-in-Err-clause-goes : goal.types::more_specs-returns-in-Err-clause-goes
+types::more_specs-returns-in-Err-clause-goes t c = halted (halts (halt c.in-Err.ensures.goes) (λ why rest g. c.words.invariant.0 _ (by (type_rule kind.specs_more) (unborne _ (again_is _ c.words.invariant.1 (sym c.if-type_comes_again.ensures))) (if_true _ (sym c.if-not-spec_ahead.ensures)) (stops_here g))))
 
 pub types::more_specs-returns-in_err-push_spec-clause-goes : goal.types::more_specs-returns-in_err-push_spec-clause-goes
-types::more_specs-returns-in_err-push_spec-clause-goes t c = starved c.from_residual-in_err-push_spec.ensures.1
+types::more_specs-returns-in_err-push_spec-clause-goes t c = starved c.from_residual.ensures.1
 
 pub types::more_specs-words-preserved : goal.types::more_specs-words-preserved
-types::more_specs-words-preserved t c = ((λ o g. c.words.invariant.0 o (spec_step o (unborne _ (again_is _ c.words.invariant.1 (sym c.if-type_comes_again.ensures))) (sym c.if-not-spec_ahead.ensures) (answer c.in_ok-next.ensures.goes) c.in_ok-push_spec.ensures g)), more_type _ _ c.tells_type-has_type.ensures c.words.invariant.1 c.in_ok-push_spec.ensures, omega (arith, c.in_ok-next.ensures.shorter))
+types::more_specs-words-preserved t c = ((λ o g. c.words.invariant.0 o (spec_step o (unborne _ (again_is _ c.words.invariant.1 (sym c.if-type_comes_again.ensures))) (sym c.if-not-spec_ahead.ensures) (answer c.in-Ok.ensures.goes) c.in_ok-push_spec.ensures g)), more_type _ _ c.tells_type-has_type.ensures c.words.invariant.1 c.in_ok-push_spec.ensures, omega (arith, c.in-Ok.ensures.shorter))
 
-pub types::members-returns-in_err-first-clause-goes : goal.types::members-returns-in_err-first-clause-goes
-types::members-returns-in_err-first-clause-goes t c = failed c.from_residual.ensures.1 (halts (halt c.in_err-first.ensures.goes) (λ why rest g. by (type_rule kind.members) (refl) (refl) (stops_here g)))
+pub types::members-returns-in-Err-clause-goes : goal.types::members-returns-in-Err-clause-goes
+types::members-returns-in-Err-clause-goes t c = halted (halts (halt c.in-Err.ensures.goes) (λ why rest g. by (type_rule kind.members) (refl) (refl) (stops_here g)))
 
 pub types::members-returns-in_err-items-clause-goes : goal.types::members-returns-in_err-items-clause-goes
-types::members-returns-in_err-items-clause-goes t c = starved c.from_residual-in_err-items.ensures.1
+types::members-returns-in_err-items-clause-goes t c = starved c.from_residual.ensures.1
 
 pub types::members-returns-clause-goes : goal.types::members-returns-clause-goes
-types::members-returns-clause-goes t c = relayed c.more_members.ensures.goes (λ x g. by (type_rule kind.members) (refl) (refl) (here (answer c.in_ok-first.ensures.goes) (here (members_at c.in_ok-items.ensures g) (is_done)))) (λ why rest g. by (type_rule kind.members) (refl) (refl) (here (answer c.in_ok-first.ensures.goes) (stops_here (members_at c.in_ok-items.ensures g))))
+types::members-returns-clause-goes t c = relayed c.more_members.ensures.goes (λ x g. by (type_rule kind.members) (refl) (refl) (here (answer c.in-Ok.ensures.goes) (here (members_at c.in_ok-items.ensures g) (is_done)))) (λ why rest g. by (type_rule kind.members) (refl) (refl) (here (answer c.in-Ok.ensures.goes) (stops_here (members_at c.in_ok-items.ensures g))))
 
-pub types::more_members-returns-in_err-next-clause-goes : goal.types::more_members-returns-in_err-next-clause-goes
-types::more_members-returns-in_err-next-clause-goes t c = failed c.from_residual.ensures.1 (halts (halt c.in_err-next.ensures.goes) (λ why rest g. c.lines.invariant.0 _ (by (type_rule kind.members_more) (refl) (if_false _ (sym c.lines-test.ensures)) (stops_here g))))
+pub types::more_members-returns-in-Err-clause-goes : goal.types::more_members-returns-in-Err-clause-goes
+types::more_members-returns-in-Err-clause-goes t c = halted (halts (halt c.in-Err.ensures.goes) (λ why rest g. c.lines.invariant.0 _ (by (type_rule kind.members_more) (refl) (if_false _ (sym c.lines-test.ensures)) (stops_here g))))
 
 pub types::more_members-returns-in_err-push_member-clause-goes : goal.types::more_members-returns-in_err-push_member-clause-goes
-types::more_members-returns-in_err-push_member-clause-goes t c = starved c.from_residual-in_err-push_member.ensures.1
+types::more_members-returns-in_err-push_member-clause-goes t c = starved c.from_residual.ensures.1
 
-pub types::more_members-returns-in_err-_close-clause-goes : goal.types::more_members-returns-in_err-_close-clause-goes
-types::more_members-returns-in_err-_close-clause-goes t c = failed c.from_residual-in_err-_close.ensures.1 (halts (refuse c.in_err-_close.ensures.goes) (λ why rest g. c.lines.invariant.0 _ (by (type_rule kind.members_end) (refl) (if_true _ (sym c.lines-test.ensures)) (g _ _))))
+pub types::more_members-returns-in-Err-taken-clause-goes : goal.types::more_members-returns-in-Err-taken-clause-goes
+types::more_members-returns-in-Err-taken-clause-goes t c = halted (halts (refuse c.in-Err-taken.ensures.goes) (λ why rest g. c.lines.invariant.0 _ (by (type_rule kind.members_end) (refl) (if_true _ (sym c.lines-test.ensures)) (g _ _))))
 
 pub types::more_members-returns-clause-goes : goal.types::more_members-returns-clause-goes
-types::more_members-returns-clause-goes t c = given (c.lines.invariant.0 _ (by (type_rule kind.members_end) (refl) (if_true _ (sym c.lines-test.ensures)) (take c.in_ok-_close.ensures.goes (done c.from_vec.ensures))))
+types::more_members-returns-clause-goes t c = given (c.lines.invariant.0 _ (by (type_rule kind.members_end) (refl) (if_true _ (sym c.lines-test.ensures)) (take c.in-Ok-taken.ensures.goes (done c.from_vec.ensures))))
 
 pub types::more_members-lines-preserved : goal.types::more_members-lines-preserved
-types::more_members-lines-preserved t c = ((λ o g. c.lines.invariant.0 o (member_step o (sym c.lines-test.ensures) (answer c.in_ok-next.ensures.goes) c.in_ok-push_member.ensures g)), omega (arith, c.in_ok-next.ensures.shorter))
+types::more_members-lines-preserved t c = ((λ o g. c.lines.invariant.0 o (member_step o (sym c.lines-test.ensures) (answer c.in-Ok.ensures.goes) c.in_ok-push_member.ensures g)), omega (arith, c.in-Ok.ensures.shorter))
 
-pub types::member-returns-in_err-words-clause-goes : goal.types::member-returns-in_err-words-clause-goes
-types::member-returns-in_err-words-clause-goes t c = failed c.from_residual.ensures.1 (halts (halt c.in_err-words.ensures.goes) (λ why rest g. by (type_rule kind.member) (refl) (refl) (stops_here g)))
+pub types::member-returns-in-Err-clause-goes : goal.types::member-returns-in-Err-clause-goes
+types::member-returns-in-Err-clause-goes t c = halted (halts (halt c.in-Err.ensures.goes) (λ why rest g. by (type_rule kind.member) (refl) (refl) (stops_here g)))
 
-pub types::member-returns-in_err-first-clause-goes : goal.types::member-returns-in_err-first-clause-goes
-types::member-returns-in_err-first-clause-goes t c = failed c.from_residual-in_err-first.ensures.1 (halts (halt c.in_err-first.ensures.goes) (λ why rest g. by (type_rule kind.member) (refl) (refl) (here (answer c.in_ok-words.ensures.goes) (stops_here g))))
+pub types::member-returns-in-Err-declarator-clause-goes : goal.types::member-returns-in-Err-declarator-clause-goes
+types::member-returns-in-Err-declarator-clause-goes t c = halted (halts (halt c.in-Err-declarator.ensures.goes) (λ why rest g. by (type_rule kind.member) (refl) (refl) (here (answer c.in-Ok.ensures.goes) (stops_here g))))
 
 pub types::member-returns-in_err-items-clause-goes : goal.types::member-returns-in_err-items-clause-goes
-types::member-returns-in_err-items-clause-goes t c = starved c.from_residual-in_err-items.ensures.1
+types::member-returns-in_err-items-clause-goes t c = starved c.from_residual.ensures.1
 
 pub types::member-returns-clause-goes : goal.types::member-returns-clause-goes
-types::member-returns-clause-goes t c = relayed c.more_declarators.ensures.goes (λ x g. by (type_rule kind.member) (refl) (refl) (here (answer c.in_ok-words.ensures.goes) (here (answer c.in_ok-first.ensures.goes) (here (declarators_at c.in_ok-items.ensures g) (is_done))))) (λ why rest g. by (type_rule kind.member) (refl) (refl) (here (answer c.in_ok-words.ensures.goes) (here (answer c.in_ok-first.ensures.goes) (stops_here (declarators_at c.in_ok-items.ensures g)))))
+types::member-returns-clause-goes t c = relayed c.more_declarators.ensures.goes (λ x g. by (type_rule kind.member) (refl) (refl) (here (answer c.in-Ok.ensures.goes) (here (answer c.in-Ok-declarator.ensures.goes) (here (declarators_at c.in_ok-items.ensures g) (is_done))))) (λ why rest g. by (type_rule kind.member) (refl) (refl) (here (answer c.in-Ok.ensures.goes) (here (answer c.in-Ok-declarator.ensures.goes) (stops_here (declarators_at c.in_ok-items.ensures g)))))
 
 pub types::more_declarators-returns-then-comes-clause-goes : goal.types::more_declarators-returns-then-comes-clause-goes
 types::more_declarators-returns-then-comes-clause-goes t c = halted (stopped c.barred.ensures (c.others.invariant.0 _ (is_barred (borne _ (sym c.if-comes.ensures)))))
@@ -394,68 +394,68 @@ types::more_declarators-returns-then-comes-clause-goes t c = halted (stopped c.b
 pub types::more_declarators-returns-then-comes-2-clause-goes : goal.types::more_declarators-returns-then-comes-2-clause-goes
 types::more_declarators-returns-then-comes-2-clause-goes t c = carried c.members_end.ensures.goes (λ o g. c.others.invariant.0 o g)
 
-pub types::more_declarators-returns-in_err-_comma-clause-goes : goal.types::more_declarators-returns-in_err-_comma-clause-goes
-types::more_declarators-returns-in_err-_comma-clause-goes t c = failed c.from_residual.ensures.1 (halts (refuse c.in_err-_comma.ensures.goes) (λ why rest g. c.others.invariant.0 _ (by (type_rule kind.declarators_more) (unborne _ (sym c.if-comes.ensures)) (if_false _ (sym c.if-comes-2.ensures)) (g _ _))))
+pub types::more_declarators-returns-in-Err-clause-goes : goal.types::more_declarators-returns-in-Err-clause-goes
+types::more_declarators-returns-in-Err-clause-goes t c = halted (halts (refuse c.in-Err.ensures.goes) (λ why rest g. c.others.invariant.0 _ (by (type_rule kind.declarators_more) (unborne _ (sym c.if-comes.ensures)) (if_false _ (sym c.if-comes-2.ensures)) (g _ _))))
 
-pub types::more_declarators-returns-in_err-next-clause-goes : goal.types::more_declarators-returns-in_err-next-clause-goes
-types::more_declarators-returns-in_err-next-clause-goes t c = failed c.from_residual-in_err-next.ensures.1 (halts (halt c.in_err-next.ensures.goes) (λ why rest g. c.others.invariant.0 _ (by (type_rule kind.declarators_more) (unborne _ (sym c.if-comes.ensures)) (if_false _ (sym c.if-comes-2.ensures)) (take c.in_ok-_comma.ensures.goes (stops_here g)))))
+pub types::more_declarators-returns-in-Err-declarator-clause-goes : goal.types::more_declarators-returns-in-Err-declarator-clause-goes
+types::more_declarators-returns-in-Err-declarator-clause-goes t c = halted (halts (halt c.in-Err-declarator.ensures.goes) (λ why rest g. c.others.invariant.0 _ (by (type_rule kind.declarators_more) (unborne _ (sym c.if-comes.ensures)) (if_false _ (sym c.if-comes-2.ensures)) (take c.in-Ok.ensures.goes (stops_here g)))))
 
 pub types::more_declarators-returns-in_err-push_declarator-clause-goes : goal.types::more_declarators-returns-in_err-push_declarator-clause-goes
-types::more_declarators-returns-in_err-push_declarator-clause-goes t c = starved c.from_residual-in_err-push_declarator.ensures.1
+types::more_declarators-returns-in_err-push_declarator-clause-goes t c = starved c.from_residual.ensures.1
 
 pub types::more_declarators-others-preserved : goal.types::more_declarators-others-preserved
-types::more_declarators-others-preserved t c = ((λ o g. c.others.invariant.0 o (declarator_step o (sym c.if-comes.ensures) (sym c.if-comes-2.ensures) c.in_ok-_comma.ensures.goes (answer c.in_ok-next.ensures.goes) c.in_ok-push_declarator.ensures g)), omega (arith, c.in_ok-_comma.ensures.shorter, c.in_ok-next.ensures.shorter))
+types::more_declarators-others-preserved t c = ((λ o g. c.others.invariant.0 o (declarator_step o (sym c.if-comes.ensures) (sym c.if-comes-2.ensures) c.in-Ok.ensures.goes (answer c.in-Ok-declarator.ensures.goes) c.in_ok-push_declarator.ensures g)), omega (arith, c.in-Ok.ensures.shorter, c.in-Ok-declarator.ensures.shorter))
 
-pub types::enumerators-returns-in_err-first-clause-goes : goal.types::enumerators-returns-in_err-first-clause-goes
-types::enumerators-returns-in_err-first-clause-goes t c = failed c.from_residual.ensures.1 (halts (halt c.in_err-first.ensures.goes) (λ why rest g. by (type_rule kind.enumerators) (refl) (refl) (stops_here g)))
+pub types::enumerators-returns-in-Err-clause-goes : goal.types::enumerators-returns-in-Err-clause-goes
+types::enumerators-returns-in-Err-clause-goes t c = halted (halts (halt c.in-Err.ensures.goes) (λ why rest g. by (type_rule kind.enumerators) (refl) (refl) (stops_here g)))
 
 pub types::enumerators-returns-in_err-items-clause-goes : goal.types::enumerators-returns-in_err-items-clause-goes
-types::enumerators-returns-in_err-items-clause-goes t c = starved c.from_residual-in_err-items.ensures.1
+types::enumerators-returns-in_err-items-clause-goes t c = starved c.from_residual.ensures.1
 
 pub types::enumerators-returns-clause-goes : goal.types::enumerators-returns-clause-goes
-types::enumerators-returns-clause-goes t c = relayed c.more_enumerators.ensures.goes (λ x g. by (type_rule kind.enumerators) (refl) (refl) (here (answer c.in_ok-first.ensures.goes) (here (enumerators_at c.in_ok-items.ensures g) (is_done)))) (λ why rest g. by (type_rule kind.enumerators) (refl) (refl) (here (answer c.in_ok-first.ensures.goes) (stops_here (enumerators_at c.in_ok-items.ensures g))))
+types::enumerators-returns-clause-goes t c = relayed c.more_enumerators.ensures.goes (λ x g. by (type_rule kind.enumerators) (refl) (refl) (here (answer c.in-Ok.ensures.goes) (here (enumerators_at c.in_ok-items.ensures g) (is_done)))) (λ why rest g. by (type_rule kind.enumerators) (refl) (refl) (here (answer c.in-Ok.ensures.goes) (stops_here (enumerators_at c.in_ok-items.ensures g))))
 
-pub types::more_enumerators-returns-in_err-_comma-clause-goes : goal.types::more_enumerators-returns-in_err-_comma-clause-goes
-types::more_enumerators-returns-in_err-_comma-clause-goes t c = failed c.from_residual.ensures.1 (halts (refuse c.in_err-_comma.ensures.goes) (λ why rest g. c.values.invariant.0 _ (by (type_rule kind.enumerators_more) (refl) (if_false _ (sym c.values-test.ensures)) (g _ _))))
+pub types::more_enumerators-returns-in-Err-clause-goes : goal.types::more_enumerators-returns-in-Err-clause-goes
+types::more_enumerators-returns-in-Err-clause-goes t c = halted (halts (refuse c.in-Err.ensures.goes) (λ why rest g. c.values.invariant.0 _ (by (type_rule kind.enumerators_more) (refl) (if_false _ (sym c.values-test.ensures)) (g _ _))))
 
-pub types::more_enumerators-returns-in_err-next-clause-goes : goal.types::more_enumerators-returns-in_err-next-clause-goes
-types::more_enumerators-returns-in_err-next-clause-goes t c = failed c.from_residual-in_err-next.ensures.1 (halts (halt c.in_err-next.ensures.goes) (λ why rest g. c.values.invariant.0 _ (next_step _ (sym c.values-test.ensures) c.in_ok-_comma.ensures.goes (by (type_rule kind.enumerators_next) refl (if_false _ (sym c.if-comes.ensures)) (stops_here g)))))
+pub types::more_enumerators-returns-in-Err-enumerator-clause-goes : goal.types::more_enumerators-returns-in-Err-enumerator-clause-goes
+types::more_enumerators-returns-in-Err-enumerator-clause-goes t c = halted (halts (halt c.in-Err-enumerator.ensures.goes) (λ why rest g. c.values.invariant.0 _ (next_step _ (sym c.values-test.ensures) c.in-Ok.ensures.goes (by (type_rule kind.enumerators_next) refl (if_false _ (sym c.if-comes.ensures)) (stops_here g)))))
 
 pub types::more_enumerators-returns-in_err-push_enumerator-clause-goes : goal.types::more_enumerators-returns-in_err-push_enumerator-clause-goes
-types::more_enumerators-returns-in_err-push_enumerator-clause-goes t c = starved c.from_residual-in_err-push_enumerator.ensures.1
+types::more_enumerators-returns-in_err-push_enumerator-clause-goes t c = starved c.from_residual.ensures.1
 
 pub types::more_enumerators-returns-then-comes-clause-goes : goal.types::more_enumerators-returns-then-comes-clause-goes
-types::more_enumerators-returns-then-comes-clause-goes t c = carried c.comma_end.ensures.goes (λ o g. c.values.invariant.0 o (next_step o (sym c.values-test.ensures) c.in_ok-_comma.ensures.goes g))
+types::more_enumerators-returns-then-comes-clause-goes t c = carried c.comma_end.ensures.goes (λ o g. c.values.invariant.0 o (next_step o (sym c.values-test.ensures) c.in-Ok.ensures.goes g))
 
 pub types::more_enumerators-values-preserved : goal.types::more_enumerators-values-preserved
-types::more_enumerators-values-preserved t c = ((λ o g. c.values.invariant.0 o (next_step o (sym c.values-test.ensures) c.in_ok-_comma.ensures.goes (enumerator_step o (sym c.if-comes.ensures) (answer c.in_ok-next.ensures.goes) c.in_ok-push_enumerator.ensures g))), omega (arith, c.in_ok-_comma.ensures.shorter, c.in_ok-next.ensures.shorter))
+types::more_enumerators-values-preserved t c = ((λ o g. c.values.invariant.0 o (next_step o (sym c.values-test.ensures) c.in-Ok.ensures.goes (enumerator_step o (sym c.if-comes.ensures) (answer c.in-Ok-enumerator.ensures.goes) c.in_ok-push_enumerator.ensures g))), omega (arith, c.in-Ok.ensures.shorter, c.in-Ok-enumerator.ensures.shorter))
 
-pub types::more_enumerators-returns-in_err-_close-clause-goes : goal.types::more_enumerators-returns-in_err-_close-clause-goes
-types::more_enumerators-returns-in_err-_close-clause-goes t c = failed c.from_residual-in_err-_close.ensures.1 (halts (refuse c.in_err-_close.ensures.goes) (λ why rest g. c.values.invariant.0 _ (by (type_rule kind.enumerators_end) (refl) (if_true _ (sym c.values-test.ensures)) (g _ _))))
+pub types::more_enumerators-returns-in-Err-taken-clause-goes : goal.types::more_enumerators-returns-in-Err-taken-clause-goes
+types::more_enumerators-returns-in-Err-taken-clause-goes t c = halted (halts (refuse c.in-Err-taken.ensures.goes) (λ why rest g. c.values.invariant.0 _ (by (type_rule kind.enumerators_end) (refl) (if_true _ (sym c.values-test.ensures)) (g _ _))))
 
 pub types::more_enumerators-returns-clause-goes : goal.types::more_enumerators-returns-clause-goes
-types::more_enumerators-returns-clause-goes t c = given (c.values.invariant.0 _ (by (type_rule kind.enumerators_end) (refl) (if_true _ (sym c.values-test.ensures)) (take c.in_ok-_close.ensures.goes (done c.from_vec.ensures))))
+types::more_enumerators-returns-clause-goes t c = given (c.values.invariant.0 _ (by (type_rule kind.enumerators_end) (refl) (if_true _ (sym c.values-test.ensures)) (take c.in-Ok-taken.ensures.goes (done c.from_vec.ensures))))
 
-pub types::enumerator-returns-in_err-word-clause-goes : goal.types::enumerator-returns-in_err-word-clause-goes
-types::enumerator-returns-in_err-word-clause-goes t c = failed c.from_residual.ensures.1 (halts (refuse c.in_err-word.ensures.goes) (λ why rest g. by (type_rule kind.enumerator) (refl) (refl) (g _ _)))
+pub types::enumerator-returns-in-Err-clause-goes : goal.types::enumerator-returns-in-Err-clause-goes
+types::enumerator-returns-in-Err-clause-goes t c = halted (halts (refuse c.in-Err.ensures.goes) (λ why rest g. by (type_rule kind.enumerator) (refl) (refl) (g _ _)))
 
 pub types::enumerator-returns-in_err-name-clause-goes : goal.types::enumerator-returns-in_err-name-clause-goes
-types::enumerator-returns-in_err-name-clause-goes t c = starved c.from_residual-in_err-name.ensures.1
+types::enumerator-returns-in_err-name-clause-goes t c = starved c.from_residual.ensures.1
 
 pub types::enumerator-returns-clause-goes : goal.types::enumerator-returns-clause-goes
-types::enumerator-returns-clause-goes t c = relayed c.enumerator_value.ensures.goes (λ x g. by (type_rule kind.enumerator) (refl) (refl) (take c.in_ok-word.ensures.goes (here (value_at c.in_ok-name.ensures g) (is_done)))) (λ why rest g. by (type_rule kind.enumerator) (refl) (refl) (take c.in_ok-word.ensures.goes (stops_here (value_at c.in_ok-name.ensures g))))
+types::enumerator-returns-clause-goes t c = relayed c.enumerator_value.ensures.goes (λ x g. by (type_rule kind.enumerator) (refl) (refl) (take c.in-Ok.ensures.goes (here (value_at c.in_ok-name.ensures g) (is_done)))) (λ why rest g. by (type_rule kind.enumerator) (refl) (refl) (take c.in-Ok.ensures.goes (stops_here (value_at c.in_ok-name.ensures g))))
 
 pub types::enumerator_value-returns-then-not-comes-clause-goes : goal.types::enumerator_value-returns-then-not-comes-clause-goes
 types::enumerator_value-returns-then-not-comes-clause-goes t c = given (by (type_rule kind.enumerator_plain) refl (if_false _ (sym c.if-not-comes.ensures)) (done (enumerator_plain _ _)))
 
-pub types::enumerator_value-returns-in_err-_equals-clause-goes : goal.types::enumerator_value-returns-in_err-_equals-clause-goes
-types::enumerator_value-returns-in_err-_equals-clause-goes t c = failed c.from_residual.ensures.1 (halts (refuse c.in_err-_equals.ensures.goes) (λ why rest g. by (type_rule kind.enumerator_valued) (refl) (if_true _ (sym c.if-not-comes.ensures)) (g _ _)))
+pub types::enumerator_value-returns-in-Err-clause-goes : goal.types::enumerator_value-returns-in-Err-clause-goes
+types::enumerator_value-returns-in-Err-clause-goes t c = halted (halts (refuse c.in-Err.ensures.goes) (λ why rest g. by (type_rule kind.enumerator_valued) (refl) (if_true _ (sym c.if-not-comes.ensures)) (g _ _)))
 
-pub types::enumerator_value-returns-in_err-value-clause-goes : goal.types::enumerator_value-returns-in_err-value-clause-goes
-types::enumerator_value-returns-in_err-value-clause-goes t c = failed c.from_residual-in_err-value.ensures.1 (halts (halt c.in_err-value.ensures.goes) (λ why rest g. by (type_rule kind.enumerator_valued) (refl) (if_true _ (sym c.if-not-comes.ensures)) (take c.in_ok-_equals.ensures.goes (stops g))))
+pub types::enumerator_value-returns-in-Err-conditional-clause-goes : goal.types::enumerator_value-returns-in-Err-conditional-clause-goes
+types::enumerator_value-returns-in-Err-conditional-clause-goes t c = halted (halts (halt c.in-Err-conditional.ensures.goes) (λ why rest g. by (type_rule kind.enumerator_valued) (refl) (if_true _ (sym c.if-not-comes.ensures)) (take c.in-Ok.ensures.goes (stops g))))
 
 pub types::enumerator_value-returns-clause-goes : goal.types::enumerator_value-returns-clause-goes
-types::enumerator_value-returns-clause-goes t c = given (by (type_rule kind.enumerator_valued) (refl) (if_true _ (sym c.if-not-comes.ensures)) (take c.in_ok-_equals.ensures.goes (goes_on (answer c.in_ok-value.ensures.goes) (done c.valued_enumerator.ensures))))
+types::enumerator_value-returns-clause-goes t c = given (by (type_rule kind.enumerator_valued) (refl) (if_true _ (sym c.if-not-comes.ensures)) (take c.in-Ok.ensures.goes (goes_on (answer c.in-Ok-conditional.ensures.goes) (done c.valued_enumerator.ensures))))
 
 pub declarators::declarator-returns-then-type_name_ahead-clause-goes : goal.declarators::declarator-returns-then-type_name_ahead-clause-goes
 declarators::declarator-returns-then-type_name_ahead-clause-goes t c = halted (stopped c.barred.ensures (is_barred (borne _ (sym c.if-type_name_ahead.ensures))))
@@ -463,20 +463,20 @@ declarators::declarator-returns-then-type_name_ahead-clause-goes t c = halted (s
 pub declarators::declarator-returns-clause-goes : goal.declarators::declarator-returns-clause-goes
 declarators::declarator-returns-clause-goes t c = relayed c.direct.ensures.goes (λ x g. by (type_rule kind.direct) (unborne _ (sym c.if-type_name_ahead.ensures)) (if_false _ (sym c.if-comes.ensures)) (here g (is_done))) (λ why rest g. by (type_rule kind.direct) (unborne _ (sym c.if-type_name_ahead.ensures)) (if_false _ (sym c.if-comes.ensures)) (stops_here g))
 
-pub declarators::pointer-returns-in_err-at-clause-goes : goal.declarators::pointer-returns-in_err-at-clause-goes
-declarators::pointer-returns-in_err-at-clause-goes t c = failed c.from_residual.ensures.1 (halts (refuse c.in_err-at.ensures.goes) (λ why rest g. by (type_rule kind.pointer) (unborne _ c.requires.0) (if_true _ c.requires.1) (g _ _)))
+pub declarators::pointer-returns-in-Err-clause-goes : goal.declarators::pointer-returns-in-Err-clause-goes
+declarators::pointer-returns-in-Err-clause-goes t c = halted (halts (refuse c.in-Err.ensures.goes) (λ why rest g. by (type_rule kind.pointer) (unborne _ c.requires.0) (if_true _ c.requires.1) (g _ _)))
 
-pub declarators::pointer-returns-in_err-is_const-clause-goes : goal.declarators::pointer-returns-in_err-is_const-clause-goes
-declarators::pointer-returns-in_err-is_const-clause-goes t c = failed c.from_residual-in_err-is_const.ensures.1 (halts (stall c.in_err-is_const.ensures.goes) (λ why rest g. by (type_rule kind.pointer) (unborne _ c.requires.0) (if_true _ c.requires.1) (take c.in_ok-at.ensures.goes (stops g))))
+pub declarators::pointer-returns-in-Err-consts-clause-goes : goal.declarators::pointer-returns-in-Err-consts-clause-goes
+declarators::pointer-returns-in-Err-consts-clause-goes t c = halted (halts (stall c.in-Err-consts.ensures.goes) (λ why rest g. by (type_rule kind.pointer) (unborne _ c.requires.0) (if_true _ c.requires.1) (take c.in-Ok.ensures.goes (stops g))))
 
-pub declarators::pointer-returns-in_err-inner-clause-goes : goal.declarators::pointer-returns-in_err-inner-clause-goes
-declarators::pointer-returns-in_err-inner-clause-goes t c = failed c.from_residual-in_err-inner.ensures.1 (halts (halt c.in_err-inner.ensures.goes) (λ why rest g. by (type_rule kind.pointer) (unborne _ c.requires.0) (if_true _ c.requires.1) (take c.in_ok-at.ensures.goes (stops (step c.in_ok-is_const.ensures.goes _ (by (type_rule kind.pointed) refl (if_false _ c.in_ok-is_const.ensures.ended) (stops_here g)))))))
+pub declarators::pointer-returns-in-Err-declarator-clause-goes : goal.declarators::pointer-returns-in-Err-declarator-clause-goes
+declarators::pointer-returns-in-Err-declarator-clause-goes t c = halted (halts (halt c.in-Err-declarator.ensures.goes) (λ why rest g. by (type_rule kind.pointer) (unborne _ c.requires.0) (if_true _ c.requires.1) (take c.in-Ok.ensures.goes (stops (step c.in-Ok-consts.ensures.goes _ (by (type_rule kind.pointed) refl (if_false _ c.in-Ok-consts.ensures.ended) (stops_here g)))))))
 
 pub declarators::pointer-returns-in_err-whole-clause-goes : goal.declarators::pointer-returns-in_err-whole-clause-goes
-declarators::pointer-returns-in_err-whole-clause-goes t c = starved c.from_residual-in_err-whole.ensures.1
+declarators::pointer-returns-in_err-whole-clause-goes t c = starved c.from_residual.ensures.1
 
 pub declarators::pointer-returns-clause-goes : goal.declarators::pointer-returns-clause-goes
-declarators::pointer-returns-clause-goes t c = given (by (type_rule kind.pointer) (unborne _ c.requires.0) (if_true _ c.requires.1) (take c.in_ok-at.ensures.goes (goes_on (step c.in_ok-is_const.ensures.goes _ (by (type_rule kind.pointed) refl (if_false _ c.in_ok-is_const.ensures.ended) (here (answer c.in_ok-inner.ensures.goes) (done c.in_ok-whole.ensures)))) is_done)))
+declarators::pointer-returns-clause-goes t c = given (by (type_rule kind.pointer) (unborne _ c.requires.0) (if_true _ c.requires.1) (take c.in-Ok.ensures.goes (goes_on (step c.in-Ok-consts.ensures.goes _ (by (type_rule kind.pointed) refl (if_false _ c.in-Ok-consts.ensures.ended) (here (answer c.in-Ok-declarator.ensures.goes) (done c.in_ok-whole.ensures)))) is_done)))
 
 pub declarators::direct-returns-then-params_come-clause-goes : goal.declarators::direct-returns-then-params_come-clause-goes
 declarators::direct-returns-then-params_come-clause-goes t c = halted (stopped c.barred.ensures (is_barred (borne _ (sym c.if-params_come.ensures))))
@@ -490,35 +490,35 @@ declarators::nameless-returns-clause-goes t c = carried c.tails.ensures.goes (λ
 pub declarators::direct-returns-in-Neither-clause-goes : goal.declarators::direct-returns-in-Neither-clause-goes
 declarators::direct-returns-in-Neither-clause-goes t c = halted (stopped c.refused.ensures (no_rule (unborne _ (sym c.if-params_come.ensures)) (direct_is _ _ _ (sym c.in-Neither.ensures))))
 
-pub declarators::named-returns-in_err-word-clause-goes : goal.declarators::named-returns-in_err-word-clause-goes
-declarators::named-returns-in_err-word-clause-goes t c = failed c.from_residual.ensures.1 (halts (refuse c.in_err-word.ensures.goes) (λ why rest g. by (type_rule (kind.declared_name (direct_is _ _ _ c.requires.1).0)) (unborne _ c.requires.0) ((direct_is _ _ _ c.requires.1).1) (g _ _)))
+pub declarators::named-returns-in-Err-clause-goes : goal.declarators::named-returns-in-Err-clause-goes
+declarators::named-returns-in-Err-clause-goes t c = halted (halts (refuse c.in-Err.ensures.goes) (λ why rest g. by (type_rule (kind.declared_name (direct_is _ _ _ c.requires.1).0)) (unborne _ c.requires.0) ((direct_is _ _ _ c.requires.1).1) (g _ _)))
 
 pub declarators::named-returns-in_err-name-clause-goes : goal.declarators::named-returns-in_err-name-clause-goes
-declarators::named-returns-in_err-name-clause-goes t c = starved c.from_residual-in_err-name.ensures.1
+declarators::named-returns-in_err-name-clause-goes t c = starved c.from_residual.ensures.1
 
 pub declarators::named-returns-in_err-first-clause-goes : goal.declarators::named-returns-in_err-first-clause-goes
 declarators::named-returns-in_err-first-clause-goes t c = starved c.from_residual-in_err-first.ensures.1
 
 pub declarators::named-returns-clause-goes : goal.declarators::named-returns-clause-goes
-declarators::named-returns-clause-goes t c = relayed c.tails.ensures.goes (λ x g. by (type_rule (kind.declared_name (direct_is _ _ _ c.requires.1).0)) (unborne _ c.requires.0) ((direct_is _ _ _ c.requires.1).1) (take c.in_ok-word.ensures.goes (here (tails_named c.in_ok-first.ensures.ok c.in_ok-name.ensures g) (is_done)))) (λ why rest g. by (type_rule (kind.declared_name (direct_is _ _ _ c.requires.1).0)) (unborne _ c.requires.0) ((direct_is _ _ _ c.requires.1).1) (take c.in_ok-word.ensures.goes (stops_here (tails_named c.in_ok-first.ensures.ok c.in_ok-name.ensures g))))
+declarators::named-returns-clause-goes t c = relayed c.tails.ensures.goes (λ x g. by (type_rule (kind.declared_name (direct_is _ _ _ c.requires.1).0)) (unborne _ c.requires.0) ((direct_is _ _ _ c.requires.1).1) (take c.in-Ok.ensures.goes (here (tails_named c.in_ok-first.ensures.ok c.in_ok-name.ensures g) (is_done)))) (λ why rest g. by (type_rule (kind.declared_name (direct_is _ _ _ c.requires.1).0)) (unborne _ c.requires.0) ((direct_is _ _ _ c.requires.1).1) (take c.in-Ok.ensures.goes (stops_here (tails_named c.in_ok-first.ensures.ok c.in_ok-name.ensures g))))
 
-pub declarators::grouped-returns-in_err-opening-clause-goes : goal.declarators::grouped-returns-in_err-opening-clause-goes
-declarators::grouped-returns-in_err-opening-clause-goes t c = failed c.from_residual.ensures.1 (halts (refuse c.in_err-opening.ensures.goes) (λ why rest g. by (type_rule kind.grouped) (unborne _ c.requires.0) (direct_is _ _ _ c.requires.1) (g _ _)))
+pub declarators::grouped-returns-in-Err-clause-goes : goal.declarators::grouped-returns-in-Err-clause-goes
+declarators::grouped-returns-in-Err-clause-goes t c = halted (halts (refuse c.in-Err.ensures.goes) (λ why rest g. by (type_rule kind.grouped) (unborne _ c.requires.0) (direct_is _ _ _ c.requires.1) (g _ _)))
 
-pub declarators::grouped-returns-in_err-inner-clause-goes : goal.declarators::grouped-returns-in_err-inner-clause-goes
-declarators::grouped-returns-in_err-inner-clause-goes t c = failed c.from_residual-in_err-inner.ensures.1 (halts (halt c.in_err-inner.ensures.goes) (λ why rest g. by (type_rule kind.grouped) (unborne _ c.requires.0) (direct_is _ _ _ c.requires.1) (take c.in_ok-opening.ensures.goes (stops g))))
+pub declarators::grouped-returns-in-Err-declarator-clause-goes : goal.declarators::grouped-returns-in-Err-declarator-clause-goes
+declarators::grouped-returns-in-Err-declarator-clause-goes t c = halted (halts (halt c.in-Err-declarator.ensures.goes) (λ why rest g. by (type_rule kind.grouped) (unborne _ c.requires.0) (direct_is _ _ _ c.requires.1) (take c.in-Ok.ensures.goes (stops g))))
 
 pub declarators::grouped-returns-then-not-is_given-clause-goes : goal.declarators::grouped-returns-then-not-is_given-clause-goes
-declarators::grouped-returns-then-not-is_given-clause-goes t c = halted (stopped c.refused.ensures (by (type_rule kind.grouped) (unborne _ c.requires.0) (direct_is _ _ _ c.requires.1) (take c.in_ok-opening.ensures.goes (goes_on (answer c.in_ok-inner.ensures.goes) (fails (regiven c.deref.ensures c.if-not-is_given.ensures))))))
+declarators::grouped-returns-then-not-is_given-clause-goes t c = halted (stopped c.refused.ensures (by (type_rule kind.grouped) (unborne _ c.requires.0) (direct_is _ _ _ c.requires.1) (take c.in-Ok.ensures.goes (goes_on (answer c.in-Ok-declarator.ensures.goes) (fails (regiven c.deref.ensures c.if-not-is_given.ensures))))))
 
-pub declarators::grouped-returns-in_err-_close-clause-goes : goal.declarators::grouped-returns-in_err-_close-clause-goes
-declarators::grouped-returns-in_err-_close-clause-goes t c = failed c.from_residual-in_err-_close.ensures.1 (halts (refuse c.in_err-_close.ensures.goes) (λ why rest g. by (type_rule kind.grouped) (unborne _ c.requires.0) (direct_is _ _ _ c.requires.1) (take c.in_ok-opening.ensures.goes (goes_on (answer c.in_ok-inner.ensures.goes) (passes (regiven c.deref.ensures c.if-not-is_given.ensures) (g _ _))))))
+pub declarators::grouped-returns-in-Err-taken-clause-goes : goal.declarators::grouped-returns-in-Err-taken-clause-goes
+declarators::grouped-returns-in-Err-taken-clause-goes t c = halted (halts (refuse c.in-Err-taken.ensures.goes) (λ why rest g. by (type_rule kind.grouped) (unborne _ c.requires.0) (direct_is _ _ _ c.requires.1) (take c.in-Ok.ensures.goes (goes_on (answer c.in-Ok-declarator.ensures.goes) (passes (regiven c.deref.ensures c.if-not-is_given.ensures) (g _ _))))))
 
 pub declarators::grouped-returns-in_err-first-clause-goes : goal.declarators::grouped-returns-in_err-first-clause-goes
-declarators::grouped-returns-in_err-first-clause-goes t c = starved c.from_residual-in_err-first.ensures.1
+declarators::grouped-returns-in_err-first-clause-goes t c = starved c.from_residual.ensures.1
 
 pub declarators::grouped-returns-clause-goes : goal.declarators::grouped-returns-clause-goes
-declarators::grouped-returns-clause-goes t c = relayed c.tails.ensures.goes (λ x g. by (type_rule kind.grouped) (unborne _ c.requires.0) (direct_is _ _ _ c.requires.1) (take c.in_ok-opening.ensures.goes (goes_on (answer c.in_ok-inner.ensures.goes) (passes (regiven c.deref.ensures c.if-not-is_given.ensures) (take c.in_ok-_close.ensures.goes (here (tails_at c.in_ok-first.ensures g) is_done)))))) (λ why rest g. by (type_rule kind.grouped) (unborne _ c.requires.0) (direct_is _ _ _ c.requires.1) (take c.in_ok-opening.ensures.goes (goes_on (answer c.in_ok-inner.ensures.goes) (passes (regiven c.deref.ensures c.if-not-is_given.ensures) (take c.in_ok-_close.ensures.goes (stops_here (tails_at c.in_ok-first.ensures g)))))))
+declarators::grouped-returns-clause-goes t c = relayed c.tails.ensures.goes (λ x g. by (type_rule kind.grouped) (unborne _ c.requires.0) (direct_is _ _ _ c.requires.1) (take c.in-Ok.ensures.goes (goes_on (answer c.in-Ok-declarator.ensures.goes) (passes (regiven c.deref.ensures c.if-not-is_given.ensures) (take c.in-Ok-taken.ensures.goes (here (tails_at c.in_ok-first.ensures g) is_done)))))) (λ why rest g. by (type_rule kind.grouped) (unborne _ c.requires.0) (direct_is _ _ _ c.requires.1) (take c.in-Ok.ensures.goes (goes_on (answer c.in-Ok-declarator.ensures.goes) (passes (regiven c.deref.ensures c.if-not-is_given.ensures) (take c.in-Ok-taken.ensures.goes (stops_here (tails_at c.in_ok-first.ensures g)))))))
 
 pub declarators::tails-returns-then-calls_no_name-clause-goes : goal.declarators::tails-returns-then-calls_no_name-clause-goes
 declarators::tails-returns-then-calls_no_name-clause-goes t c = halted (stopped c.barred.ensures (c.forms.invariant.0 _ (is_barred (borne _ (renamed _ _ c.deref.ensures c.if-calls_no_name.ensures)))))
@@ -526,83 +526,83 @@ declarators::tails-returns-then-calls_no_name-clause-goes t c = halted (stopped 
 pub declarators::tails-returns-then-is_no_tail-clause-goes : goal.declarators::tails-returns-then-is_no_tail-clause-goes
 declarators::tails-returns-then-is_no_tail-clause-goes t c = given (c.forms.invariant.0 _ (by (type_rule kind.tails_end) (unborne _ (renamed _ _ c.deref.ensures c.if-calls_no_name.ensures)) (tail_is _ _ _ _ _ (sym c.tail_at-kind.ensures ∙ no_tail _ (sym c.if-is_no_tail.ensures))) is_done))
 
-pub declarators::tails-returns-in_err-longer-clause-goes : goal.declarators::tails-returns-in_err-longer-clause-goes
-declarators::tails-returns-in_err-longer-clause-goes t c = failed c.from_residual.ensures.1 (halts (stall (c.in_err-longer.ensures.goes _ (unborne _ (renamed _ _ c.deref.ensures c.if-calls_no_name.ensures)))) (λ why rest g. c.forms.invariant.0 _ g))
+pub declarators::tails-returns-in-Err-clause-goes : goal.declarators::tails-returns-in-Err-clause-goes
+declarators::tails-returns-in-Err-clause-goes t c = halted (halts (stall (c.in-Err.ensures.goes _ (unborne _ (renamed _ _ c.deref.ensures c.if-calls_no_name.ensures)))) (λ why rest g. c.forms.invariant.0 _ g))
 
 pub declarators::tails-forms-preserved : goal.declarators::tails-forms-preserved
-declarators::tails-forms-preserved t c = ((λ o g. c.forms.invariant.0 o (step (c.in_ok-longer.ensures.goes _ (unborne _ (renamed _ _ c.deref.ensures c.if-calls_no_name.ensures))) o g)), omega (arith, c.in_ok-longer.ensures.shorter))
+declarators::tails-forms-preserved t c = ((λ o g. c.forms.invariant.0 o (step (c.in-Ok.ensures.goes _ (unborne _ (renamed _ _ c.deref.ensures c.if-calls_no_name.ensures))) o g)), omega (arith, c.in-Ok.ensures.shorter))
 
-pub declarators::array-returns-in_err-at-clause-goes : goal.declarators::array-returns-in_err-at-clause-goes
-declarators::array-returns-in_err-at-clause-goes t c = λ plain e. stalls c.from_residual.ensures.1 (halts (refuse c.in_err-at.ensures.goes) (λ why rest g. by (type_rule kind.array) (e) (tail_is _ _ _ _ _ c.requires) (g _ _)))
+pub declarators::array-returns-in-Err-clause-goes : goal.declarators::array-returns-in-Err-clause-goes
+declarators::array-returns-in-Err-clause-goes t c = λ plain e. stalled (halts (refuse c.in-Err.ensures.goes) (λ why rest g. by (type_rule kind.array) (e) (tail_is _ _ _ _ _ c.requires) (g _ _)))
 
-pub declarators::array-returns-in_err-whole-clause-goes : goal.declarators::array-returns-in_err-whole-clause-goes
-declarators::array-returns-in_err-whole-clause-goes t c = λ plain e. stalls c.from_residual-in_err-whole.ensures.1 (halts (halt c.in_err-whole.ensures.goes) (λ why rest g. by (type_rule kind.array) (e) (tail_is _ _ _ _ _ c.requires) (take c.in_ok-at.ensures.goes (stops g))))
+pub declarators::array-returns-in-Err-size-clause-goes : goal.declarators::array-returns-in-Err-size-clause-goes
+declarators::array-returns-in-Err-size-clause-goes t c = λ plain e. stalled (halts (halt c.in-Err-size.ensures.goes) (λ why rest g. by (type_rule kind.array) (e) (tail_is _ _ _ _ _ c.requires) (take c.in-Ok.ensures.goes (stops g))))
 
 pub declarators::array-returns-clause-goes : goal.declarators::array-returns-clause-goes
-declarators::array-returns-clause-goes t c = λ plain e. stepped (λ o h. by (type_rule kind.array) (e) (tail_is _ _ _ _ _ c.requires) (take c.in_ok-at.ensures.goes (goes_on (answer c.in_ok-whole.ensures.goes) (tail_declarator o h))))
+declarators::array-returns-clause-goes t c = λ plain e. stepped (λ o h. by (type_rule kind.array) (e) (tail_is _ _ _ _ _ c.requires) (take c.in-Ok.ensures.goes (goes_on (answer c.in-Ok-size.ensures.goes) (tail_declarator o h))))
 
-pub declarators::function-returns-in_err-at-clause-goes : goal.declarators::function-returns-in_err-at-clause-goes
-declarators::function-returns-in_err-at-clause-goes t c = λ plain e. stalls c.from_residual.ensures.1 (halts (refuse c.in_err-at.ensures.goes) (λ why rest g. by (type_rule kind.function) (e) (tail_is _ _ _ _ _ c.requires) (g _ _)))
+pub declarators::function-returns-in-Err-clause-goes : goal.declarators::function-returns-in-Err-clause-goes
+declarators::function-returns-in-Err-clause-goes t c = λ plain e. stalled (halts (refuse c.in-Err.ensures.goes) (λ why rest g. by (type_rule kind.function) (e) (tail_is _ _ _ _ _ c.requires) (g _ _)))
 
-pub declarators::function-returns-in_err-whole-clause-goes : goal.declarators::function-returns-in_err-whole-clause-goes
-declarators::function-returns-in_err-whole-clause-goes t c = λ plain e. stalls c.from_residual-in_err-whole.ensures.1 (halts (halt c.in_err-whole.ensures.goes) (λ why rest g. by (type_rule kind.function) (e) (tail_is _ _ _ _ _ c.requires) (take c.in_ok-at.ensures.goes (stops g))))
+pub declarators::function-returns-in-Err-parameters-clause-goes : goal.declarators::function-returns-in-Err-parameters-clause-goes
+declarators::function-returns-in-Err-parameters-clause-goes t c = λ plain e. stalled (halts (halt c.in-Err-parameters.ensures.goes) (λ why rest g. by (type_rule kind.function) (e) (tail_is _ _ _ _ _ c.requires) (take c.in-Ok.ensures.goes (stops g))))
 
 pub declarators::function-returns-clause-goes : goal.declarators::function-returns-clause-goes
-declarators::function-returns-clause-goes t c = λ plain e. stepped (λ o h. by (type_rule kind.function) (e) (tail_is _ _ _ _ _ c.requires) (take c.in_ok-at.ensures.goes (goes_on (answer c.in_ok-whole.ensures.goes) (tail_declarator o h))))
+declarators::function-returns-clause-goes t c = λ plain e. stepped (λ o h. by (type_rule kind.function) (e) (tail_is _ _ _ _ _ c.requires) (take c.in-Ok.ensures.goes (goes_on (answer c.in-Ok-parameters.ensures.goes) (tail_declarator o h))))
 
 pub declarators::size-returns-then-is_member-clause-goes : goal.declarators::size-returns-then-is_member-clause-goes
 declarators::size-returns-then-is_member-clause-goes t c = halted (stopped c.barred.ensures (is_barred (borne _ (both_true (sym c.if-comes.ensures) (sym c.if-is_member.ensures)))))
 
-pub declarators::size-returns-in_err-value-clause-goes : goal.declarators::size-returns-in_err-value-clause-goes
-declarators::size-returns-in_err-value-clause-goes t c = failed c.from_residual.ensures.1 (halts (halt c.in_err-value.ensures.goes) (λ why rest g. by (type_rule kind.size) (unborne _ (first_false _ (sym c.if-comes.ensures))) (if_false _ (sym c.if-comes.ensures)) (stops_here g)))
+pub declarators::size-returns-in-Err-clause-goes : goal.declarators::size-returns-in-Err-clause-goes
+declarators::size-returns-in-Err-clause-goes t c = halted (halts (halt c.in-Err.ensures.goes) (λ why rest g. by (type_rule kind.size) (unborne _ (first_false _ (sym c.if-comes.ensures))) (if_false _ (sym c.if-comes.ensures)) (stops_here g)))
 
-pub declarators::size-returns-in_err-_close-clause-goes : goal.declarators::size-returns-in_err-_close-clause-goes
-declarators::size-returns-in_err-_close-clause-goes t c = failed c.from_residual-in_err-_close.ensures.1 (halts (refuse c.in_err-_close.ensures.goes) (λ why rest g. by (type_rule kind.size) (unborne _ (first_false _ (sym c.if-comes.ensures))) (if_false _ (sym c.if-comes.ensures)) (here (answer c.in_ok-value.ensures.goes) (g _ _))))
+pub declarators::size-returns-in-Err-taken-clause-goes : goal.declarators::size-returns-in-Err-taken-clause-goes
+declarators::size-returns-in-Err-taken-clause-goes t c = halted (halts (refuse c.in-Err-taken.ensures.goes) (λ why rest g. by (type_rule kind.size) (unborne _ (first_false _ (sym c.if-comes.ensures))) (if_false _ (sym c.if-comes.ensures)) (here (answer c.in-Ok.ensures.goes) (g _ _))))
 
 pub declarators::size-returns-clause-goes : goal.declarators::size-returns-clause-goes
-declarators::size-returns-clause-goes t c = given (by (type_rule kind.size) (unborne _ (first_false _ (sym c.if-comes.ensures))) (if_false _ (sym c.if-comes.ensures)) (here (answer c.in_ok-value.ensures.goes) (take c.in_ok-_close.ensures.goes (done c.in_ok-whole.ensures))))
+declarators::size-returns-clause-goes t c = given (by (type_rule kind.size) (unborne _ (first_false _ (sym c.if-comes.ensures))) (if_false _ (sym c.if-comes.ensures)) (here (answer c.in-Ok.ensures.goes) (take c.in-Ok-taken.ensures.goes (done c.in_ok-whole.ensures))))
 
 pub declarators::size-returns-in_err-whole-clause-goes : goal.declarators::size-returns-in_err-whole-clause-goes
-declarators::size-returns-in_err-whole-clause-goes t c = starved c.from_residual-in_err-whole.ensures.1
+declarators::size-returns-in_err-whole-clause-goes t c = starved c.from_residual.ensures.1
 
-pub declarators::parameters-returns-in_err-first-clause-goes : goal.declarators::parameters-returns-in_err-first-clause-goes
-declarators::parameters-returns-in_err-first-clause-goes t c = failed c.from_residual.ensures.1 (halts (halt c.in_err-first.ensures.goes) (λ why rest g. by (type_rule kind.parameters) (refl) (if_false _ (sym c.if-comes.ensures)) (stops_here g)))
+pub declarators::parameters-returns-in-Err-clause-goes : goal.declarators::parameters-returns-in-Err-clause-goes
+declarators::parameters-returns-in-Err-clause-goes t c = halted (halts (halt c.in-Err.ensures.goes) (λ why rest g. by (type_rule kind.parameters) (refl) (if_false _ (sym c.if-comes.ensures)) (stops_here g)))
 
 pub declarators::parameters-returns-in_err-params-clause-goes : goal.declarators::parameters-returns-in_err-params-clause-goes
-declarators::parameters-returns-in_err-params-clause-goes t c = starved c.from_residual-in_err-params.ensures.1
+declarators::parameters-returns-in_err-params-clause-goes t c = starved c.from_residual.ensures.1
 
 pub declarators::parameters-returns-clause-goes : goal.declarators::parameters-returns-clause-goes
-declarators::parameters-returns-clause-goes t c = relayed c.more_parameters.ensures.goes (λ x g. by (type_rule kind.parameters) (refl) (if_false _ (sym c.if-comes.ensures)) (here (answer c.in_ok-first.ensures.goes) (here (parameters_at c.in_ok-params.ensures g) (is_done)))) (λ why rest g. by (type_rule kind.parameters) (refl) (if_false _ (sym c.if-comes.ensures)) (here (answer c.in_ok-first.ensures.goes) (stops_here (parameters_at c.in_ok-params.ensures g))))
+declarators::parameters-returns-clause-goes t c = relayed c.more_parameters.ensures.goes (λ x g. by (type_rule kind.parameters) (refl) (if_false _ (sym c.if-comes.ensures)) (here (answer c.in-Ok.ensures.goes) (here (parameters_at c.in_ok-params.ensures g) (is_done)))) (λ why rest g. by (type_rule kind.parameters) (refl) (if_false _ (sym c.if-comes.ensures)) (here (answer c.in-Ok.ensures.goes) (stops_here (parameters_at c.in_ok-params.ensures g))))
 
-pub declarators::more_parameters-returns-in_err-_comma-clause-goes : goal.declarators::more_parameters-returns-in_err-_comma-clause-goes
-declarators::more_parameters-returns-in_err-_comma-clause-goes t c = failed c.from_residual.ensures.1 (halts (refuse c.in_err-_comma.ensures.goes) (λ why rest g. c.others.invariant.0 _ (by (type_rule kind.parameters_more) (refl) (if_false _ (sym c.others-test.ensures)) (g _ _))))
+pub declarators::more_parameters-returns-in-Err-clause-goes : goal.declarators::more_parameters-returns-in-Err-clause-goes
+declarators::more_parameters-returns-in-Err-clause-goes t c = halted (halts (refuse c.in-Err.ensures.goes) (λ why rest g. c.others.invariant.0 _ (by (type_rule kind.parameters_more) (refl) (if_false _ (sym c.others-test.ensures)) (g _ _))))
 
-pub declarators::more_parameters-returns-in_err-next-clause-goes : goal.declarators::more_parameters-returns-in_err-next-clause-goes
-declarators::more_parameters-returns-in_err-next-clause-goes t c = failed c.from_residual-in_err-next.ensures.1 (halts (halt c.in_err-next.ensures.goes) (λ why rest g. c.others.invariant.0 _ (by (type_rule kind.parameters_more) (refl) (if_false _ (sym c.others-test.ensures)) (take c.in_ok-_comma.ensures.goes (stops_here g)))))
+pub declarators::more_parameters-returns-in-Err-parameter-clause-goes : goal.declarators::more_parameters-returns-in-Err-parameter-clause-goes
+declarators::more_parameters-returns-in-Err-parameter-clause-goes t c = halted (halts (halt c.in-Err-parameter.ensures.goes) (λ why rest g. c.others.invariant.0 _ (by (type_rule kind.parameters_more) (refl) (if_false _ (sym c.others-test.ensures)) (take c.in-Ok.ensures.goes (stops_here g)))))
 
 pub declarators::more_parameters-returns-in_err-push_param-clause-goes : goal.declarators::more_parameters-returns-in_err-push_param-clause-goes
-declarators::more_parameters-returns-in_err-push_param-clause-goes t c = starved c.from_residual-in_err-push_param.ensures.1
+declarators::more_parameters-returns-in_err-push_param-clause-goes t c = starved c.from_residual.ensures.1
 
 pub declarators::more_parameters-others-preserved : goal.declarators::more_parameters-others-preserved
-declarators::more_parameters-others-preserved t c = ((λ o g. c.others.invariant.0 o (parameter_step o (sym c.others-test.ensures) c.in_ok-_comma.ensures.goes (answer c.in_ok-next.ensures.goes) c.in_ok-push_param.ensures g)), c.others.invariant.1, omega (arith, c.in_ok-_comma.ensures.shorter, c.in_ok-next.ensures.shorter))
+declarators::more_parameters-others-preserved t c = ((λ o g. c.others.invariant.0 o (parameter_step o (sym c.others-test.ensures) c.in-Ok.ensures.goes (answer c.in-Ok-parameter.ensures.goes) c.in_ok-push_param.ensures g)), c.others.invariant.1, omega (arith, c.in-Ok.ensures.shorter, c.in-Ok-parameter.ensures.shorter))
 
-pub declarators::more_parameters-returns-in_err-_close-clause-goes : goal.declarators::more_parameters-returns-in_err-_close-clause-goes
-declarators::more_parameters-returns-in_err-_close-clause-goes t c = failed c.from_residual-in_err-_close.ensures.1 (halts (refuse c.in_err-_close.ensures.goes) (λ why rest g. c.others.invariant.0 _ (by (type_rule kind.parameters_end) (refl) (if_true _ (sym c.others-test.ensures)) (g _ _))))
+pub declarators::more_parameters-returns-in-Err-taken-clause-goes : goal.declarators::more_parameters-returns-in-Err-taken-clause-goes
+declarators::more_parameters-returns-in-Err-taken-clause-goes t c = halted (halts (refuse c.in-Err-taken.ensures.goes) (λ why rest g. c.others.invariant.0 _ (by (type_rule kind.parameters_end) (refl) (if_true _ (sym c.others-test.ensures)) (g _ _))))
 
 pub declarators::more_parameters-returns-in_err-whole-clause-goes : goal.declarators::more_parameters-returns-in_err-whole-clause-goes
 declarators::more_parameters-returns-in_err-whole-clause-goes t c = starved c.from_residual-in_err-whole.ensures.1
 
 pub declarators::more_parameters-returns-clause-goes : goal.declarators::more_parameters-returns-clause-goes
-declarators::more_parameters-returns-clause-goes t c = given (c.others.invariant.0 _ (by (type_rule kind.parameters_end) (refl) (if_true _ (sym c.others-test.ensures)) (take c.in_ok-_close.ensures.goes (done (c.in_ok-whole.ensures ∙ ap (λ v. function_of c.args.at (boxed_declarator v) (trees.params_from c.others.params.items)) c.others.invariant.1)))))
+declarators::more_parameters-returns-clause-goes t c = given (c.others.invariant.0 _ (by (type_rule kind.parameters_end) (refl) (if_true _ (sym c.others-test.ensures)) (take c.in-Ok-taken.ensures.goes (done (c.in_ok-whole.ensures ∙ ap (λ v. function_of c.args.at (boxed_declarator v) (trees.params_from c.others.params.items)) c.others.invariant.1)))))
 
 pub declarators::parameter-returns-then-plain_word_ahead-clause-goes : goal.declarators::parameter-returns-then-plain_word_ahead-clause-goes
 declarators::parameter-returns-then-plain_word_ahead-clause-goes t c = halted (stopped c.barred.ensures (is_barred (borne _ (sym c.if-plain_word_ahead.ensures))))
 
-pub declarators::parameter-returns-in_err-words-clause-goes : goal.declarators::parameter-returns-in_err-words-clause-goes
-declarators::parameter-returns-in_err-words-clause-goes t c = failed c.from_residual.ensures.1 (halts (halt c.in_err-words.ensures.goes) (λ why rest g. by (type_rule kind.parameter) (unborne _ (sym c.if-plain_word_ahead.ensures)) (refl) (stops_here g)))
+pub declarators::parameter-returns-in-Err-clause-goes : goal.declarators::parameter-returns-in-Err-clause-goes
+declarators::parameter-returns-in-Err-clause-goes t c = halted (halts (halt c.in-Err.ensures.goes) (λ why rest g. by (type_rule kind.parameter) (unborne _ (sym c.if-plain_word_ahead.ensures)) (refl) (stops_here g)))
 
-pub declarators::parameter-returns-in_err-shape-clause-goes : goal.declarators::parameter-returns-in_err-shape-clause-goes
-declarators::parameter-returns-in_err-shape-clause-goes t c = failed c.from_residual-in_err-shape.ensures.1 (halts (halt c.in_err-shape.ensures.goes) (λ why rest g. by (type_rule kind.parameter) (unborne _ (sym c.if-plain_word_ahead.ensures)) (refl) (here (answer c.in_ok-words.ensures.goes) (stops_here g))))
+pub declarators::parameter-returns-in-Err-declarator-clause-goes : goal.declarators::parameter-returns-in-Err-declarator-clause-goes
+declarators::parameter-returns-in-Err-declarator-clause-goes t c = halted (halts (halt c.in-Err-declarator.ensures.goes) (λ why rest g. by (type_rule kind.parameter) (unborne _ (sym c.if-plain_word_ahead.ensures)) (refl) (here (answer c.in-Ok.ensures.goes) (stops_here g))))
 
 pub declarators::parameter-returns-clause-goes : goal.declarators::parameter-returns-clause-goes
-declarators::parameter-returns-clause-goes t c = given (by (type_rule kind.parameter) (unborne _ (sym c.if-plain_word_ahead.ensures)) (refl) (here (answer c.in_ok-words.ensures.goes) (here (answer c.in_ok-shape.ensures.goes) (done c.param_of.ensures))))
+declarators::parameter-returns-clause-goes t c = given (by (type_rule kind.parameter) (unborne _ (sym c.if-plain_word_ahead.ensures)) (refl) (here (answer c.in-Ok.ensures.goes) (here (answer c.in-Ok-declarator.ensures.goes) (done c.param_of.ensures))))
