@@ -30,8 +30,7 @@ pub fn declaration<'a>(
     ensures shorter { IfOk result (λ x. length x.1.now < length tokens.now) }
 {
     let (words, rest) = specs(context, count, tokens)?;
-    let (whole, rest) = declared(context, count, words, rest)?;
-    Ok((whole, rest))
+    declared(context, count, words, rest)
 }
 
 /// What follows the specs of a declaration.
@@ -50,8 +49,7 @@ fn declared<'a>(
         return Ok((no_declarators(context.alloc, specs), rest));
     }
     let (first, rest) = declarator(context, Role::Naming, count, tokens)?;
-    let (whole, rest) = initial(context, count, specs, first, rest)?;
-    Ok((whole, rest))
+    initial(context, count, specs, first, rest)
 }
 
 /// A declaration without declarators.

@@ -71,8 +71,7 @@ fn initialisers<'a>(
 {
     let (first, rest) = initialiser(context, count, tokens)?;
     let items = one_init(context.alloc, first)?;
-    let (whole, rest) = more_initialisers(context, count, items, rest)?;
-    Ok((whole, rest))
+    more_initialisers(context, count, items, rest)
 }
 
 /// The items behind the first.

@@ -69,6 +69,11 @@ not_inside e path g = failed e (halts_inside path g)
 pub barred_at : {A : Type 0} {d : ℕ} {w : Scene} {p : Part} {c : Construct} {ts : List Placed} {view : A → Value p} {f : Fault} → part_construct w p ts ≡ Some c → IsStop (barred p d c ts) ts f → Gives (λ o. Goes d w p ts o) view (Err f)
 barred_at e h = halted (stopped h (is_barred e))
 
+-- the part that is left is the whole
+pub lasts : {A : Type 0} {p i : Part} {goes : Outcome (Value p) → Type 0} {d : ℕ} {w s : Scene} {k : Value i → Process (Value p)} {of_part : A → Value i} {view : A → Value p} {ts : List Placed} {r : Result (A × Bor (List Placed)) Fault} → Path p goes d w (part 0 s i k) ts → Gives (λ o. Goes d s i ts o) of_part r → ((a : A) → k (of_part a) ≡ give (view a)) → Gives goes view r
+lasts {p = p} {d = d} {w = w} {view = view} {r = Ok x} path (given h) e = given (path.run _ (here h (subst (λ q. Follows d w p q x.1.now (Done (view x.0) x.1.now)) (sym (e x.0)) is_done)))
+lasts {r = Err f} path (halted g) e = halted (halts g (λ why rest h. path.run _ (stops_here h)))
+
 -- what is left decides for all
 pub decides : {A V : Type 0} {goes others : Outcome V → Type 0} {view : A → V} (r : Result (A × Bor (List Placed)) Fault) → ((o : Outcome V) → goes o → others o) → Gives goes view r → Gives others view r
 decides (Ok x) step (given h) = given (step _ h)

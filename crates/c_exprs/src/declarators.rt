@@ -15,7 +15,9 @@ use c_descent::{
     direct_at, function_declarator, grouped_declarator, is_given, name_of, one_param, param_of,
     plain_word_ahead, pointer_declarator, push_param, refused, tail_at, taken, type_name_ahead,
 };
-use c_leaves::{calls_no_name, consts, is_no_tail, no_parameters, no_size, params_come};
+use c_leaves::{
+    calls_no_name, closed, consts, handed, is_no_tail, no_parameters, no_size, params_come,
+};
 use c_written::{Construct, Declarator, Name, Param, Placed, Pos, Punctuator};
 
 /// A declarator, or an abstract one.
@@ -54,8 +56,10 @@ fn pointer<'a>(
     let (at, behind) = read!(taken(context, count, 1, star, tokens));
     let (is_const, after) = read!(consts(context, role, count + 1, at.pos, behind));
     let (inner, rest) = read!(declarator(context, role, count + 1, after));
-    let whole = pointer_declarator(context.alloc, at.pos, is_const, inner)?;
-    Ok((whole, rest))
+    handed(
+        pointer_declarator(context.alloc, at.pos, is_const, inner),
+        rest,
+    )
 }
 
 /// A declarator behind its stars.
@@ -206,8 +210,7 @@ fn array<'a>(
 {
     let opens = Class::Sign(Punctuator::LeftBracket);
     let (at, behind) = read!(taken(context, count, 1, opens, tokens));
-    let (whole, rest) = read!(size(context, role, count + 1, at.pos, inner, behind));
-    Ok((whole, rest))
+    size(context, role, count + 1, at.pos, inner, behind)
 }
 
 /// Parameters behind a declarator.
@@ -225,8 +228,7 @@ fn function<'a>(
 {
     let opens = Class::Sign(Punctuator::LeftParenthesis);
     let (at, behind) = read!(taken(context, count, 1, opens, tokens));
-    let (whole, rest) = read!(parameters(context, count + 1, at.pos, inner, behind));
-    Ok((whole, rest))
+    parameters(context, count + 1, at.pos, inner, behind)
 }
 
 /// What follows `[`.
@@ -248,11 +250,9 @@ fn size<'a>(
         }
         return no_size(context, role, count, at, inner, tokens);
     }
-    let closes = Class::Sign(Punctuator::RightBracket);
     let (value, rest) = read!(conditional(context, count, tokens));
-    let (_close, rest) = read!(taken(context, count, 0, closes, rest));
-    let whole = array_declarator(context.alloc, at, inner, value)?;
-    Ok((whole, rest))
+    let whole = array_declarator(context.alloc, at, inner, value);
+    closed(context, count, 0, Punctuator::RightBracket, whole, rest)
 }
 
 /// What follows the parenthesis that opens parameters.
@@ -302,10 +302,8 @@ fn more_parameters<'a>(
         push_param(&mut params, next)?;
         rest = after;
     }
-    let closes = Class::Sign(Punctuator::RightParenthesis);
-    let (_close, rest) = read!(taken(context, count, 0, closes, rest));
-    let whole = function_declarator(context.alloc, at, inner, params)?;
-    Ok((whole, rest))
+    let whole = function_declarator(context.alloc, at, inner, params);
+    closed(context, count, 0, Punctuator::RightParenthesis, whole, rest)
 }
 
 /// A parameter.

@@ -21,7 +21,10 @@ use c_descent::{
     one_expr, operand_of, pre_step_expr, prefix_at, primary_at, push_expr, sizeof_expr,
     sizeof_type, step_sign, suffix_at, taken, type_ahead, unary_expr, unary_sign,
 };
-use c_leaves::{calls_no_word, is_no_suffix, no_arguments, simple_primary, simple_suffix, word_of};
+use c_leaves::{
+    calls_no_word, closed, handed, is_no_suffix, no_arguments, simple_primary, simple_suffix,
+    word_of,
+};
 use c_written::{
     AssignOp, Construct, Expr, Exprs, Keyword, Placed, Pos, Punctuator, StepWay, UnaryOp,
 };
@@ -153,8 +156,7 @@ fn plain_assigned<'a>(
 {
     let sign = Punctuator::Assign;
     let ((at, right), rest) = read!(right_side(context, Level::Commas, count, sign, tokens));
-    let whole = assign_expr(context.alloc, at, left, right)?;
-    Ok((whole, rest))
+    handed(assign_expr(context.alloc, at, left, right), rest)
 }
 
 /// `op=` and what follows it.
@@ -177,8 +179,7 @@ fn compound_assigned<'a>(
         assign_sign(op),
         tokens
     ));
-    let whole = compound_expr(context.alloc, at, op, left, right)?;
-    Ok((whole, rest))
+    handed(compound_expr(context.alloc, at, op, left, right), rest)
 }
 
 /// A conditional, or what stands before its `?` alone.
@@ -214,8 +215,10 @@ fn chosen<'a>(
     let (then, rest) = read!(run(context, Level::Commas, count + 1, behind));
     let (_colon, behind) = read!(taken(context, count, 1, Class::Sign(Punctuator::Colon), rest));
     let (otherwise, rest) = read!(conditional(context, count + 1, behind));
-    let whole = cond_expr(context.alloc, at.pos, condition, then, otherwise)?;
-    Ok((whole, rest))
+    handed(
+        cond_expr(context.alloc, at.pos, condition, then, otherwise),
+        rest,
+    )
 }
 
 /// A cast, or a unary expression.
@@ -252,8 +255,7 @@ fn cast_form<'a>(
     let (shape, rest) = read!(declarator(context, Role::OfTypeName, count + 2, rest));
     let (_close, behind) = read!(taken(context, count, 1, closes, rest));
     let (inner, rest) = read!(cast_operand(context, count + 1, behind));
-    let whole = cast_expr(context.alloc, at.pos, words, shape, inner)?;
-    Ok((whole, rest))
+    handed(cast_expr(context.alloc, at.pos, words, shape, inner), rest)
 }
 
 /// What is cast.
@@ -321,8 +323,7 @@ fn pre_step<'a>(
     let sign = Class::Sign(step_sign(way));
     let (at, behind) = read!(taken(context, count, 1, sign, tokens));
     let (inner, rest) = read!(unary(context, count + 1, behind));
-    let whole = pre_step_expr(context.alloc, at.pos, way, inner)?;
-    Ok((whole, rest))
+    handed(pre_step_expr(context.alloc, at.pos, way, inner), rest)
 }
 
 /// A unary operator and its operand.
@@ -340,8 +341,7 @@ fn unary_form<'a>(
     let sign = Class::Sign(unary_sign(op));
     let (at, behind) = read!(taken(context, count, 1, sign, tokens));
     let (inner, rest) = read!(cast(context, count + 1, behind));
-    let whole = unary_expr(context.alloc, at.pos, op, inner)?;
-    Ok((whole, rest))
+    handed(unary_expr(context.alloc, at.pos, op, inner), rest)
 }
 
 /// What follows `sizeof`.
@@ -359,8 +359,7 @@ fn sized<'a>(
         return sized_type(context, count, at, tokens);
     }
     let (inner, rest) = read!(unary(context, count, tokens));
-    let whole = sizeof_expr(context.alloc, at, inner)?;
-    Ok((whole, rest))
+    handed(sizeof_expr(context.alloc, at, inner), rest)
 }
 
 /// A type between parentheses, behind `sizeof`.
@@ -384,8 +383,7 @@ fn sized_type<'a>(
     if comes(Mark::Brace, rest) {
         return Err(barred(count, Construct::CompoundLiteral, rest));
     }
-    let whole = sizeof_type(context.alloc, at, words, shape)?;
-    Ok((whole, rest))
+    handed(sizeof_type(context.alloc, at, words, shape), rest)
 }
 
 /// A primary expression and its postfix forms.
@@ -466,12 +464,11 @@ fn index<'a>(
     ensures shorter { IfOk result (λ x. length x.1.now < length tokens.now) }
 {
     let opens = Class::Sign(Punctuator::LeftBracket);
-    let closes = Class::Sign(Punctuator::RightBracket);
+    let closes = Punctuator::RightBracket;
     let (at, behind) = read!(taken(context, count, 2, opens, tokens));
     let (place, rest) = read!(run(context, Level::Commas, count + 2, behind));
-    let (_close, rest) = read!(taken(context, count, 1, closes, rest));
-    let whole = index_expr(context.alloc, at.pos, base, place)?;
-    Ok((whole, rest))
+    let whole = index_expr(context.alloc, at.pos, base, place);
+    closed(context, count, 1, closes, whole, rest)
 }
 
 /// The arguments of a call.
@@ -491,8 +488,7 @@ fn call<'a>(
     let (pos, name) = word_of(base);
     let (_opening, behind) = read!(taken(context, count, 2, opens, tokens));
     let (args, rest) = read!(arguments(context, count + 2, behind));
-    let whole = call_expr(context.alloc, pos, name, args)?;
-    Ok((whole, rest))
+    handed(call_expr(context.alloc, pos, name, args), rest)
 }
 
 /// A primary expression.
@@ -523,12 +519,11 @@ fn enclosed<'a>(
     ensures shorter { IfOk result (λ x. length x.1.now < length tokens.now) }
 {
     let opens = Class::Sign(Punctuator::LeftParenthesis);
-    let closes = Class::Sign(Punctuator::RightParenthesis);
+    let closes = Punctuator::RightParenthesis;
     let (opening, behind) = read!(taken(context, count, 1, opens, tokens));
     let (inner, rest) = read!(run(context, Level::Commas, count + 1, behind));
-    let (_close, rest) = read!(taken(context, count, 0, closes, rest));
-    let whole = enclosed_expr(context.alloc, opening.pos, inner)?;
-    Ok((whole, rest))
+    let whole = enclosed_expr(context.alloc, opening.pos, inner);
+    closed(context, count, 0, closes, whole, rest)
 }
 
 /// The arguments of a call, up to the parenthesis that closes them.
@@ -574,7 +569,6 @@ fn more_arguments<'a>(
         push_expr(&mut args, next)?;
         rest = after;
     }
-    let closes = Class::Sign(Punctuator::RightParenthesis);
-    let (_close, rest) = read!(taken(context, count, 0, closes, rest));
-    Ok((Exprs::from_vec(args), rest))
+    let whole = Ok(Exprs::from_vec(args));
+    closed(context, count, 0, Punctuator::RightParenthesis, whole, rest)
 }

@@ -18,7 +18,7 @@ use c_descent::{
     spec_ahead, spec_at, taken, valued_enumerator,
 };
 use c_leaves::{
-    comma_end, enumeration_head, enumeration_of, members_end, simple_spec, structure_head,
+    closed, comma_end, enumeration_head, enumeration_of, members_end, simple_spec, structure_head,
     structure_of, tells_type, type_comes_again,
 };
 use c_written::{
@@ -206,9 +206,8 @@ fn more_members<'a>(
         push_member(&mut items, next)?;
         rest = after;
     }
-    let closes = Class::Sign(Punctuator::RightBrace);
-    let (_close, rest) = read!(taken(context, count, 0, closes, rest));
-    Ok((MemberDecls::from_vec(items), rest))
+    let whole = Ok(MemberDecls::from_vec(items));
+    closed(context, count, 0, Punctuator::RightBrace, whole, rest)
 }
 
 /// Members that are declared together.
@@ -304,9 +303,8 @@ fn more_enumerators<'a>(
         push_enumerator(&mut items, next)?;
         rest = after;
     }
-    let closes = Class::Sign(Punctuator::RightBrace);
-    let (_close, rest) = read!(taken(context, count, 0, closes, rest));
-    Ok((Enumerators::from_vec(items), rest))
+    let whole = Ok(Enumerators::from_vec(items));
+    closed(context, count, 0, Punctuator::RightBrace, whole, rest)
 }
 
 /// A constant of an enumeration.

@@ -12,9 +12,9 @@ use Rattle.c_written.specs.declared.written.Declarator.TheVariants as declarator
 use Rattle.c_written.proofs.WrittenTrees.{declarator_absent, declarator_name}
 use Rattle.c_written.specs.Written.{DeclaratorTree, Absent, Name, declarator_tree, ParamTree, ParamTrees, params_then}
 use Rattle.c_grammar.specs.Parts.{Scene, Role, Naming, OfMember, OfParameter, OfTypeName, Pointed, Direct, Tails, MoreParameters, ADeclarator, DeclaratorPart, Parameter}
-use Rattle.c_grammar.specs.Process.{give, part}
-use Rattle.c_grammar.specs.Classes.{sign, keyword, names_type}
-use Rattle.c_grammar.specs.Made.{is_given}
+use Rattle.c_grammar.specs.Process.{give, part, token}
+use Rattle.c_grammar.specs.Classes.{Class, sign, keyword, names_type}
+use Rattle.c_grammar.specs.Made.{function_of, is_given}
 use Rattle.c_grammar.specs.Grammar.{type_rule}
 use Rattle.c_grammar.specs.TypeRules as types
 use Rattle.c_grammar.specs.TypeRules.{MayName, MayOmit}
@@ -27,6 +27,9 @@ use Rattle.c_descent.specs.declared.type_kind.DirectKind.TheVariants as directs
 use Rattle.c_descent.specs.declared.type_kind.TailKind.{TailKind}
 use Rattle.c_descent.specs.declared.type_kind.TailKind.TheVariants as tails
 use Rattle.c_descent.specs.Answers.{Takes}
+use Rattle.c_descent.specs.Views.{boxed_declarator}
+use Rattle.std.specs.declared.alloc.Global.{Global}
+use Rattle.std.specs.declared.boxed.Box.{Box}
 use Rattle.c_descent.specs.Kinds.{direct_at, direct_of, direct_of_word, is_no_tail, tail_at, tail_of, sign_of}
 use Rattle.c_descent.proofs.Choices.{Chosen}
 use Rattle.c_descent.proofs.Steps.{by, take, here, stops_here, if_true, if_false}
@@ -114,6 +117,10 @@ tails_absent h g = tails_at (ap declarator_tree h ∙ declarator_absent) g
 
 pub parameters_at : {d : ℕ} {w : Scene} {at : Pos} {inner : DeclaratorTree} {a b : ParamTrees} {ts : List Placed} {o : Outcome DeclaratorTree} → a ≡ b → Goes d w (ADeclarator (MoreParameters at inner a)) ts o → Goes d w (ADeclarator (MoreParameters at inner b)) ts o
 parameters_at {d} {w} {at} {inner} {a} {b} {ts} {o} e g = subst (λ v. Goes d w (ADeclarator (MoreParameters at inner v)) ts o) e g
+
+-- what its parameters stand behind is the same
+pub function_so : {d n : ℕ} {w : Scene} {x : DeclaratorPart} {c : Class} (at : Pos) {a b : Box Declarator Global} (params : ParamTrees) {ts : List Placed} {o : Outcome DeclaratorTree} → a ≡ b → Follows d w (ADeclarator x) (token n c (λ t. give (function_of at (boxed_declarator a) params))) ts o → Follows d w (ADeclarator x) (token n c (λ t. give (function_of at (boxed_declarator b) params))) ts o
+function_so {d} {n} {w} {x} {c} at {a} {b} params {ts} {o} e g = subst (λ v. Follows d w (ADeclarator x) (token n c (λ t. give (function_of at (boxed_declarator v) params))) ts o) e g
 
 -- a last part, which is the whole
 pub tail_declarator : {d : ℕ} {w : Scene} {x y : DeclaratorPart} {ts : List Placed} (o : Outcome DeclaratorTree) → Goes d w (ADeclarator x) ts o → Follows d w (ADeclarator y) (part 0 w (ADeclarator x) give) ts o

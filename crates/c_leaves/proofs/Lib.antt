@@ -1,3 +1,4 @@
 pub mod DeclaratorSteps
+pub mod EndSteps
 pub mod ExprSteps
 pub mod TagSteps

@@ -31,8 +31,7 @@ pub fn outer<'a>(
     ensures shorter { IfOk result (λ x. length x.1.now < length tokens.now) }
 {
     let (words, rest) = specs(context, count, tokens)?;
-    let (whole, rest) = outer_declared(context, count, words, rest)?;
-    Ok((whole, rest))
+    outer_declared(context, count, words, rest)
 }
 
 /// What follows its specs.
@@ -52,8 +51,7 @@ fn outer_declared<'a>(
         return Ok((Outer::Declared(decl), rest));
     }
     let (first, rest) = declarator(context, Role::Naming, count, tokens)?;
-    let (whole, rest) = outer_initial(context, count, specs, first, rest)?;
-    Ok((whole, rest))
+    outer_initial(context, count, specs, first, rest)
 }
 
 /// What follows its first declarator.

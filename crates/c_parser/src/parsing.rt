@@ -84,8 +84,7 @@ fn outer_here<'a>(
         types,
         setting: Setting::AtFile,
     };
-    let (whole, rest) = outer(&context, 0, tokens)?;
-    Ok((whole, rest))
+    outer(&context, 0, tokens)
 }
 
 // The fault, with the place of its first token, or the end where there is none.

@@ -11,8 +11,8 @@ use Rattle.c_descent.specs.declared.fault.Fault.{Fault}
 use Rattle.c_descent.specs.Answers.{Gives, Steps}
 use Rattle.c_descent.proofs.Paths.{Path}
 use Rattle.c_descent.proofs.Steps.{failed, here, stall, step, stops_here}
-use Rattle.c_stmts.specs.declared.for_head.ForHead.{ForHead}
-use Rattle.c_stmts.specs.Kinds.{ForHeads, for_rest}
+use Rattle.c_heads.specs.declared.for_head.ForHead.{ForHead}
+use Rattle.c_heads.specs.Kinds.{ForHeads, for_rest}
 
 -- a block goes on with its next items
 pub last_items : {before more : BlockItemTrees} {d : ℕ} {w s : Scene} {ts : List Placed} (o : Outcome BlockItemTrees) → Goes d s (Items more) ts o → Follows d w (Items before) (part 0 s (Items more) give) ts o

@@ -12,15 +12,16 @@ ghost use Rattle.c_grammar.specs.Refused.{first_is};
 ghost use Rattle.c_descent.specs.Answers.{Answers};
 ghost use Rattle.c_descent.specs.Views.{boxed_expr, scene_of, setting_of};
 ghost use Rattle.c_simple.specs.Kinds.{StatementStarts};
-ghost use Rattle.c_stmts.specs.Kinds.{boxed_tree};
+ghost use Rattle.c_heads.specs.Kinds.{boxed_tree};
 
-use crate::for_head::{for_head, for_stmt};
-use crate::node::{case_stmt, do_stmt, if_else_stmt, if_stmt, switch_stmt, while_stmt};
 use c_decls::declaration;
 use c_descent::{
     Class, Context, Fault, Mark, Setting, comes, label_ahead, name_of, spec_ahead, taken,
 };
 use c_exprs::conditional;
+use c_heads::{
+    case_stmt, do_stmt, for_head, for_stmt, if_else_stmt, if_stmt, switch_stmt, while_stmt,
+};
 use c_simple::{
     StatementKind, condition, empty, ends_open, expression, goto, leave, next_turn,
     return_statement, statement_at,
@@ -159,8 +160,7 @@ fn conditional_statement<'a>(
     let (at, behind) = taken(context, count, 0, Class::Keyword(Keyword::If), tokens)?;
     let (value, rest) = condition(context, count, behind)?;
     let (then, rest) = substatement(context, false, count + 1, rest)?;
-    let (whole, rest) = else_part(context, count, at.pos, value, then, rest)?;
-    Ok((whole, rest))
+    else_part(context, count, at.pos, value, then, rest)
 }
 
 /// Else and its statement, where there is one.
@@ -313,8 +313,7 @@ fn substatement<'a>(
         types: context.types,
         setting: Setting::InBlock,
     };
-    let (whole, rest) = boxed(&inner, switched, count, tokens)?;
-    Ok((whole, rest))
+    boxed(&inner, switched, count, tokens)
 }
 
 /// Where the tokens of a block stand.
@@ -344,8 +343,7 @@ pub fn block_items<'a>(
         types: context.types,
         setting: block_setting(switched),
     };
-    let (whole, rest) = items(&inner, count, tokens)?;
-    Ok((whole, rest))
+    items(&inner, count, tokens)
 }
 
 /// The items of a block, up to the brace that closes it.

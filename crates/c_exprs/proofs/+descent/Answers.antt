@@ -12,11 +12,12 @@ use Rattle.c_descent.specs.Views.{boxed_declarator, boxed_expr, scene_of, level_
 use Rattle.c_descent.specs.Answers.{given, halted, stalled, stepped}
 use Rattle.c_descent.proofs.Steps.{relayed, halts, failed, starved, stalls, starves, answer, halt, take, refuse, step, stall, stopped, by, here, stops_here, done, if_true, if_false, borne, unborne, sign_is}
 use Rattle.c_descent.proofs.Choices.{primary_is, prefix_is, suffix_is, assign_is, more_is}
+use Rattle.c_leaves.proofs.EndSteps.{made_so, longer_so, closed_so, longer_closed, led}
 use Rattle.c_leaves.proofs.ExprSteps.{operand_at, not_question, is_question_ahead, suffix_free, tail_expr, suffixes_at, behind_sign, joint_step, joint_stop, argument_step, arguments_at, and_left, rebased, nothing_of, call_by, no_joint}
 use Rattle.c_leaves.proofs.TagSteps.{structure_alone, structure_braces, enumeration_alone, enumeration_braces}
 use Rattle.c_grammar.specs.Made.{function_of}
 use Rattle.c_descent.proofs.TypeSteps.{specs_at, members_at, declarators_at, enumerators_at, value_at, again_is, spec_step, member_step, declarator_step, next_step, enumerator_step, carried, one_type, more_type}
-use Rattle.c_leaves.proofs.DeclaratorSteps.{direct_is, tail_is, no_tail, tails_at, tails_named, tails_absent, parameters_at, tail_declarator, parameter_step, regiven, renamed, both_true, first_false}
+use Rattle.c_leaves.proofs.DeclaratorSteps.{direct_is, tail_is, no_tail, tails_at, tails_named, tails_absent, parameters_at, function_so, tail_declarator, parameter_step, regiven, renamed, both_true, first_false}
 use Rattle.c_exprs.proofs.+descent.Goals as goal
 
 pub exprs::run-returns-in-Err-clause-goes : goal.exprs::run-returns-in-Err-clause-goes
@@ -46,20 +47,14 @@ exprs::assigned-returns-in-Nothing-clause-goes t c = given (by (expr_rule rule.n
 pub exprs::plain_assigned-returns-in-Err-clause-goes : goal.exprs::plain_assigned-returns-in-Err-clause-goes
 exprs::plain_assigned-returns-in-Err-clause-goes t c = halted (halts (stall (c.in-Err.ensures.goes (part.AnExpr (part.Assigned (boxed_expr c.args.left))) (λ at right. process.give (trees.Assign at (boxed_expr c.args.left) right)))) (λ why rest g. by (expr_rule rule.assigned) refl (assign_is (scene_of c.args.context.now) (boxed_expr c.args.left) c.args.tokens.now c.requires) g))
 
-pub exprs::plain_assigned-returns-in_err-whole-clause-goes : goal.exprs::plain_assigned-returns-in_err-whole-clause-goes
-exprs::plain_assigned-returns-in_err-whole-clause-goes t c = starved c.from_residual.ensures.1
-
 pub exprs::plain_assigned-returns-clause-goes : goal.exprs::plain_assigned-returns-clause-goes
-exprs::plain_assigned-returns-clause-goes t c = given (by (expr_rule rule.assigned) refl (assign_is (scene_of c.args.context.now) (boxed_expr c.args.left) c.args.tokens.now c.requires) (step (c.in-Ok.ensures.goes (part.AnExpr (part.Assigned (boxed_expr c.args.left))) (λ at right. process.give (trees.Assign at (boxed_expr c.args.left) right))) _ (done c.in_ok-whole.ensures)))
+exprs::plain_assigned-returns-clause-goes t c = made_so _ (by (expr_rule rule.assigned) refl (assign_is (scene_of c.args.context.now) (boxed_expr c.args.left) c.args.tokens.now c.requires) (step (c.in-Ok.ensures.goes (part.AnExpr (part.Assigned (boxed_expr c.args.left))) (λ at right. process.give (trees.Assign at (boxed_expr c.args.left) right))) _ is_done)) c.assign_expr.ensures c.handed.ensures.goes
 
 pub exprs::compound_assigned-returns-in-Err-clause-goes : goal.exprs::compound_assigned-returns-in-Err-clause-goes
 exprs::compound_assigned-returns-in-Err-clause-goes t c = halted (halts (stall (behind_sign c.assign_sign.ensures c.in-Err.ensures.goes (part.AnExpr (part.Assigned (boxed_expr c.args.left))) (λ at right. process.give (trees.Compound at c.args.op (boxed_expr c.args.left) right)))) (λ why rest g. by (expr_rule (rule.compound c.args.op)) refl (assign_is (scene_of c.args.context.now) (boxed_expr c.args.left) c.args.tokens.now c.requires) g))
 
-pub exprs::compound_assigned-returns-in_err-whole-clause-goes : goal.exprs::compound_assigned-returns-in_err-whole-clause-goes
-exprs::compound_assigned-returns-in_err-whole-clause-goes t c = starved c.from_residual.ensures.1
-
 pub exprs::compound_assigned-returns-clause-goes : goal.exprs::compound_assigned-returns-clause-goes
-exprs::compound_assigned-returns-clause-goes t c = given (by (expr_rule (rule.compound c.args.op)) refl (assign_is (scene_of c.args.context.now) (boxed_expr c.args.left) c.args.tokens.now c.requires) (step (behind_sign c.assign_sign.ensures c.in-Ok.ensures.goes (part.AnExpr (part.Assigned (boxed_expr c.args.left))) (λ at right. process.give (trees.Compound at c.args.op (boxed_expr c.args.left) right))) _ (done c.in_ok-whole.ensures)))
+exprs::compound_assigned-returns-clause-goes t c = made_so _ (by (expr_rule (rule.compound c.args.op)) refl (assign_is (scene_of c.args.context.now) (boxed_expr c.args.left) c.args.tokens.now c.requires) (step (behind_sign c.assign_sign.ensures c.in-Ok.ensures.goes (part.AnExpr (part.Assigned (boxed_expr c.args.left))) (λ at right. process.give (trees.Compound at c.args.op (boxed_expr c.args.left) right))) _ is_done)) c.compound_expr.ensures c.handed.ensures.goes
 
 pub exprs::conditional-returns-in-Err-clause-goes : goal.exprs::conditional-returns-in-Err-clause-goes
 exprs::conditional-returns-in-Err-clause-goes t c = halted (halts (halt c.in-Err.ensures.goes) (λ why rest g. by (expr_rule rule.conditional) (refl) (refl) (stops_here g)))
@@ -83,10 +78,7 @@ pub exprs::chosen-returns-in-Err-conditional-clause-goes : goal.exprs::chosen-re
 exprs::chosen-returns-in-Err-conditional-clause-goes t c = halted (halts (halt c.in-Err-conditional.ensures.goes) (λ why rest g. by (expr_rule rule.chosen) refl (is_question_ahead (scene_of c.args.context.now) (boxed_expr c.args.condition) c.args.tokens.now (sym c.if-not-comes.ensures)) (take c.in-Ok.ensures.goes (goes_on (answer c.in-Ok-run.ensures.goes) (take c.in-Ok-taken.ensures.goes (stops g))))))
 
 pub exprs::chosen-returns-clause-goes : goal.exprs::chosen-returns-clause-goes
-exprs::chosen-returns-clause-goes t c = given (by (expr_rule rule.chosen) refl (is_question_ahead (scene_of c.args.context.now) (boxed_expr c.args.condition) c.args.tokens.now (sym c.if-not-comes.ensures)) (take c.in-Ok.ensures.goes (goes_on (answer c.in-Ok-run.ensures.goes) (take c.in-Ok-taken.ensures.goes (goes_on (answer c.in-Ok-conditional.ensures.goes) (done c.in_ok-whole.ensures))))))
-
-pub exprs::chosen-returns-in_err-whole-clause-goes : goal.exprs::chosen-returns-in_err-whole-clause-goes
-exprs::chosen-returns-in_err-whole-clause-goes t c = starved c.from_residual.ensures.1
+exprs::chosen-returns-clause-goes t c = made_so _ (by (expr_rule rule.chosen) refl (is_question_ahead (scene_of c.args.context.now) (boxed_expr c.args.condition) c.args.tokens.now (sym c.if-not-comes.ensures)) (take c.in-Ok.ensures.goes (goes_on (answer c.in-Ok-run.ensures.goes) (take c.in-Ok-taken.ensures.goes (goes_on (answer c.in-Ok-conditional.ensures.goes) is_done))))) c.cond_expr.ensures c.handed.ensures.goes
 
 pub exprs::cast_form-returns-in-Err-clause-goes : goal.exprs::cast_form-returns-in-Err-clause-goes
 exprs::cast_form-returns-in-Err-clause-goes t c = halted (halts (refuse c.in-Err.ensures.goes) (λ why rest g. by (expr_rule rule.cast) (refl) (if_true _ c.requires) (passes (c.requires) (g _ _))))
@@ -103,11 +95,8 @@ exprs::cast_form-returns-in-Err-taken-clause-goes t c = halted (halts (refuse c.
 pub exprs::cast_form-returns-in-Err-cast_operand-clause-goes : goal.exprs::cast_form-returns-in-Err-cast_operand-clause-goes
 exprs::cast_form-returns-in-Err-cast_operand-clause-goes t c = halted (halts (halt c.in-Err-cast_operand.ensures.goes) (λ why rest g. by (expr_rule rule.cast) (refl) (if_true _ c.requires) (passes (c.requires) (take c.in-Ok.ensures.goes (goes_on (answer c.in-Ok-specs.ensures.goes) (goes_on (answer c.in-Ok-declarator.ensures.goes) (take c.in-Ok-taken.ensures.goes (stops g))))))))
 
-pub exprs::cast_form-returns-in_err-whole-clause-goes : goal.exprs::cast_form-returns-in_err-whole-clause-goes
-exprs::cast_form-returns-in_err-whole-clause-goes t c = starved c.from_residual.ensures.1
-
 pub exprs::cast_form-returns-clause-goes : goal.exprs::cast_form-returns-clause-goes
-exprs::cast_form-returns-clause-goes t c = given (by (expr_rule rule.cast) (refl) (if_true _ c.requires) (passes (c.requires) (take c.in-Ok.ensures.goes (goes_on (answer c.in-Ok-specs.ensures.goes) (goes_on (answer c.in-Ok-declarator.ensures.goes) (take c.in-Ok-taken.ensures.goes (goes_on (answer c.in-Ok-cast_operand.ensures.goes) (done c.in_ok-whole.ensures))))))))
+exprs::cast_form-returns-clause-goes t c = made_so _ (by (expr_rule rule.cast) (refl) (if_true _ c.requires) (passes (c.requires) (take c.in-Ok.ensures.goes (goes_on (answer c.in-Ok-specs.ensures.goes) (goes_on (answer c.in-Ok-declarator.ensures.goes) (take c.in-Ok-taken.ensures.goes (goes_on (answer c.in-Ok-cast_operand.ensures.goes) is_done))))))) c.cast_expr.ensures c.handed.ensures.goes
 
 pub exprs::cast-returns-clause-goes : goal.exprs::cast-returns-clause-goes
 exprs::cast-returns-clause-goes t c = relayed c.unary.ensures.goes (λ x g. by (expr_rule rule.no_cast) (refl) (if_false _ (sym c.if-type_ahead.ensures)) (passes (ap not (sym c.if-type_ahead.ensures)) (here g (is_done)))) (λ why rest g. by (expr_rule rule.no_cast) (refl) (if_false _ (sym c.if-type_ahead.ensures)) (passes (ap not (sym c.if-type_ahead.ensures)) (stops_here g)))
@@ -133,11 +122,8 @@ exprs::pre_step-returns-in-Err-clause-goes t c = halted (halts (refuse (sign_is 
 pub exprs::pre_step-returns-in-Err-unary-clause-goes : goal.exprs::pre_step-returns-in-Err-unary-clause-goes
 exprs::pre_step-returns-in-Err-unary-clause-goes t c = halted (halts (halt c.in-Err-unary.ensures.goes) (λ why rest g. by (expr_rule (rule.pre_step c.args.way)) (refl) (prefix_is (scene_of c.args.context.now) c.args.tokens.now c.requires) (take (sign_is c.step_sign.ensures c.in-Ok.ensures.goes) (stops g))))
 
-pub exprs::pre_step-returns-in_err-whole-clause-goes : goal.exprs::pre_step-returns-in_err-whole-clause-goes
-exprs::pre_step-returns-in_err-whole-clause-goes t c = starved c.from_residual.ensures.1
-
 pub exprs::pre_step-returns-clause-goes : goal.exprs::pre_step-returns-clause-goes
-exprs::pre_step-returns-clause-goes t c = given (by (expr_rule (rule.pre_step c.args.way)) (refl) (prefix_is (scene_of c.args.context.now) c.args.tokens.now c.requires) (take (sign_is c.step_sign.ensures c.in-Ok.ensures.goes) (goes_on (answer c.in-Ok-unary.ensures.goes) (done c.in_ok-whole.ensures))))
+exprs::pre_step-returns-clause-goes t c = made_so _ (by (expr_rule (rule.pre_step c.args.way)) (refl) (prefix_is (scene_of c.args.context.now) c.args.tokens.now c.requires) (take (sign_is c.step_sign.ensures c.in-Ok.ensures.goes) (goes_on (answer c.in-Ok-unary.ensures.goes) is_done))) c.pre_step_expr.ensures c.handed.ensures.goes
 
 pub exprs::unary_form-returns-in-Err-clause-goes : goal.exprs::unary_form-returns-in-Err-clause-goes
 exprs::unary_form-returns-in-Err-clause-goes t c = halted (halts (refuse (sign_is c.unary_sign.ensures c.in-Err.ensures.goes)) (λ why rest g. by (expr_rule (rule.unary c.args.op)) (refl) (prefix_is (scene_of c.args.context.now) c.args.tokens.now c.requires) (g _ _)))
@@ -145,20 +131,14 @@ exprs::unary_form-returns-in-Err-clause-goes t c = halted (halts (refuse (sign_i
 pub exprs::unary_form-returns-in-Err-cast-clause-goes : goal.exprs::unary_form-returns-in-Err-cast-clause-goes
 exprs::unary_form-returns-in-Err-cast-clause-goes t c = halted (halts (halt c.in-Err-cast.ensures.goes) (λ why rest g. by (expr_rule (rule.unary c.args.op)) (refl) (prefix_is (scene_of c.args.context.now) c.args.tokens.now c.requires) (take (sign_is c.unary_sign.ensures c.in-Ok.ensures.goes) (stops g))))
 
-pub exprs::unary_form-returns-in_err-whole-clause-goes : goal.exprs::unary_form-returns-in_err-whole-clause-goes
-exprs::unary_form-returns-in_err-whole-clause-goes t c = starved c.from_residual.ensures.1
-
 pub exprs::unary_form-returns-clause-goes : goal.exprs::unary_form-returns-clause-goes
-exprs::unary_form-returns-clause-goes t c = given (by (expr_rule (rule.unary c.args.op)) (refl) (prefix_is (scene_of c.args.context.now) c.args.tokens.now c.requires) (take (sign_is c.unary_sign.ensures c.in-Ok.ensures.goes) (goes_on (answer c.in-Ok-cast.ensures.goes) (done c.in_ok-whole.ensures))))
+exprs::unary_form-returns-clause-goes t c = made_so _ (by (expr_rule (rule.unary c.args.op)) (refl) (prefix_is (scene_of c.args.context.now) c.args.tokens.now c.requires) (take (sign_is c.unary_sign.ensures c.in-Ok.ensures.goes) (goes_on (answer c.in-Ok-cast.ensures.goes) is_done))) c.unary_expr.ensures c.handed.ensures.goes
 
 pub exprs::sized-returns-in-Err-clause-goes : goal.exprs::sized-returns-in-Err-clause-goes
 exprs::sized-returns-in-Err-clause-goes t c = halted (halts (halt c.in-Err.ensures.goes) (λ why rest g. by (expr_rule rule.size_of_expr) (refl) (if_false _ (sym c.if-type_ahead.ensures)) (passes (ap not (sym c.if-type_ahead.ensures)) (stops_here g))))
 
-pub exprs::sized-returns-in_err-whole-clause-goes : goal.exprs::sized-returns-in_err-whole-clause-goes
-exprs::sized-returns-in_err-whole-clause-goes t c = starved c.from_residual.ensures.1
-
 pub exprs::sized-returns-clause-goes : goal.exprs::sized-returns-clause-goes
-exprs::sized-returns-clause-goes t c = given (by (expr_rule rule.size_of_expr) (refl) (if_false _ (sym c.if-type_ahead.ensures)) (passes (ap not (sym c.if-type_ahead.ensures)) (here (answer c.in-Ok.ensures.goes) (done c.in_ok-whole.ensures))))
+exprs::sized-returns-clause-goes t c = made_so _ (by (expr_rule rule.size_of_expr) (refl) (if_false _ (sym c.if-type_ahead.ensures)) (passes (ap not (sym c.if-type_ahead.ensures)) (here (answer c.in-Ok.ensures.goes) is_done))) c.sizeof_expr.ensures c.handed.ensures.goes
 
 pub exprs::sized_type-returns-in-Err-clause-goes : goal.exprs::sized_type-returns-in-Err-clause-goes
 exprs::sized_type-returns-in-Err-clause-goes t c = halted (halts (refuse c.in-Err.ensures.goes) (λ why rest g. by (expr_rule rule.size_of_type) (refl) (if_true _ c.requires) (passes (c.requires) (g _ _))))
@@ -184,14 +164,8 @@ exprs::enclosed-returns-in-Err-clause-goes t c = halted (halts (refuse c.in-Err.
 pub exprs::enclosed-returns-in-Err-run-clause-goes : goal.exprs::enclosed-returns-in-Err-run-clause-goes
 exprs::enclosed-returns-in-Err-run-clause-goes t c = halted (halts (halt c.in-Err-run.ensures.goes) (λ why rest g. by (expr_rule rule.enclosed) (refl) (primary_is (scene_of c.args.context.now) c.args.tokens.now c.requires) (take c.in-Ok.ensures.goes (stops g))))
 
-pub exprs::enclosed-returns-in-Err-taken-clause-goes : goal.exprs::enclosed-returns-in-Err-taken-clause-goes
-exprs::enclosed-returns-in-Err-taken-clause-goes t c = halted (halts (refuse c.in-Err-taken.ensures.goes) (λ why rest g. by (expr_rule rule.enclosed) (refl) (primary_is (scene_of c.args.context.now) c.args.tokens.now c.requires) (take c.in-Ok.ensures.goes (goes_on (answer c.in-Ok-run.ensures.goes) (g _ _)))))
-
-pub exprs::enclosed-returns-in_err-whole-clause-goes : goal.exprs::enclosed-returns-in_err-whole-clause-goes
-exprs::enclosed-returns-in_err-whole-clause-goes t c = starved c.from_residual.ensures.1
-
 pub exprs::enclosed-returns-clause-goes : goal.exprs::enclosed-returns-clause-goes
-exprs::enclosed-returns-clause-goes t c = given (by (expr_rule rule.enclosed) (refl) (primary_is (scene_of c.args.context.now) c.args.tokens.now c.requires) (take c.in-Ok.ensures.goes (goes_on (answer c.in-Ok-run.ensures.goes) (take c.in-Ok-taken.ensures.goes (done c.in_ok-whole.ensures)))))
+exprs::enclosed-returns-clause-goes t c = closed_so (λ o g. by (expr_rule rule.enclosed) (refl) (primary_is (scene_of c.args.context.now) c.args.tokens.now c.requires) (take c.in-Ok.ensures.goes (goes_on (answer c.in-Ok-run.ensures.goes) g))) c.enclosed_expr-whole.ensures c.closed.ensures.goes
 
 pub exprs::index-returns-in-Err-clause-goes : goal.exprs::index-returns-in-Err-clause-goes
 exprs::index-returns-in-Err-clause-goes t c = stalled (halts (refuse c.in-Err.ensures.goes) (λ why rest g. by (expr_rule rule.index) (suffix_free (scene_of c.args.context.now) (boxed_expr c.args.base) c.args.tokens.now (suffix_is (scene_of c.args.context.now) (boxed_expr c.args.base) c.args.tokens.now c.requires).1) ((suffix_is (scene_of c.args.context.now) (boxed_expr c.args.base) c.args.tokens.now c.requires).0) (g _ _)))
@@ -199,14 +173,8 @@ exprs::index-returns-in-Err-clause-goes t c = stalled (halts (refuse c.in-Err.en
 pub exprs::index-returns-in-Err-run-clause-goes : goal.exprs::index-returns-in-Err-run-clause-goes
 exprs::index-returns-in-Err-run-clause-goes t c = stalled (halts (halt c.in-Err-run.ensures.goes) (λ why rest g. by (expr_rule rule.index) (suffix_free (scene_of c.args.context.now) (boxed_expr c.args.base) c.args.tokens.now (suffix_is (scene_of c.args.context.now) (boxed_expr c.args.base) c.args.tokens.now c.requires).1) ((suffix_is (scene_of c.args.context.now) (boxed_expr c.args.base) c.args.tokens.now c.requires).0) (take c.in-Ok.ensures.goes (stops g))))
 
-pub exprs::index-returns-in-Err-taken-clause-goes : goal.exprs::index-returns-in-Err-taken-clause-goes
-exprs::index-returns-in-Err-taken-clause-goes t c = stalled (halts (refuse c.in-Err-taken.ensures.goes) (λ why rest g. by (expr_rule rule.index) (suffix_free (scene_of c.args.context.now) (boxed_expr c.args.base) c.args.tokens.now (suffix_is (scene_of c.args.context.now) (boxed_expr c.args.base) c.args.tokens.now c.requires).1) ((suffix_is (scene_of c.args.context.now) (boxed_expr c.args.base) c.args.tokens.now c.requires).0) (take c.in-Ok.ensures.goes (goes_on (answer c.in-Ok-run.ensures.goes) (g _ _)))))
-
 pub exprs::index-returns-clause-goes : goal.exprs::index-returns-clause-goes
-exprs::index-returns-clause-goes t c = stepped (λ o h. by (expr_rule rule.index) (suffix_free (scene_of c.args.context.now) (boxed_expr c.args.base) c.args.tokens.now (suffix_is (scene_of c.args.context.now) (boxed_expr c.args.base) c.args.tokens.now c.requires).1) ((suffix_is (scene_of c.args.context.now) (boxed_expr c.args.base) c.args.tokens.now c.requires).0) (take c.in-Ok.ensures.goes (goes_on (answer c.in-Ok-run.ensures.goes) (take c.in-Ok-taken.ensures.goes (tail_expr o (suffixes_at c.in_ok-whole.ensures h))))))
-
-pub exprs::index-returns-in_err-whole-clause-goes : goal.exprs::index-returns-in_err-whole-clause-goes
-exprs::index-returns-in_err-whole-clause-goes t c = starves c.from_residual.ensures.1
+exprs::index-returns-clause-goes t c = longer_closed _ (λ o h. by (expr_rule rule.index) (suffix_free (scene_of c.args.context.now) (boxed_expr c.args.base) c.args.tokens.now (suffix_is (scene_of c.args.context.now) (boxed_expr c.args.base) c.args.tokens.now c.requires).1) ((suffix_is (scene_of c.args.context.now) (boxed_expr c.args.base) c.args.tokens.now c.requires).0) (take c.in-Ok.ensures.goes (goes_on (answer c.in-Ok-run.ensures.goes) h))) c.index_expr-whole.ensures c.closed.ensures.goes
 
 pub exprs::suffixes-returns-then-calls_no_word-clause-goes : goal.exprs::suffixes-returns-then-calls_no_word-clause-goes
 exprs::suffixes-returns-then-calls_no_word-clause-goes t c = halted (stopped (c.barred_call.ensures (boxed_expr c.forms.base) (and_left _ _ (rebased _ c.deref.ensures c.if-calls_no_word.ensures))) (c.forms.invariant.0 _ (is_barred (borne _ (rebased _ c.deref.ensures c.if-calls_no_word.ensures)))))
@@ -241,11 +209,8 @@ exprs::more_arguments-returns-in_err-push_expr-clause-goes t c = starved c.from_
 pub exprs::more_arguments-others-preserved : goal.exprs::more_arguments-others-preserved
 exprs::more_arguments-others-preserved t c = ((λ o g. c.others.invariant.0 o (argument_step o (sym c.others-test.ensures) c.in-Ok.ensures.goes (answer c.in-Ok-assignment.ensures.goes) c.in_ok-push_expr.ensures g)), omega (arith, c.in-Ok.ensures.shorter, c.in-Ok-assignment.ensures.shorter))
 
-pub exprs::more_arguments-returns-in-Err-taken-clause-goes : goal.exprs::more_arguments-returns-in-Err-taken-clause-goes
-exprs::more_arguments-returns-in-Err-taken-clause-goes t c = halted (halts (refuse c.in-Err-taken.ensures.goes) (λ why rest g. c.others.invariant.0 _ (by (expr_rule rule.arguments_end) refl (if_true _ (sym c.others-test.ensures)) (g _ _))))
-
 pub exprs::more_arguments-returns-clause-goes : goal.exprs::more_arguments-returns-clause-goes
-exprs::more_arguments-returns-clause-goes t c = given (c.others.invariant.0 _ (by (expr_rule rule.arguments_end) refl (if_true _ (sym c.others-test.ensures)) (take c.in-Ok-taken.ensures.goes (done c.from_vec.ensures))))
+exprs::more_arguments-returns-clause-goes t c = closed_so (λ o g. c.others.invariant.0 o (by (expr_rule rule.arguments_end) refl (if_true _ (sym c.others-test.ensures)) g)) c.from_vec.ensures c.closed.ensures.goes
 
 pub exprs::call-returns-in-Err-clause-goes : goal.exprs::call-returns-in-Err-clause-goes
 exprs::call-returns-in-Err-clause-goes t c = stalled (halts (refuse c.in-Err.ensures.goes) (λ why rest g. suffixes_at (sym c.word_of-name.ensures) (call_by c.requires.0 (g _ _))))
@@ -253,11 +218,8 @@ exprs::call-returns-in-Err-clause-goes t c = stalled (halts (refuse c.in-Err.ens
 pub exprs::call-returns-in-Err-arguments-clause-goes : goal.exprs::call-returns-in-Err-arguments-clause-goes
 exprs::call-returns-in-Err-arguments-clause-goes t c = stalled (halts (halt c.in-Err-arguments.ensures.goes) (λ why rest g. suffixes_at (sym c.word_of-name.ensures) (call_by c.requires.0 (take c.in-Ok.ensures.goes (stops g)))))
 
-pub exprs::call-returns-in_err-whole-clause-goes : goal.exprs::call-returns-in_err-whole-clause-goes
-exprs::call-returns-in_err-whole-clause-goes t c = starves c.from_residual.ensures.1
-
 pub exprs::call-returns-clause-goes : goal.exprs::call-returns-clause-goes
-exprs::call-returns-clause-goes t c = stepped (λ o h. suffixes_at (sym c.word_of-name.ensures) (call_by c.requires.0 (take c.in-Ok.ensures.goes (goes_on (answer c.in-Ok-arguments.ensures.goes) (tail_expr o (suffixes_at c.in_ok-whole.ensures h))))))
+exprs::call-returns-clause-goes t c = longer_so _ (λ o h. suffixes_at (sym c.word_of-name.ensures) (call_by c.requires.0 (take c.in-Ok.ensures.goes (goes_on (answer c.in-Ok-arguments.ensures.goes) (tail_expr o h))))) c.call_expr.ensures c.handed.ensures.goes
 
 pub exprs::more-joints-preserved : goal.exprs::more-joints-preserved
 exprs::more-joints-preserved t c = ((λ o g. c.joints.invariant.0 o (joint_step o (sym c.in-Some.ensures) (behind_sign c.joint_sign.ensures c.in-Ok.ensures.goes) c.in_ok-left.ensures g)), omega (arith, c.in-Ok.ensures.shorter))
@@ -280,11 +242,8 @@ exprs::right_side-returns-clause-goes t c = λ p k. stepped (λ o h. take c.in-O
 pub exprs::sized_type-returns-then-comes-clause-goes : goal.exprs::sized_type-returns-then-comes-clause-goes
 exprs::sized_type-returns-then-comes-clause-goes t c = halted (stopped c.barred.ensures (by (expr_rule rule.size_of_type) refl (if_true _ c.requires) (passes c.requires (take c.in-Ok.ensures.goes (goes_on (answer c.in-Ok-specs.ensures.goes) (goes_on (answer c.in-Ok-declarator.ensures.goes) (take c.in-Ok-taken.ensures.goes (stops_here {i = part.AfterType} (is_barred (borne _ (sym c.if-comes.ensures)))))))))))
 
-pub exprs::sized_type-returns-in_err-whole-clause-goes : goal.exprs::sized_type-returns-in_err-whole-clause-goes
-exprs::sized_type-returns-in_err-whole-clause-goes t c = starved c.from_residual.ensures.1
-
 pub exprs::sized_type-returns-clause-goes : goal.exprs::sized_type-returns-clause-goes
-exprs::sized_type-returns-clause-goes t c = given (by (expr_rule rule.size_of_type) refl (if_true _ c.requires) (passes c.requires (take c.in-Ok.ensures.goes (goes_on (answer c.in-Ok-specs.ensures.goes) (goes_on (answer c.in-Ok-declarator.ensures.goes) (take c.in-Ok-taken.ensures.goes (here (by (expr_rule rule.after_type) (unborne _ (sym c.if-comes.ensures)) refl is_done) (done c.in_ok-whole.ensures))))))))
+exprs::sized_type-returns-clause-goes t c = made_so _ (by (expr_rule rule.size_of_type) refl (if_true _ c.requires) (passes c.requires (take c.in-Ok.ensures.goes (goes_on (answer c.in-Ok-specs.ensures.goes) (goes_on (answer c.in-Ok-declarator.ensures.goes) (take c.in-Ok-taken.ensures.goes (here (by (expr_rule rule.after_type) (unborne _ (sym c.if-comes.ensures)) refl is_done) is_done))))))) c.sizeof_type.ensures c.handed.ensures.goes
 
 pub exprs::more-returns-clause-goes : goal.exprs::more-returns-clause-goes
 exprs::more-returns-clause-goes t c = given (c.joints.invariant.0 _ (by (expr_rule rule.run_end) refl (more_is (scene_of c.args.context.now) (level_view c.args.level) (boxed_expr c.joints.left) c.joints.rest.now (no_joint c.joint_at.result (λ j e. c.in_default.not-Some j e) c.joint_at.ensures)) is_done))
@@ -367,11 +326,8 @@ types::more_members-returns-in-Err-clause-goes t c = halted (halts (halt c.in-Er
 pub types::more_members-returns-in_err-push_member-clause-goes : goal.types::more_members-returns-in_err-push_member-clause-goes
 types::more_members-returns-in_err-push_member-clause-goes t c = starved c.from_residual.ensures.1
 
-pub types::more_members-returns-in-Err-taken-clause-goes : goal.types::more_members-returns-in-Err-taken-clause-goes
-types::more_members-returns-in-Err-taken-clause-goes t c = halted (halts (refuse c.in-Err-taken.ensures.goes) (λ why rest g. c.lines.invariant.0 _ (by (type_rule kind.members_end) (refl) (if_true _ (sym c.lines-test.ensures)) (g _ _))))
-
 pub types::more_members-returns-clause-goes : goal.types::more_members-returns-clause-goes
-types::more_members-returns-clause-goes t c = given (c.lines.invariant.0 _ (by (type_rule kind.members_end) (refl) (if_true _ (sym c.lines-test.ensures)) (take c.in-Ok-taken.ensures.goes (done c.from_vec.ensures))))
+types::more_members-returns-clause-goes t c = closed_so (λ o g. c.lines.invariant.0 o (by (type_rule kind.members_end) (refl) (if_true _ (sym c.lines-test.ensures)) g)) c.from_vec.ensures c.closed.ensures.goes
 
 pub types::more_members-lines-preserved : goal.types::more_members-lines-preserved
 types::more_members-lines-preserved t c = ((λ o g. c.lines.invariant.0 o (member_step o (sym c.lines-test.ensures) (answer c.in-Ok.ensures.goes) c.in_ok-push_member.ensures g)), omega (arith, c.in-Ok.ensures.shorter))
@@ -430,11 +386,8 @@ types::more_enumerators-returns-then-comes-clause-goes t c = carried c.comma_end
 pub types::more_enumerators-values-preserved : goal.types::more_enumerators-values-preserved
 types::more_enumerators-values-preserved t c = ((λ o g. c.values.invariant.0 o (next_step o (sym c.values-test.ensures) c.in-Ok.ensures.goes (enumerator_step o (sym c.if-comes.ensures) (answer c.in-Ok-enumerator.ensures.goes) c.in_ok-push_enumerator.ensures g))), omega (arith, c.in-Ok.ensures.shorter, c.in-Ok-enumerator.ensures.shorter))
 
-pub types::more_enumerators-returns-in-Err-taken-clause-goes : goal.types::more_enumerators-returns-in-Err-taken-clause-goes
-types::more_enumerators-returns-in-Err-taken-clause-goes t c = halted (halts (refuse c.in-Err-taken.ensures.goes) (λ why rest g. c.values.invariant.0 _ (by (type_rule kind.enumerators_end) (refl) (if_true _ (sym c.values-test.ensures)) (g _ _))))
-
 pub types::more_enumerators-returns-clause-goes : goal.types::more_enumerators-returns-clause-goes
-types::more_enumerators-returns-clause-goes t c = given (c.values.invariant.0 _ (by (type_rule kind.enumerators_end) (refl) (if_true _ (sym c.values-test.ensures)) (take c.in-Ok-taken.ensures.goes (done c.from_vec.ensures))))
+types::more_enumerators-returns-clause-goes t c = closed_so (λ o g. c.values.invariant.0 o (by (type_rule kind.enumerators_end) (refl) (if_true _ (sym c.values-test.ensures)) g)) c.from_vec.ensures c.closed.ensures.goes
 
 pub types::enumerator-returns-in-Err-clause-goes : goal.types::enumerator-returns-in-Err-clause-goes
 types::enumerator-returns-in-Err-clause-goes t c = halted (halts (refuse c.in-Err.ensures.goes) (λ why rest g. by (type_rule kind.enumerator) (refl) (refl) (g _ _)))
@@ -472,11 +425,8 @@ declarators::pointer-returns-in-Err-consts-clause-goes t c = halted (halts (stal
 pub declarators::pointer-returns-in-Err-declarator-clause-goes : goal.declarators::pointer-returns-in-Err-declarator-clause-goes
 declarators::pointer-returns-in-Err-declarator-clause-goes t c = halted (halts (halt c.in-Err-declarator.ensures.goes) (λ why rest g. by (type_rule kind.pointer) (unborne _ c.requires.0) (if_true _ c.requires.1) (take c.in-Ok.ensures.goes (stops (step c.in-Ok-consts.ensures.goes _ (by (type_rule kind.pointed) refl (if_false _ c.in-Ok-consts.ensures.ended) (stops_here g)))))))
 
-pub declarators::pointer-returns-in_err-whole-clause-goes : goal.declarators::pointer-returns-in_err-whole-clause-goes
-declarators::pointer-returns-in_err-whole-clause-goes t c = starved c.from_residual.ensures.1
-
 pub declarators::pointer-returns-clause-goes : goal.declarators::pointer-returns-clause-goes
-declarators::pointer-returns-clause-goes t c = given (by (type_rule kind.pointer) (unborne _ c.requires.0) (if_true _ c.requires.1) (take c.in-Ok.ensures.goes (goes_on (step c.in-Ok-consts.ensures.goes _ (by (type_rule kind.pointed) refl (if_false _ c.in-Ok-consts.ensures.ended) (here (answer c.in-Ok-declarator.ensures.goes) (done c.in_ok-whole.ensures)))) is_done)))
+declarators::pointer-returns-clause-goes t c = made_so _ (by (type_rule kind.pointer) (unborne _ c.requires.0) (if_true _ c.requires.1) (take c.in-Ok.ensures.goes (goes_on (step c.in-Ok-consts.ensures.goes _ (by (type_rule kind.pointed) refl (if_false _ c.in-Ok-consts.ensures.ended) (here (answer c.in-Ok-declarator.ensures.goes) is_done))) is_done))) c.pointer_declarator.ensures c.handed.ensures.goes
 
 pub declarators::direct-returns-then-params_come-clause-goes : goal.declarators::direct-returns-then-params_come-clause-goes
 declarators::direct-returns-then-params_come-clause-goes t c = halted (stopped c.barred.ensures (is_barred (borne _ (sym c.if-params_come.ensures))))
@@ -535,20 +485,14 @@ declarators::tails-forms-preserved t c = ((λ o g. c.forms.invariant.0 o (step (
 pub declarators::array-returns-in-Err-clause-goes : goal.declarators::array-returns-in-Err-clause-goes
 declarators::array-returns-in-Err-clause-goes t c = λ plain e. stalled (halts (refuse c.in-Err.ensures.goes) (λ why rest g. by (type_rule kind.array) (e) (tail_is _ _ _ _ _ c.requires) (g _ _)))
 
-pub declarators::array-returns-in-Err-size-clause-goes : goal.declarators::array-returns-in-Err-size-clause-goes
-declarators::array-returns-in-Err-size-clause-goes t c = λ plain e. stalled (halts (halt c.in-Err-size.ensures.goes) (λ why rest g. by (type_rule kind.array) (e) (tail_is _ _ _ _ _ c.requires) (take c.in-Ok.ensures.goes (stops g))))
-
 pub declarators::array-returns-clause-goes : goal.declarators::array-returns-clause-goes
-declarators::array-returns-clause-goes t c = λ plain e. stepped (λ o h. by (type_rule kind.array) (e) (tail_is _ _ _ _ _ c.requires) (take c.in-Ok.ensures.goes (goes_on (answer c.in-Ok-size.ensures.goes) (tail_declarator o h))))
+declarators::array-returns-clause-goes t c = λ plain e. led (λ a rest g o h. by (type_rule kind.array) e (tail_is _ _ _ _ _ c.requires) (take c.in-Ok.ensures.goes (goes_on g (tail_declarator o h)))) (λ why rest g. by (type_rule kind.array) e (tail_is _ _ _ _ _ c.requires) (take c.in-Ok.ensures.goes (stops g))) c.size.ensures.goes
 
 pub declarators::function-returns-in-Err-clause-goes : goal.declarators::function-returns-in-Err-clause-goes
 declarators::function-returns-in-Err-clause-goes t c = λ plain e. stalled (halts (refuse c.in-Err.ensures.goes) (λ why rest g. by (type_rule kind.function) (e) (tail_is _ _ _ _ _ c.requires) (g _ _)))
 
-pub declarators::function-returns-in-Err-parameters-clause-goes : goal.declarators::function-returns-in-Err-parameters-clause-goes
-declarators::function-returns-in-Err-parameters-clause-goes t c = λ plain e. stalled (halts (halt c.in-Err-parameters.ensures.goes) (λ why rest g. by (type_rule kind.function) (e) (tail_is _ _ _ _ _ c.requires) (take c.in-Ok.ensures.goes (stops g))))
-
 pub declarators::function-returns-clause-goes : goal.declarators::function-returns-clause-goes
-declarators::function-returns-clause-goes t c = λ plain e. stepped (λ o h. by (type_rule kind.function) (e) (tail_is _ _ _ _ _ c.requires) (take c.in-Ok.ensures.goes (goes_on (answer c.in-Ok-parameters.ensures.goes) (tail_declarator o h))))
+declarators::function-returns-clause-goes t c = λ plain e. led (λ a rest g o h. by (type_rule kind.function) e (tail_is _ _ _ _ _ c.requires) (take c.in-Ok.ensures.goes (goes_on g (tail_declarator o h)))) (λ why rest g. by (type_rule kind.function) e (tail_is _ _ _ _ _ c.requires) (take c.in-Ok.ensures.goes (stops g))) c.parameters.ensures.goes
 
 pub declarators::size-returns-then-is_member-clause-goes : goal.declarators::size-returns-then-is_member-clause-goes
 declarators::size-returns-then-is_member-clause-goes t c = halted (stopped c.barred.ensures (is_barred (borne _ (both_true (sym c.if-comes.ensures) (sym c.if-is_member.ensures)))))
@@ -556,14 +500,8 @@ declarators::size-returns-then-is_member-clause-goes t c = halted (stopped c.bar
 pub declarators::size-returns-in-Err-clause-goes : goal.declarators::size-returns-in-Err-clause-goes
 declarators::size-returns-in-Err-clause-goes t c = halted (halts (halt c.in-Err.ensures.goes) (λ why rest g. by (type_rule kind.size) (unborne _ (first_false _ (sym c.if-comes.ensures))) (if_false _ (sym c.if-comes.ensures)) (stops_here g)))
 
-pub declarators::size-returns-in-Err-taken-clause-goes : goal.declarators::size-returns-in-Err-taken-clause-goes
-declarators::size-returns-in-Err-taken-clause-goes t c = halted (halts (refuse c.in-Err-taken.ensures.goes) (λ why rest g. by (type_rule kind.size) (unborne _ (first_false _ (sym c.if-comes.ensures))) (if_false _ (sym c.if-comes.ensures)) (here (answer c.in-Ok.ensures.goes) (g _ _))))
-
 pub declarators::size-returns-clause-goes : goal.declarators::size-returns-clause-goes
-declarators::size-returns-clause-goes t c = given (by (type_rule kind.size) (unborne _ (first_false _ (sym c.if-comes.ensures))) (if_false _ (sym c.if-comes.ensures)) (here (answer c.in-Ok.ensures.goes) (take c.in-Ok-taken.ensures.goes (done c.in_ok-whole.ensures))))
-
-pub declarators::size-returns-in_err-whole-clause-goes : goal.declarators::size-returns-in_err-whole-clause-goes
-declarators::size-returns-in_err-whole-clause-goes t c = starved c.from_residual.ensures.1
+declarators::size-returns-clause-goes t c = closed_so (λ o g. by (type_rule kind.size) (unborne _ (first_false _ (sym c.if-comes.ensures))) (if_false _ (sym c.if-comes.ensures)) (here (answer c.in-Ok.ensures.goes) g)) c.array_declarator-whole.ensures c.closed.ensures.goes
 
 pub declarators::parameters-returns-in-Err-clause-goes : goal.declarators::parameters-returns-in-Err-clause-goes
 declarators::parameters-returns-in-Err-clause-goes t c = halted (halts (halt c.in-Err.ensures.goes) (λ why rest g. by (type_rule kind.parameters) (refl) (if_false _ (sym c.if-comes.ensures)) (stops_here g)))
@@ -586,14 +524,8 @@ declarators::more_parameters-returns-in_err-push_param-clause-goes t c = starved
 pub declarators::more_parameters-others-preserved : goal.declarators::more_parameters-others-preserved
 declarators::more_parameters-others-preserved t c = ((λ o g. c.others.invariant.0 o (parameter_step o (sym c.others-test.ensures) c.in-Ok.ensures.goes (answer c.in-Ok-parameter.ensures.goes) c.in_ok-push_param.ensures g)), c.others.invariant.1, omega (arith, c.in-Ok.ensures.shorter, c.in-Ok-parameter.ensures.shorter))
 
-pub declarators::more_parameters-returns-in-Err-taken-clause-goes : goal.declarators::more_parameters-returns-in-Err-taken-clause-goes
-declarators::more_parameters-returns-in-Err-taken-clause-goes t c = halted (halts (refuse c.in-Err-taken.ensures.goes) (λ why rest g. c.others.invariant.0 _ (by (type_rule kind.parameters_end) (refl) (if_true _ (sym c.others-test.ensures)) (g _ _))))
-
-pub declarators::more_parameters-returns-in_err-whole-clause-goes : goal.declarators::more_parameters-returns-in_err-whole-clause-goes
-declarators::more_parameters-returns-in_err-whole-clause-goes t c = starved c.from_residual-in_err-whole.ensures.1
-
 pub declarators::more_parameters-returns-clause-goes : goal.declarators::more_parameters-returns-clause-goes
-declarators::more_parameters-returns-clause-goes t c = given (c.others.invariant.0 _ (by (type_rule kind.parameters_end) (refl) (if_true _ (sym c.others-test.ensures)) (take c.in-Ok-taken.ensures.goes (done (c.in_ok-whole.ensures ∙ ap (λ v. function_of c.args.at (boxed_declarator v) (trees.params_from c.others.params.items)) c.others.invariant.1)))))
+declarators::more_parameters-returns-clause-goes t c = closed_so (λ o g. c.others.invariant.0 o (by (type_rule kind.parameters_end) (refl) (if_true _ (sym c.others-test.ensures)) (function_so c.args.at (trees.params_from c.others.params.items) c.others.invariant.1 g))) c.function_declarator-whole.ensures c.closed.ensures.goes
 
 pub declarators::parameter-returns-then-plain_word_ahead-clause-goes : goal.declarators::parameter-returns-then-plain_word_ahead-clause-goes
 declarators::parameter-returns-then-plain_word_ahead-clause-goes t c = halted (stopped c.barred.ensures (is_barred (borne _ (sym c.if-plain_word_ahead.ensures))))

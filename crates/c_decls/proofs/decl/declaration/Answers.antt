@@ -1,13 +1,10 @@
 use Rattle.std.proofs.Common.{refl}
 use Rattle.c_grammar.specs.Parts.{ADecl, Declaration}
-use Rattle.c_descent.proofs.Paths.{begin, behind, ends, not_behind}
+use Rattle.c_descent.proofs.Paths.{begin, behind, lasts, not_behind}
 use Rattle.c_decls.proofs.decl.declaration.Goals as goal
 
 pub returns-in_err-words-clause-goes : goal.returns-in_err-words-clause-goes
 returns-in_err-words-clause-goes c = not_behind c.from_residual.ensures.1 (begin {p = ADecl Declaration} (λ o g. g) refl refl) c.in_err-words.ensures.goes
 
-pub returns-in_err-whole-clause-goes : goal.returns-in_err-whole-clause-goes
-returns-in_err-whole-clause-goes c = not_behind c.from_residual-in_err-whole.ensures.1 (behind (begin {p = ADecl Declaration} (λ o g. g) refl refl) c.in_ok-words.ensures.goes) c.in_err-whole.ensures.goes
-
 pub returns-clause-goes : goal.returns-clause-goes
-returns-clause-goes c = ends (behind (behind (begin {p = ADecl Declaration} (λ o g. g) refl refl) c.in_ok-words.ensures.goes) c.in_ok-whole.ensures.goes) refl
+returns-clause-goes c = lasts (behind (begin {p = ADecl Declaration} (λ o g. g) refl refl) c.in_ok-words.ensures.goes) c.declared.ensures.goes (λ d. refl)

@@ -7,7 +7,7 @@ use Rattle.std.specs.Prelude.{Ok, Err}
 use Rattle.c_written.proofs.WrittenDeclTrees.{init_braces}
 use Rattle.c_descent.proofs.Steps.{borne, if_false, if_true, starved, unborne}
 use Rattle.c_decls.proofs.Starts.{brace_first}
-use Rattle.c_descent.proofs.Paths.{after, barred_at, begin, behind, decides, ends, goes_so, inside, not_after, not_behind, not_inside}
+use Rattle.c_descent.proofs.Paths.{after, barred_at, begin, behind, decides, ends, goes_so, inside, lasts, not_after, not_behind, not_inside}
 use Rattle.c_decls.proofs.Steps.{last_inits, next_inits, same_inits}
 use Rattle.c_decls.proofs.init.+initialisers.Goals as goal
 
@@ -38,11 +38,8 @@ initialisers-returns-in_err-first-clause-goes t c = not_behind c.from_residual.e
 pub initialisers-returns-in_err-items-clause-goes : goal.initialisers-returns-in_err-items-clause-goes
 initialisers-returns-in_err-items-clause-goes t c = starved c.from_residual-in_err-items.ensures.1
 
-pub initialisers-returns-in_err-whole-clause-goes : goal.initialisers-returns-in_err-whole-clause-goes
-initialisers-returns-in_err-whole-clause-goes t c = not_behind c.from_residual-in_err-whole.ensures.1 (behind (begin {p = Initialisers} (λ o g. g) refl refl) c.in_ok-first.ensures.goes) (decides (Err c.in_err-whole.field-0.0) (λ o g. same_inits c.in_ok-items.ensures g) c.in_err-whole.ensures.goes)
-
 pub initialisers-returns-clause-goes : goal.initialisers-returns-clause-goes
-initialisers-returns-clause-goes t c = ends (behind (behind (begin {p = Initialisers} (λ o g. g) refl refl) c.in_ok-first.ensures.goes) (decides (Ok (c.in_ok-whole.whole, c.in_ok-whole.rest)) (λ o g. same_inits c.in_ok-items.ensures g) c.in_ok-whole.ensures.goes)) refl
+initialisers-returns-clause-goes t c = lasts (behind (begin {p = Initialisers} (λ o g. g) refl refl) c.in_ok-first.ensures.goes) (decides _ (λ o g. same_inits c.in_ok-items.ensures g) c.more_initialisers.ensures.goes) (λ i. refl)
 
 pub more_initialisers-returns-in_err-_comma-clause-goes : goal.more_initialisers-returns-in_err-_comma-clause-goes
 more_initialisers-returns-in_err-_comma-clause-goes t c = not_after c.from_residual.ensures.1 (begin {p = MoreInitialisers (inits_from c.loop-rest.items.items)} c.loop-rest.invariant.0 refl (if_false _ (sym c.comes.ensures ∙ c.loop-rest-test.true))) c.in_err-_comma.ensures.goes

@@ -4,7 +4,7 @@ use Rattle.std.proofs.Common.{refl, sym, ap, ◌∙◌}
 use Rattle.c_written.specs.WrittenFile as trees
 use Rattle.c_written.proofs.WrittenFileTrees.{outer_declared}
 use Rattle.c_descent.proofs.Steps.{if_false, if_true}
-use Rattle.c_descent.proofs.Paths.{after, begin, behind, ends, not_after, not_behind}
+use Rattle.c_descent.proofs.Paths.{after, begin, behind, ends, lasts, not_after, not_behind}
 use Rattle.c_parser.proofs.outer.outer_declared.Goals as goal
 
 pub returns-in_err-_end-clause-goes : goal.returns-in_err-_end-clause-goes
@@ -16,8 +16,5 @@ returns-then-comes-clause-goes c = ends (after (begin {p = AnOuter (OuterDeclare
 pub returns-in_err-first-clause-goes : goal.returns-in_err-first-clause-goes
 returns-in_err-first-clause-goes c = not_behind c.from_residual-in_err-first.ensures.1 (begin {p = AnOuter (OuterDeclared (specs_tree c.args.specs))} (λ o g. g) refl (if_false _ (sym c.comes.ensures ∙ c.if-comes.false))) c.in_err-first.ensures.goes
 
-pub returns-in_err-whole-clause-goes : goal.returns-in_err-whole-clause-goes
-returns-in_err-whole-clause-goes c = not_behind c.from_residual-in_err-whole.ensures.1 (behind (begin {p = AnOuter (OuterDeclared (specs_tree c.args.specs))} (λ o g. g) refl (if_false _ (sym c.comes.ensures ∙ c.if-comes.false))) c.in_ok-first.ensures.goes) c.in_err-whole.ensures.goes
-
 pub returns-clause-goes : goal.returns-clause-goes
-returns-clause-goes c = ends (behind (behind (begin {p = AnOuter (OuterDeclared (specs_tree c.args.specs))} (λ o g. g) refl (if_false _ (sym c.comes.ensures ∙ c.if-comes.false))) c.in_ok-first.ensures.goes) c.in_ok-whole.ensures.goes) refl
+returns-clause-goes c = lasts (behind (begin {p = AnOuter (OuterDeclared (specs_tree c.args.specs))} (λ o g. g) refl (if_false _ (sym c.comes.ensures ∙ c.if-comes.false))) c.in_ok-first.ensures.goes) c.outer_initial.ensures.goes (λ o. refl)

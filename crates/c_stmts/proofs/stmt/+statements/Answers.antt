@@ -10,12 +10,12 @@ use Rattle.c_written.specs.WrittenFile.{stmt_tree, blockitems_from}
 use Rattle.c_grammar.proofs.Sweep.{and_right}
 use Rattle.c_descent.specs.Views.{boxed_expr, scene_of}
 use Rattle.c_written.proofs.WrittenFileTrees.{blockitem_declaration, blockitem_statement, blockitems_nil, stmt_block, stmt_default, stmt_label}
-use Rattle.c_stmts.specs.Kinds.{boxed_tree}
+use Rattle.c_heads.specs.Kinds.{boxed_tree}
 use Rattle.c_simple.specs.declared.stmt_kind.StatementKind.TheVariants as statements
 use Rattle.c_descent.proofs.Steps.{failed, halt, halts, if_false, if_true, starved}
 use Rattle.c_simple.proofs.Starts.{statement_begins}
 use Rattle.c_stmts.proofs.Starts.{label_rule}
-use Rattle.c_descent.proofs.Paths.{after, begin, behind, decides, ends, goes_so, inside, not_after, not_behind, not_inside, same_value, where_so}
+use Rattle.c_descent.proofs.Paths.{after, begin, behind, decides, ends, goes_so, inside, lasts, not_after, not_behind, not_inside, same_value, where_so}
 use Rattle.c_simple.proofs.Steps.{not_tried, tried}
 use Rattle.c_stmts.proofs.Steps.{for_led, in_scene, last_items, not_led, same_items}
 use Rattle.c_stmts.proofs.stmt.+statements.Goals as goal
@@ -80,11 +80,8 @@ conditional_statement-returns-in_err-value-clause-goes t c = not_tried c.from_re
 pub conditional_statement-returns-in_err-then-clause-goes : goal.conditional_statement-returns-in_err-then-clause-goes
 conditional_statement-returns-in_err-then-clause-goes t c = not_inside c.from_residual-in_err-then.ensures.1 (tried (after (statement_begins statements.If c.requires refl) c.in_ok-at.ensures.goes) c.in_ok-value.ensures.goes) c.in_err-then.ensures.goes
 
-pub conditional_statement-returns-in_err-whole-clause-goes : goal.conditional_statement-returns-in_err-whole-clause-goes
-conditional_statement-returns-in_err-whole-clause-goes t c = not_behind c.from_residual-in_err-whole.ensures.1 (inside (tried (after (statement_begins statements.If c.requires refl) c.in_ok-at.ensures.goes) c.in_ok-value.ensures.goes) c.in_ok-then.ensures.goes) c.in_err-whole.ensures.goes
-
 pub conditional_statement-returns-clause-goes : goal.conditional_statement-returns-clause-goes
-conditional_statement-returns-clause-goes t c = ends (behind (inside (tried (after (statement_begins statements.If c.requires refl) c.in_ok-at.ensures.goes) c.in_ok-value.ensures.goes) c.in_ok-then.ensures.goes) c.in_ok-whole.ensures.goes) refl
+conditional_statement-returns-clause-goes t c = lasts (inside (tried (after (statement_begins statements.If c.requires refl) c.in_ok-at.ensures.goes) c.in_ok-value.ensures.goes) c.in_ok-then.ensures.goes) c.else_part.ensures.goes (λ s. refl)
 
 pub choice-returns-in_err-at-clause-goes : goal.choice-returns-in_err-at-clause-goes
 choice-returns-in_err-at-clause-goes t c = not_after c.from_residual.ensures.1 (statement_begins statements.Switch c.requires refl) c.in_err-at.ensures.goes
@@ -146,17 +143,11 @@ boxed-returns-in_err-new-clause-goes t c = starved c.from_residual-in_err-new.en
 pub boxed-returns-clause-goes : goal.boxed-returns-clause-goes
 boxed-returns-clause-goes t c = same_value c.in_ok-whole.ensures.goes (ap stmt_tree c.in_ok-new.ensures.ok)
 
-pub substatement-returns-in_err-whole-clause-goes : goal.substatement-returns-in_err-whole-clause-goes
-substatement-returns-in_err-whole-clause-goes t c = failed c.from_residual.ensures.1 (halt c.in_err-whole.ensures.goes)
-
 pub substatement-returns-clause-goes : goal.substatement-returns-clause-goes
-substatement-returns-clause-goes t c = c.in_ok-whole.ensures.goes
-
-pub block_items-returns-in_err-whole-clause-goes : goal.block_items-returns-in_err-whole-clause-goes
-block_items-returns-in_err-whole-clause-goes t c = failed c.from_residual.ensures.1 (halts (halt c.in_err-whole.ensures.goes) (λ why rest g. in_scene (sym (c.block_setting.ensures (scene_of c.args.context.now))) g))
+substatement-returns-clause-goes t c = c.boxed.ensures.goes
 
 pub block_items-returns-clause-goes : goal.block_items-returns-clause-goes
-block_items-returns-clause-goes t c = decides _ (λ o g. in_scene (sym (c.block_setting.ensures (scene_of c.args.context.now))) g) c.in_ok-whole.ensures.goes
+block_items-returns-clause-goes t c = decides _ (λ o g. in_scene (sym (c.block_setting.ensures (scene_of c.args.context.now))) g) c.items.ensures.goes
 
 pub item-returns-in_err-decl-clause-goes : goal.item-returns-in_err-decl-clause-goes
 item-returns-in_err-decl-clause-goes t c = not_behind c.from_residual.ensures.1 (where_so (begin {p = Item} (λ o g. g) refl (if_true _ (sym c.spec_ahead.ensures ∙ c.if-spec_ahead.true))) (sym c.spec_ahead.ensures ∙ c.if-spec_ahead.true)) c.in_err-decl.ensures.goes

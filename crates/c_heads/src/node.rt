@@ -4,7 +4,7 @@
 ghost use Rattle.std.specs.Prelude.{◌≡◌};
 ghost use Rattle.c_written.specs.WrittenFile.{Case, DoWhile, If, IfElse, Switch, While, stmt_tree};
 ghost use Rattle.c_descent.specs.Views.{boxed_expr};
-ghost use Rattle.c_stmts.specs.Kinds.{boxed_tree};
+ghost use Rattle.c_heads.specs.Kinds.{boxed_tree};
 
 use c_written::{Expr, Pos, Stmt};
 

@@ -8,7 +8,7 @@ ghost use Rattle.c_descent.specs.Answers.{Answers};
 ghost use Rattle.c_descent.specs.Views.{scene_of};
 ghost use Rattle.c_simple.specs.Kinds.{StatementStarts, closing_view};
 ghost use Rattle.c_simple.specs.declared.stmt_kind.StatementKind.{StatementKind};
-ghost use Rattle.c_stmts.specs.Kinds.{ForHeads, boxed_option, boxed_tree};
+ghost use Rattle.c_heads.specs.Kinds.{ForHeads, boxed_option, boxed_tree};
 
 use c_decls::declaration;
 use c_descent::{Class, Context, Fault, Level, Mark, comes, spec_ahead, taken};
