@@ -13,7 +13,7 @@ use Rattle.c_grammar.specs.Process.{Process, give, part}
 use Rattle.c_grammar.specs.Descent.{Goes, Follows}
 use Rattle.c_descent.specs.declared.fault.Fault.{Fault}
 use Rattle.c_descent.specs.Answers.{Steps}
-use Rattle.c_heads.specs.declared.for_head.ForHead.{ForHead}
+use Rattle.c_heads.specs.declared.head.ForHead.{ForHead}
 
 -- the tree of a statement that another one holds
 abbrev pub boxed_tree : Box Stmt Global → StmtTree

@@ -11,7 +11,7 @@ use Rattle.c_descent.specs.declared.fault.Fault.{Fault}
 use Rattle.c_descent.specs.Answers.{Gives, Steps}
 use Rattle.c_descent.proofs.Paths.{Path}
 use Rattle.c_descent.proofs.Steps.{failed, here, stall, step, stops_here}
-use Rattle.c_heads.specs.declared.for_head.ForHead.{ForHead}
+use Rattle.c_heads.specs.declared.head.ForHead.{ForHead}
 use Rattle.c_heads.specs.Kinds.{ForHeads, for_rest}
 
 -- a block goes on with its next items

@@ -4,7 +4,7 @@ use Rattle.c_descent.proofs.Steps.{stalls}
 use Rattle.c_simple.specs.declared.stmt_kind.StatementKind.TheVariants as statements
 use Rattle.c_simple.proofs.Starts.{statement_begins}
 use Rattle.c_descent.proofs.Paths.{after, goes_so, halts_after, halts_inside, inside}
-use Rattle.c_heads.proofs.for_head.for_head.Goals as goal
+use Rattle.c_heads.proofs.head.for_head.Goals as goal
 
 pub returns-in_err-at-clause-goes : goal.returns-in_err-at-clause-goes
 returns-in_err-at-clause-goes c = λ b. stalls c.from_residual.ensures.1 (halts_after (statement_begins {b = b} statements.For c.requires refl) c.in_err-at.ensures.goes)

@@ -7,7 +7,7 @@ use Rattle.c_written.specs.WrittenFile as trees
 use Rattle.c_written.specs.WrittenFile.{forstart_tree}
 use Rattle.c_written.proofs.WrittenFileTrees.{stmt_for}
 use Rattle.c_heads.specs.Kinds.{boxed_option, boxed_tree}
-use Rattle.c_heads.proofs.for_head.for_stmt.Goals as goal
+use Rattle.c_heads.proofs.head.for_stmt.Goals as goal
 
 pub returns : goal.returns
 returns c =

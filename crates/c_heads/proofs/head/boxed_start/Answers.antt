@@ -2,7 +2,7 @@ use Rattle.std.proofs.Common.{ap}
 use Rattle.c_written.specs.WrittenFile.{forstart_tree}
 use Rattle.c_descent.proofs.Paths.{same_value}
 use Rattle.c_descent.proofs.Steps.{failed, halt, starved}
-use Rattle.c_heads.proofs.for_head.boxed_start.Goals as goal
+use Rattle.c_heads.proofs.head.boxed_start.Goals as goal
 
 pub returns-in_err-start-clause-goes : goal.returns-in_err-start-clause-goes
 returns-in_err-start-clause-goes c = failed c.from_residual.ensures.1 (halt c.in_err-start.ensures.goes)

@@ -7,7 +7,7 @@ use Rattle.c_written.specs.WrittenFile as trees
 use Rattle.c_written.proofs.WrittenFileTrees.{forstart_nothing, forstart_value, forstart_declares}
 use Rattle.c_descent.proofs.Steps.{if_false, if_true}
 use Rattle.c_descent.proofs.Paths.{after, begin, behind, ends, not_after, not_behind, where_so}
-use Rattle.c_heads.proofs.for_head.for_start.Goals as goal
+use Rattle.c_heads.proofs.head.for_start.Goals as goal
 
 pub returns-in_err-_end-clause-goes : goal.returns-in_err-_end-clause-goes
 returns-in_err-_end-clause-goes c = not_after c.from_residual.ensures.1 (begin {p = ForStart} (λ o g. g) refl (if_true _ (sym c.comes.ensures ∙ c.if-comes.true))) c.in_err-_end.ensures.goes

@@ -3,7 +3,7 @@ use Rattle.std.specs.Prelude.{option_map}
 use Rattle.c_written.specs.Written.{expr_tree}
 use Rattle.c_descent.proofs.Paths.{same_value}
 use Rattle.c_descent.proofs.Steps.{failed, halt, starved}
-use Rattle.c_heads.proofs.for_head.boxed_optional.Goals as goal
+use Rattle.c_heads.proofs.head.boxed_optional.Goals as goal
 
 pub returns-in_err-value-clause-goes : goal.returns-in_err-value-clause-goes
 returns-in_err-value-clause-goes c = failed c.from_residual.ensures.1 (halt c.in_err-value.ensures.goes)
