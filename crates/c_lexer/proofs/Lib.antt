@@ -2,8 +2,8 @@ pub mod CharacterLemmas
 pub mod DigitLemmas
 pub mod Forms
 pub mod Fronts
+pub mod KeywordLemmas
 pub mod Laws
-pub mod Listed
 pub mod LiteralLemmas
 pub mod MarkLemmas
 pub mod Marks
