@@ -15,7 +15,7 @@ use Rattle.c_written.specs.declared.written.MemberDecl.TheVariants as lines
 use Rattle.c_written.proofs.WrittenTrees.{spec_typedef_name, memberdecl_members}
 use Rattle.c_written.specs.Written as trees
 use Rattle.c_written.specs.Written.{SpecTree, SpecTrees, no_specs, more_specs, specs_then, DeclaratorTree, DeclaratorTrees, declarators_then, MemberDeclTree, MemberDeclTrees, memberdecls_then, EnumeratorTree, EnumeratorTrees, enumerators_then, spec_tree, specs_tree, memberdecl_tree, declarators_tree}
-use Rattle.c_grammar.specs.Parts.{Scene, Spec, Structure, StructureTagged, Enumeration, EnumerationTagged, Declarator, OfMember, ASpec, ADeclarator, MoreSpecs, MoreMembers, AMember, MoreDeclarators, MoreEnumerators, NextEnumerator, AnEnumerator, EnumeratorValue}
+use Rattle.c_grammar.specs.Parts.{Scene, Spec, Structure, StructureTagged, Enumeration, EnumerationTagged, Declarator, OfMember, ASpec, ADeclarator, MoreSpecs, Members, MoreMembers, MoreDeclarators, Enumerators, MoreEnumerators, NextEnumerator, EnumeratorValue}
 use Rattle.c_grammar.specs.Process.{give, part}
 use Rattle.c_grammar.specs.Classes.{sign, names_type}
 use Rattle.c_grammar.specs.Grammar.{type_rule}
@@ -129,17 +129,25 @@ tail_specs : {d : ℕ} {w : Scene} {a b : SpecTrees} {ts : List Placed} (o : Out
 tail_specs (Done v mid) g = here g is_done
 tail_specs (Stop why rest) g = stops_here g
 
-tail_members : {d : ℕ} {w : Scene} {a b : MemberDeclTrees} {ts : List Placed} (o : Outcome MemberDeclTrees) → Goes d w (MoreMembers a) ts o → Follows d w (MoreMembers b) (part 0 w (MoreMembers a) give) ts o
+pub tail_members : {d : ℕ} {w : Scene} {a b : MemberDeclTrees} {ts : List Placed} (o : Outcome MemberDeclTrees) → Goes d w (MoreMembers a) ts o → Follows d w (MoreMembers b) (part 0 w (MoreMembers a) give) ts o
 tail_members (Done v mid) g = here g is_done
 tail_members (Stop why rest) g = stops_here g
+
+pub tail_lines : {d : ℕ} {w : Scene} {a : MemberDeclTrees} {ts : List Placed} (o : Outcome MemberDeclTrees) → Goes d w (MoreMembers a) ts o → Follows d w Members (part 0 w (MoreMembers a) give) ts o
+tail_lines (Done v mid) g = here g is_done
+tail_lines (Stop why rest) g = stops_here g
 
 tail_declarators : {d : ℕ} {w : Scene} {s : SpecTrees} {a b : DeclaratorTrees} {ts : List Placed} (o : Outcome MemberDeclTree) → Goes d w (MoreDeclarators s a) ts o → Follows d w (MoreDeclarators s b) (part 0 w (MoreDeclarators s a) give) ts o
 tail_declarators (Done v mid) g = here g is_done
 tail_declarators (Stop why rest) g = stops_here g
 
-tail_enumerators : {d : ℕ} {w : Scene} {a b : EnumeratorTrees} {ts : List Placed} (o : Outcome EnumeratorTrees) → Goes d w (MoreEnumerators a) ts o → Follows d w (NextEnumerator b) (part 0 w (MoreEnumerators a) give) ts o
+pub tail_enumerators : {d : ℕ} {w : Scene} {a b : EnumeratorTrees} {ts : List Placed} (o : Outcome EnumeratorTrees) → Goes d w (MoreEnumerators a) ts o → Follows d w (NextEnumerator b) (part 0 w (MoreEnumerators a) give) ts o
 tail_enumerators (Done v mid) g = here g is_done
 tail_enumerators (Stop why rest) g = stops_here g
+
+pub tail_more : {d : ℕ} {w : Scene} {a : EnumeratorTrees} {ts : List Placed} (o : Outcome EnumeratorTrees) → Goes d w (MoreEnumerators a) ts o → Follows d w Enumerators (part 0 w (MoreEnumerators a) give) ts o
+tail_more (Done v mid) g = here g is_done
+tail_more (Stop why rest) g = stops_here g
 
 pub tail_next : {d : ℕ} {w : Scene} {b : EnumeratorTrees} {ts : List Placed} (o : Outcome EnumeratorTrees) → Goes d w (NextEnumerator b) ts o → Follows d w (MoreEnumerators b) (part 0 w (NextEnumerator b) give) ts o
 tail_next (Done v mid) g = here g is_done
@@ -149,10 +157,6 @@ tail_next (Stop why rest) g = stops_here g
 pub spec_step : {d : ℕ} {w : Scene} {before longer : SpecTrees} {next : SpecTree} {ts after : List Placed} (o : Outcome SpecTrees) → part_construct w (MoreSpecs before) ts ≡ None → spec_ahead w ts ≡ true → Goes d w (ASpec Spec) ts (Done next after) → longer ≡ specs_then before next → Goes d w (MoreSpecs longer) after o → Goes d w (MoreSpecs before) ts o
 spec_step {d} {w} {before} {longer} {next} {ts} {after} o n e g h k = by (type_rule types.specs_more) n (if_true _ e) (here g (tail_specs o (specs_at h k)))
 
--- one more line of members
-pub member_step : {d : ℕ} {w : Scene} {before longer : MemberDeclTrees} {next : MemberDeclTree} {ts after : List Placed} (o : Outcome MemberDeclTrees) → first_is is_right_brace ts ≡ false → Goes d w AMember ts (Done next after) → longer ≡ memberdecls_then before next → Goes d w (MoreMembers longer) after o → Goes d w (MoreMembers before) ts o
-member_step {d} {w} {before} {longer} {next} {ts} {after} o e g h k = by (type_rule types.members_more) refl (if_false _ e) (here g (tail_members o (members_at h k)))
-
 -- one more declarator of members
 pub declarator_step : {d : ℕ} {w : Scene} {s : SpecTrees} {before longer : DeclaratorTrees} {next : DeclaratorTree} {p : Bor Placed × Bor (List Placed)} {ts after : List Placed} (o : Outcome MemberDeclTree) → first_is is_colon ts ≡ false → first_is is_semicolon ts ≡ false → Takes d w 0 (sign signs.Comma) ts (Ok p) → Goes d w (ADeclarator (Declarator OfMember)) p.1.now (Done next after) → longer ≡ declarators_then before next → Goes d w (MoreDeclarators s longer) after o → Goes d w (MoreDeclarators s before) ts o
 declarator_step {d} {w} {s} {before} {longer} {next} {p} {ts} {after} o n e t g h k = by (type_rule types.declarators_more) (unborne _ n) (if_false _ e) (take t (here g (tail_declarators o (declarators_at h k))))
@@ -160,10 +164,6 @@ declarator_step {d} {w} {s} {before} {longer} {next} {p} {ts} {after} o n e t g 
 -- what follows a comma between enumerators
 pub next_step : {d : ℕ} {w : Scene} {before : EnumeratorTrees} {p : Bor Placed × Bor (List Placed)} {ts : List Placed} (o : Outcome EnumeratorTrees) → first_is is_right_brace ts ≡ false → Takes d w 0 (sign signs.Comma) ts (Ok p) → Goes d w (NextEnumerator before) p.1.now o → Goes d w (MoreEnumerators before) ts o
 next_step {d} {w} {before} {p} {ts} o e t k = by (type_rule types.enumerators_more) refl (if_false _ e) (take t (tail_next o k))
-
--- one more enumerator
-pub enumerator_step : {d : ℕ} {w : Scene} {before longer : EnumeratorTrees} {next : EnumeratorTree} {ts after : List Placed} (o : Outcome EnumeratorTrees) → first_is is_right_brace ts ≡ false → Goes d w AnEnumerator ts (Done next after) → longer ≡ enumerators_then before next → Goes d w (MoreEnumerators longer) after o → Goes d w (NextEnumerator before) ts o
-enumerator_step {d} {w} {before} {longer} {next} {ts} {after} o e g h k = by (type_rule types.enumerators_next) refl (if_false _ e) (here g (tail_enumerators o (enumerators_at h k)))
 
 -- whether specs tell a type
 or_false : (b : Bool) → (b || false) ≡ b

@@ -219,15 +219,6 @@ pub fn joined(
     Ok(Box::new(alloc, whole)?)
 }
 
-/// The list of this expression.
-pub fn one_expr(alloc: Global, first: Box<Expr>) -> Result<Vec<Expr>, AllocError>
-    ensures { IfOk result (λ v. exprs_from v.items ≡ more_exprs (boxed_expr first) no_exprs) }
-{
-    let mut items = Vec::new(alloc);
-    items.push(Box::into_inner(first))?;
-    Ok(items)
-}
-
 /// One more expression at the end.
 pub fn push_expr(items: &mut Vec<Expr>, next: Box<Expr>) -> Result<(), AllocError>
     ensures { IfOk result (λ _. exprs_from items.new.items ≡ exprs_then (exprs_from items.old.items) (boxed_expr next)) }

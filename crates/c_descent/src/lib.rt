@@ -21,7 +21,7 @@ pub use context::{Context, Setting};
 pub use copy::{byte_of, bytes_of, constant_of, name_of, push_bytes};
 pub use expr_node::{
     arrow_expr, assign_expr, call_expr, cast_expr, compound_expr, cond_expr, dot_expr,
-    enclosed_expr, index_expr, is_word, joined, one_expr, post_step_expr, pre_step_expr, push_expr,
+    enclosed_expr, index_expr, is_word, joined, post_step_expr, pre_step_expr, push_expr,
     sizeof_expr, sizeof_type, unary_expr,
 };
 pub use fault::Fault;
@@ -41,7 +41,7 @@ pub use type_kind::{
 };
 pub use type_node::{
     array_declarator, declared_word, empty_declarator, function_declarator, grouped_declarator,
-    is_given, is_type, one_declarator, one_enumerator, one_member, one_param, one_spec,
-    open_array_declarator, param_of, pointer_declarator, push_declarator, push_enumerator,
-    push_member, push_param, push_spec, specs_pos, valued_enumerator,
+    is_given, is_type, one_declarator, one_spec, open_array_declarator, param_of,
+    pointer_declarator, push_declarator, push_enumerator, push_member, push_param, push_spec,
+    specs_pos, valued_enumerator,
 };

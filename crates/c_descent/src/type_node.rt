@@ -252,30 +252,12 @@ pub fn push_spec(items: &mut Vec<Spec>, next: Spec) -> Result<(), AllocError>
     Ok(())
 }
 
-/// The list of this one.
-pub fn one_member(alloc: Global, first: MemberDecl) -> Result<Vec<MemberDecl>, AllocError>
-    ensures { IfOk result (λ v. memberdecls_from v.items ≡ more_members (memberdecl_tree first) no_members) }
-{
-    let mut items = Vec::new(alloc);
-    items.push(first)?;
-    Ok(items)
-}
-
 /// One more at the end.
 pub fn push_member(items: &mut Vec<MemberDecl>, next: MemberDecl) -> Result<(), AllocError>
     ensures { IfOk result (λ _. memberdecls_from items.new.items ≡ memberdecls_then (memberdecls_from items.old.items) (memberdecl_tree next)) }
 {
     items.push(next)?;
     Ok(())
-}
-
-/// The list of this one.
-pub fn one_enumerator(alloc: Global, first: Enumerator) -> Result<Vec<Enumerator>, AllocError>
-    ensures { IfOk result (λ v. enumerators_from v.items ≡ more_enumerators (enumerator_tree first) no_enumerators) }
-{
-    let mut items = Vec::new(alloc);
-    items.push(first)?;
-    Ok(items)
 }
 
 /// One more at the end.
@@ -301,15 +283,6 @@ pub fn push_declarator(items: &mut Vec<Declarator>, next: Box<Declarator>) -> Re
 {
     items.push(Box::into_inner(next))?;
     Ok(())
-}
-
-/// The list of this one.
-pub fn one_param(alloc: Global, first: Param) -> Result<Vec<Param>, AllocError>
-    ensures { IfOk result (λ v. params_from v.items ≡ more_params (param_tree first) no_params) }
-{
-    let mut items = Vec::new(alloc);
-    items.push(first)?;
-    Ok(items)
 }
 
 /// One more at the end.

@@ -12,7 +12,7 @@ use crate::exprs::conditional;
 use crate::types::specs;
 use c_descent::{
     Class, Context, DirectKind, Fault, Mark, Role, TailKind, array_declarator, barred, comes,
-    direct_at, function_declarator, grouped_declarator, is_given, name_of, one_param, param_of,
+    direct_at, function_declarator, grouped_declarator, is_given, name_of, param_of,
     plain_word_ahead, pointer_declarator, push_param, refused, tail_at, taken, type_name_ahead,
 };
 use c_leaves::{
@@ -270,40 +270,26 @@ fn parameters<'a>(
     if comes(Mark::Close, tokens) {
         return no_parameters(context, count, at, inner, tokens);
     }
-    let (first, rest) = read!(parameter(context, count, tokens));
-    let params = one_param(context.alloc, first)?;
-    more_parameters(context, count, at, inner, params, rest)
-}
-
-/// The parameters behind the first.
-#[cycle(descent)]
-fn more_parameters<'a>(
-    context: &Context<'_>,
-    count: u32,
-    at: Pos,
-    inner: Box<Declarator>,
-    before: Vec<Param>,
-    tokens: &'a [Placed],
-) -> Result<(Box<Declarator>, &'a [Placed]), Fault<'a>>
-    ensures goes { Answers count (scene_of context.now) (part.ADeclarator (part.MoreParameters at (boxed_declarator inner) (params_from before.items))) tokens.now (λ d. boxed_declarator d) result }
-    ensures shorter { IfOk result (λ x. length x.1.now < length tokens.now) }
-{
-    let mut params = before;
+    let mut params = Vec::new(context.alloc);
     let mut rest = tokens;
-    'others: while !comes(Mark::Close, rest) {
-        let (_comma, behind) = read!(taken(
-            context,
-            count,
-            0,
-            Class::Sign(Punctuator::Comma),
-            rest
-        ));
-        let (next, after) = read!(parameter(context, count, behind));
+    'all: loop {
+        let (next, after) = read!(parameter(context, count, rest));
         push_param(&mut params, next)?;
-        rest = after;
+        if comes(Mark::Close, after) {
+            let whole = function_declarator(context.alloc, at, inner, params);
+            return closed(
+                context,
+                count,
+                0,
+                Punctuator::RightParenthesis,
+                whole,
+                after,
+            );
+        }
+        let comma = Class::Sign(Punctuator::Comma);
+        let (_comma, behind) = read!(taken(context, count, 0, comma, after));
+        rest = behind;
     }
-    let whole = function_declarator(context.alloc, at, inner, params);
-    closed(context, count, 0, Punctuator::RightParenthesis, whole, rest)
 }
 
 /// A parameter.

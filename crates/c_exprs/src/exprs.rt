@@ -18,8 +18,8 @@ use c_descent::{
     AssignKind, Class, Context, Fault, Level, Mark, Operand, PrefixKind, PrimaryKind, Role,
     SuffixKind, assign_at, assign_expr, assign_sign, barred, barred_call, call_expr, cast_expr,
     comes, compound_expr, cond_expr, enclosed_expr, index_expr, joined, joint_at, joint_sign,
-    one_expr, operand_of, pre_step_expr, prefix_at, primary_at, push_expr, sizeof_expr,
-    sizeof_type, step_sign, suffix_at, taken, type_ahead, unary_expr, unary_sign,
+    operand_of, pre_step_expr, prefix_at, primary_at, push_expr, sizeof_expr, sizeof_type,
+    step_sign, suffix_at, taken, type_ahead, unary_expr, unary_sign,
 };
 use c_leaves::{
     calls_no_word, closed, handed, is_no_suffix, no_arguments, simple_primary, simple_suffix,
@@ -539,36 +539,24 @@ fn arguments<'a>(
     if comes(Mark::Close, tokens) {
         return no_arguments(context, count, tokens);
     }
-    let (first, rest) = read!(assignment(context, count, tokens));
-    let args = one_expr(context.alloc, first)?;
-    more_arguments(context, count, args, rest)
-}
-
-/// The arguments behind the first.
-#[cycle(descent)]
-fn more_arguments<'a>(
-    context: &Context<'_>,
-    count: u32,
-    before: Vec<Expr>,
-    tokens: &'a [Placed],
-) -> Result<(Exprs, &'a [Placed]), Fault<'a>>
-    ensures goes { Answers count (scene_of context.now) (part.MoreArguments (exprs_from before.items)) tokens.now (λ a. exprs_tree a) result }
-    ensures shorter { IfOk result (λ x. length x.1.now < length tokens.now) }
-{
-    let mut args = before;
+    let mut args = Vec::new(context.alloc);
     let mut rest = tokens;
-    'others: while !comes(Mark::Close, rest) {
-        let (_comma, behind) = read!(taken(
-            context,
-            count,
-            0,
-            Class::Sign(Punctuator::Comma),
-            rest
-        ));
-        let (next, after) = read!(assignment(context, count, behind));
+    'all: loop {
+        let (next, after) = read!(assignment(context, count, rest));
         push_expr(&mut args, next)?;
-        rest = after;
+        if comes(Mark::Close, after) {
+            let whole = Ok(Exprs::from_vec(args));
+            return closed(
+                context,
+                count,
+                0,
+                Punctuator::RightParenthesis,
+                whole,
+                after,
+            );
+        }
+        let comma = Class::Sign(Punctuator::Comma);
+        let (_comma, behind) = read!(taken(context, count, 0, comma, after));
+        rest = behind;
     }
-    let whole = Ok(Exprs::from_vec(args));
-    closed(context, count, 0, Punctuator::RightParenthesis, whole, rest)
 }

@@ -14,8 +14,8 @@ use crate::declarators::declarator;
 use crate::exprs::conditional;
 use c_descent::{
     Class, Context, Fault, Mark, Role, SpecKind, barred, comes, is_type, name_of, one_declarator,
-    one_enumerator, one_member, one_spec, push_declarator, push_enumerator, push_member, push_spec,
-    spec_ahead, spec_at, taken, valued_enumerator,
+    one_spec, push_declarator, push_enumerator, push_member, push_spec, spec_ahead, spec_at, taken,
+    valued_enumerator,
 };
 use c_leaves::{
     closed, comma_end, enumeration_head, enumeration_of, members_end, simple_spec, structure_head,
@@ -183,31 +183,17 @@ fn members<'a>(
     ensures goes { Answers count (scene_of context.now) part.Members tokens.now (λ m. memberdecls_tree m) result }
     ensures shorter { IfOk result (λ x. length x.1.now < length tokens.now) }
 {
-    let (first, rest) = read!(member(context, count, tokens));
-    let items = one_member(context.alloc, first)?;
-    more_members(context, count, items, rest)
-}
-
-/// The members behind the first.
-#[cycle(descent)]
-fn more_members<'a>(
-    context: &Context<'_>,
-    count: u32,
-    before: Vec<MemberDecl>,
-    tokens: &'a [Placed],
-) -> Result<(MemberDecls, &'a [Placed]), Fault<'a>>
-    ensures goes { Answers count (scene_of context.now) (part.MoreMembers (memberdecls_from before.items)) tokens.now (λ m. memberdecls_tree m) result }
-    ensures shorter { IfOk result (λ x. length x.1.now < length tokens.now) }
-{
-    let mut items = before;
+    let mut items = Vec::new(context.alloc);
     let mut rest = tokens;
-    'lines: while !comes(Mark::RightBrace, rest) {
+    'lines: loop {
         let (next, after) = read!(member(context, count, rest));
         push_member(&mut items, next)?;
+        if comes(Mark::RightBrace, after) {
+            let whole = Ok(MemberDecls::from_vec(items));
+            return closed(context, count, 0, Punctuator::RightBrace, whole, after);
+        }
         rest = after;
     }
-    let whole = Ok(MemberDecls::from_vec(items));
-    closed(context, count, 0, Punctuator::RightBrace, whole, rest)
 }
 
 /// Members that are declared together.
@@ -270,41 +256,22 @@ fn enumerators<'a>(
     ensures goes { Answers count (scene_of context.now) part.Enumerators tokens.now (λ e. enumerators_tree e) result }
     ensures shorter { IfOk result (λ x. length x.1.now < length tokens.now) }
 {
-    let (first, rest) = read!(enumerator(context, count, tokens));
-    let items = one_enumerator(context.alloc, first)?;
-    more_enumerators(context, count, items, rest)
-}
-
-/// The constants behind the first.
-#[cycle(descent)]
-fn more_enumerators<'a>(
-    context: &Context<'_>,
-    count: u32,
-    before: Vec<Enumerator>,
-    tokens: &'a [Placed],
-) -> Result<(Enumerators, &'a [Placed]), Fault<'a>>
-    ensures goes { Answers count (scene_of context.now) (part.MoreEnumerators (enumerators_from before.items)) tokens.now (λ e. enumerators_tree e) result }
-    ensures shorter { IfOk result (λ x. length x.1.now < length tokens.now) }
-{
-    let mut items = before;
+    let mut items = Vec::new(context.alloc);
     let mut rest = tokens;
-    'values: while !comes(Mark::RightBrace, rest) {
-        let (_comma, behind) = read!(taken(
-            context,
-            count,
-            0,
-            Class::Sign(Punctuator::Comma),
-            rest
-        ));
+    'values: loop {
+        let (next, after) = read!(enumerator(context, count, rest));
+        push_enumerator(&mut items, next)?;
+        if comes(Mark::RightBrace, after) {
+            let whole = Ok(Enumerators::from_vec(items));
+            return closed(context, count, 0, Punctuator::RightBrace, whole, after);
+        }
+        let comma = Class::Sign(Punctuator::Comma);
+        let (_comma, behind) = read!(taken(context, count, 0, comma, after));
         if comes(Mark::RightBrace, behind) {
             return comma_end(context, count, items, behind);
         }
-        let (next, after) = read!(enumerator(context, count, behind));
-        push_enumerator(&mut items, next)?;
-        rest = after;
+        rest = behind;
     }
-    let whole = Ok(Enumerators::from_vec(items));
-    closed(context, count, 0, Punctuator::RightBrace, whole, rest)
 }
 
 /// A constant of an enumeration.

@@ -118,9 +118,9 @@ tails_absent h g = tails_at (ap declarator_tree h ∙ declarator_absent) g
 pub parameters_at : {d : ℕ} {w : Scene} {at : Pos} {inner : DeclaratorTree} {a b : ParamTrees} {ts : List Placed} {o : Outcome DeclaratorTree} → a ≡ b → Goes d w (ADeclarator (MoreParameters at inner a)) ts o → Goes d w (ADeclarator (MoreParameters at inner b)) ts o
 parameters_at {d} {w} {at} {inner} {a} {b} {ts} {o} e g = subst (λ v. Goes d w (ADeclarator (MoreParameters at inner v)) ts o) e g
 
--- what its parameters stand behind is the same
-pub function_so : {d n : ℕ} {w : Scene} {x : DeclaratorPart} {c : Class} (at : Pos) {a b : Box Declarator Global} (params : ParamTrees) {ts : List Placed} {o : Outcome DeclaratorTree} → a ≡ b → Follows d w (ADeclarator x) (token n c (λ t. give (function_of at (boxed_declarator a) params))) ts o → Follows d w (ADeclarator x) (token n c (λ t. give (function_of at (boxed_declarator b) params))) ts o
-function_so {d} {n} {w} {x} {c} at {a} {b} params {ts} {o} e g = subst (λ v. Follows d w (ADeclarator x) (token n c (λ t. give (function_of at (boxed_declarator v) params))) ts o) e g
+-- what its parameters stand behind, and these, are the same
+pub function_so : {d n : ℕ} {w : Scene} {x : DeclaratorPart} {c : Class} (at : Pos) {a b : Box Declarator Global} {params all : ParamTrees} {ts : List Placed} {o : Outcome DeclaratorTree} → a ≡ b → params ≡ all → Follows d w (ADeclarator x) (token n c (λ t. give (function_of at (boxed_declarator a) params))) ts o → Follows d w (ADeclarator x) (token n c (λ t. give (function_of at (boxed_declarator b) all))) ts o
+function_so {d} {n} {w} {x} {c} at {a} {b} {params} {all} {ts} {o} e f g = subst (λ u. Follows d w (ADeclarator x) (token n c (λ t. give (function_of at (boxed_declarator b) u))) ts o) f (subst (λ v. Follows d w (ADeclarator x) (token n c (λ t. give (function_of at (boxed_declarator v) params))) ts o) e g)
 
 -- a last part, which is the whole
 pub tail_declarator : {d : ℕ} {w : Scene} {x y : DeclaratorPart} {ts : List Placed} (o : Outcome DeclaratorTree) → Goes d w (ADeclarator x) ts o → Follows d w (ADeclarator y) (part 0 w (ADeclarator x) give) ts o
@@ -130,10 +130,6 @@ tail_declarator (Stop why rest) g = stops_here g
 -- a word `const` behind a star
 pub const_step : {d : ℕ} {w : Scene} {r : Role} {at : Pos} {before : Bool} {p : Bor Placed × Bor (List Placed)} {ts : List Placed} (o : Outcome DeclaratorTree) → first_is is_const_word ts ≡ true → Takes d w 0 (keyword keywords.Const) ts (Ok p) → Goes d w (ADeclarator (Pointed r at true)) p.1.now o → Goes d w (ADeclarator (Pointed r at before)) ts o
 const_step o e t k = by (type_rule types.pointer_const) refl (if_true _ e) (take t (tail_declarator o k))
-
--- one more parameter
-pub parameter_step : {d : ℕ} {w : Scene} {at : Pos} {inner : DeclaratorTree} {before longer : ParamTrees} {next : ParamTree} {p : Bor Placed × Bor (List Placed)} {ts after : List Placed} (o : Outcome DeclaratorTree) → first_is is_close ts ≡ false → Takes d w 0 (sign signs.Comma) ts (Ok p) → Goes d w Parameter p.1.now (Done next after) → longer ≡ params_then before next → Goes d w (ADeclarator (MoreParameters at inner longer)) after o → Goes d w (ADeclarator (MoreParameters at inner before)) ts o
-parameter_step {d} {w} {at} {inner} {before} {longer} {next} {p} {ts} {after} o e t g h k = by (type_rule types.parameters_more) refl (if_false _ e) (take t (here g (tail_declarator o (parameters_at h k))))
 
 pub both_true : {a b : Bool} → a ≡ true → b ≡ true → (a && b) ≡ true
 both_true {a} {b} e f = subst (λ v. (v && b) ≡ true) (sym e) f

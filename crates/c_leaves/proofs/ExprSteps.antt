@@ -103,10 +103,9 @@ pub tail_arguments : {d : ℕ} {w s : Scene} {a b : ExprTrees} {ts : List Placed
 tail_arguments (Done a mid) g = here g is_done
 tail_arguments (Stop why rest) g = stops_here g
 
--- one more argument
-pub argument_step : {d : ℕ} {w : Scene} {before longer : ExprTrees} {next : ExprTree} {p : Bor Placed × Bor (List Placed)} {ts after : List Placed} (o : Outcome ExprTrees) → first_is is_close ts ≡ false → Takes d w 0 (sign signs.Comma) ts (Ok p) → Goes d w (AnExpr Assignment) p.1.now (Done next after) → longer ≡ exprs_then before next → Goes d w (MoreArguments longer) after o → Goes d w (MoreArguments before) ts o
-argument_step {d} {w} {before} {longer} {next} {p} {ts} {after} o e t g h k =
-    by (expr_rule exprs.arguments_more) refl (if_false _ e) (take t (here g (tail_arguments o (arguments_at h k))))
+pub tail_first : {d : ℕ} {w : Scene} {a : ExprTrees} {ts : List Placed} (o : Outcome ExprTrees) → Goes d w (MoreArguments a) ts o → Follows d w Arguments (part 0 w (MoreArguments a) give) ts o
+tail_first (Done v mid) g = here g is_done
+tail_first (Stop why rest) g = stops_here g
 
 -- a stop behind a joint that comes
 pub joint_stop : {d : ℕ} {w : Scene} {l : parts.Level} {j : parts.Joint} {left : ExprTree} {ts : List Placed} {f : Fault} → joint_here l ts ≡ Some j → ReadsBehind d w (joint_sign j) (operand l) ts (Err f) → Halts (λ why rest. Goes d w (AnExpr (More l left)) ts (Stop why rest)) f

@@ -1,4 +1,5 @@
 pub mod DeclaratorSteps
 pub mod EndSteps
 pub mod ExprSteps
+pub mod Listings
 pub mod TagSteps

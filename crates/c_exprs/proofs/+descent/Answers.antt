@@ -13,11 +13,12 @@ use Rattle.c_descent.specs.Answers.{given, halted, stalled, stepped}
 use Rattle.c_descent.proofs.Steps.{relayed, halts, failed, starved, stalls, starves, answer, halt, take, refuse, step, stall, stopped, by, here, stops_here, done, if_true, if_false, borne, unborne, sign_is}
 use Rattle.c_descent.proofs.Choices.{primary_is, prefix_is, suffix_is, assign_is, more_is}
 use Rattle.c_leaves.proofs.EndSteps.{made_so, longer_so, closed_so, longer_closed, led}
-use Rattle.c_leaves.proofs.ExprSteps.{operand_at, not_question, is_question_ahead, suffix_free, tail_expr, suffixes_at, behind_sign, joint_step, joint_stop, argument_step, arguments_at, and_left, rebased, nothing_of, call_by, no_joint}
+use Rattle.c_leaves.proofs.ExprSteps.{operand_at, not_question, is_question_ahead, suffix_free, tail_expr, suffixes_at, behind_sign, joint_step, joint_stop, and_left, rebased, nothing_of, call_by, no_joint}
+use Rattle.c_leaves.proofs.Listings.{goes_behind, not_read, first_argument, next_argument, first_member, next_member, first_enumerator, next_enumerator, comma_behind, first_parameter, next_parameter}
 use Rattle.c_leaves.proofs.TagSteps.{structure_alone, structure_braces, enumeration_alone, enumeration_braces}
 use Rattle.c_grammar.specs.Made.{function_of}
-use Rattle.c_descent.proofs.TypeSteps.{specs_at, members_at, declarators_at, enumerators_at, value_at, again_is, spec_step, member_step, declarator_step, next_step, enumerator_step, carried, one_type, more_type}
-use Rattle.c_leaves.proofs.DeclaratorSteps.{direct_is, tail_is, no_tail, tails_at, tails_named, tails_absent, parameters_at, function_so, tail_declarator, parameter_step, regiven, renamed, both_true, first_false}
+use Rattle.c_descent.proofs.TypeSteps.{specs_at, declarators_at, value_at, again_is, spec_step, declarator_step, next_step, carried, one_type, more_type}
+use Rattle.c_leaves.proofs.DeclaratorSteps.{direct_is, tail_is, no_tail, tails_at, tails_named, tails_absent, function_so, tail_declarator, regiven, renamed, both_true, first_false}
 use Rattle.c_exprs.proofs.+descent.Goals as goal
 
 pub exprs::run-returns-in-Err-clause-goes : goal.exprs::run-returns-in-Err-clause-goes
@@ -188,30 +189,6 @@ exprs::suffixes-returns-in-Err-clause-goes t c = halted (halts (stall c.in-Err.e
 pub exprs::suffixes-forms-preserved : goal.exprs::suffixes-forms-preserved
 exprs::suffixes-forms-preserved t c = ((λ o g. c.forms.invariant.0 o (step c.in-Ok.ensures.goes o g)), omega (arith, c.in-Ok.ensures.shorter))
 
-pub exprs::arguments-returns-in-Err-clause-goes : goal.exprs::arguments-returns-in-Err-clause-goes
-exprs::arguments-returns-in-Err-clause-goes t c = halted (halts (halt c.in-Err.ensures.goes) (λ why rest g. by (expr_rule rule.arguments) refl (if_false _ (sym c.if-comes.ensures)) (stops_here g)))
-
-pub exprs::arguments-returns-in_err-args-clause-goes : goal.exprs::arguments-returns-in_err-args-clause-goes
-exprs::arguments-returns-in_err-args-clause-goes t c = starved c.from_residual.ensures.1
-
-pub exprs::arguments-returns-clause-goes : goal.exprs::arguments-returns-clause-goes
-exprs::arguments-returns-clause-goes t c = relayed c.more_arguments.ensures.goes (λ x g. by (expr_rule rule.arguments) refl (if_false _ (sym c.if-comes.ensures)) (here (answer c.in-Ok.ensures.goes) (here (arguments_at c.in_ok-args.ensures g) is_done))) (λ why rest g. by (expr_rule rule.arguments) refl (if_false _ (sym c.if-comes.ensures)) (here (answer c.in-Ok.ensures.goes) (stops_here (arguments_at c.in_ok-args.ensures g))))
-
-pub exprs::more_arguments-returns-in-Err-clause-goes : goal.exprs::more_arguments-returns-in-Err-clause-goes
-exprs::more_arguments-returns-in-Err-clause-goes t c = halted (halts (refuse c.in-Err.ensures.goes) (λ why rest g. c.others.invariant.0 _ (by (expr_rule rule.arguments_more) refl (if_false _ (sym c.others-test.ensures)) (g _ _))))
-
-pub exprs::more_arguments-returns-in-Err-assignment-clause-goes : goal.exprs::more_arguments-returns-in-Err-assignment-clause-goes
-exprs::more_arguments-returns-in-Err-assignment-clause-goes t c = halted (halts (halt c.in-Err-assignment.ensures.goes) (λ why rest g. c.others.invariant.0 _ (by (expr_rule rule.arguments_more) refl (if_false _ (sym c.others-test.ensures)) (take c.in-Ok.ensures.goes (stops_here g)))))
-
-pub exprs::more_arguments-returns-in_err-push_expr-clause-goes : goal.exprs::more_arguments-returns-in_err-push_expr-clause-goes
-exprs::more_arguments-returns-in_err-push_expr-clause-goes t c = starved c.from_residual.ensures.1
-
-pub exprs::more_arguments-others-preserved : goal.exprs::more_arguments-others-preserved
-exprs::more_arguments-others-preserved t c = ((λ o g. c.others.invariant.0 o (argument_step o (sym c.others-test.ensures) c.in-Ok.ensures.goes (answer c.in-Ok-assignment.ensures.goes) c.in_ok-push_expr.ensures g)), omega (arith, c.in-Ok.ensures.shorter, c.in-Ok-assignment.ensures.shorter))
-
-pub exprs::more_arguments-returns-clause-goes : goal.exprs::more_arguments-returns-clause-goes
-exprs::more_arguments-returns-clause-goes t c = closed_so (λ o g. c.others.invariant.0 o (by (expr_rule rule.arguments_end) refl (if_true _ (sym c.others-test.ensures)) g)) c.from_vec.ensures c.closed.ensures.goes
-
 pub exprs::call-returns-in-Err-clause-goes : goal.exprs::call-returns-in-Err-clause-goes
 exprs::call-returns-in-Err-clause-goes t c = stalled (halts (refuse c.in-Err.ensures.goes) (λ why rest g. suffixes_at (sym c.word_of-name.ensures) (call_by c.requires.0 (g _ _))))
 
@@ -311,27 +288,6 @@ types::more_specs-returns-in_err-push_spec-clause-goes t c = starved c.from_resi
 pub types::more_specs-words-preserved : goal.types::more_specs-words-preserved
 types::more_specs-words-preserved t c = ((λ o g. c.words.invariant.0 o (spec_step o (unborne _ (again_is _ c.words.invariant.1 (sym c.if-type_comes_again.ensures))) (sym c.if-not-spec_ahead.ensures) (answer c.in-Ok.ensures.goes) c.in_ok-push_spec.ensures g)), more_type _ _ c.tells_type-has_type.ensures c.words.invariant.1 c.in_ok-push_spec.ensures, omega (arith, c.in-Ok.ensures.shorter))
 
-pub types::members-returns-in-Err-clause-goes : goal.types::members-returns-in-Err-clause-goes
-types::members-returns-in-Err-clause-goes t c = halted (halts (halt c.in-Err.ensures.goes) (λ why rest g. by (type_rule kind.members) (refl) (refl) (stops_here g)))
-
-pub types::members-returns-in_err-items-clause-goes : goal.types::members-returns-in_err-items-clause-goes
-types::members-returns-in_err-items-clause-goes t c = starved c.from_residual.ensures.1
-
-pub types::members-returns-clause-goes : goal.types::members-returns-clause-goes
-types::members-returns-clause-goes t c = relayed c.more_members.ensures.goes (λ x g. by (type_rule kind.members) (refl) (refl) (here (answer c.in-Ok.ensures.goes) (here (members_at c.in_ok-items.ensures g) (is_done)))) (λ why rest g. by (type_rule kind.members) (refl) (refl) (here (answer c.in-Ok.ensures.goes) (stops_here (members_at c.in_ok-items.ensures g))))
-
-pub types::more_members-returns-in-Err-clause-goes : goal.types::more_members-returns-in-Err-clause-goes
-types::more_members-returns-in-Err-clause-goes t c = halted (halts (halt c.in-Err.ensures.goes) (λ why rest g. c.lines.invariant.0 _ (by (type_rule kind.members_more) (refl) (if_false _ (sym c.lines-test.ensures)) (stops_here g))))
-
-pub types::more_members-returns-in_err-push_member-clause-goes : goal.types::more_members-returns-in_err-push_member-clause-goes
-types::more_members-returns-in_err-push_member-clause-goes t c = starved c.from_residual.ensures.1
-
-pub types::more_members-returns-clause-goes : goal.types::more_members-returns-clause-goes
-types::more_members-returns-clause-goes t c = closed_so (λ o g. c.lines.invariant.0 o (by (type_rule kind.members_end) (refl) (if_true _ (sym c.lines-test.ensures)) g)) c.from_vec.ensures c.closed.ensures.goes
-
-pub types::more_members-lines-preserved : goal.types::more_members-lines-preserved
-types::more_members-lines-preserved t c = ((λ o g. c.lines.invariant.0 o (member_step o (sym c.lines-test.ensures) (answer c.in-Ok.ensures.goes) c.in_ok-push_member.ensures g)), omega (arith, c.in-Ok.ensures.shorter))
-
 pub types::member-returns-in-Err-clause-goes : goal.types::member-returns-in-Err-clause-goes
 types::member-returns-in-Err-clause-goes t c = halted (halts (halt c.in-Err.ensures.goes) (λ why rest g. by (type_rule kind.member) (refl) (refl) (stops_here g)))
 
@@ -361,33 +317,6 @@ types::more_declarators-returns-in_err-push_declarator-clause-goes t c = starved
 
 pub types::more_declarators-others-preserved : goal.types::more_declarators-others-preserved
 types::more_declarators-others-preserved t c = ((λ o g. c.others.invariant.0 o (declarator_step o (sym c.if-comes.ensures) (sym c.if-comes-2.ensures) c.in-Ok.ensures.goes (answer c.in-Ok-declarator.ensures.goes) c.in_ok-push_declarator.ensures g)), omega (arith, c.in-Ok.ensures.shorter, c.in-Ok-declarator.ensures.shorter))
-
-pub types::enumerators-returns-in-Err-clause-goes : goal.types::enumerators-returns-in-Err-clause-goes
-types::enumerators-returns-in-Err-clause-goes t c = halted (halts (halt c.in-Err.ensures.goes) (λ why rest g. by (type_rule kind.enumerators) (refl) (refl) (stops_here g)))
-
-pub types::enumerators-returns-in_err-items-clause-goes : goal.types::enumerators-returns-in_err-items-clause-goes
-types::enumerators-returns-in_err-items-clause-goes t c = starved c.from_residual.ensures.1
-
-pub types::enumerators-returns-clause-goes : goal.types::enumerators-returns-clause-goes
-types::enumerators-returns-clause-goes t c = relayed c.more_enumerators.ensures.goes (λ x g. by (type_rule kind.enumerators) (refl) (refl) (here (answer c.in-Ok.ensures.goes) (here (enumerators_at c.in_ok-items.ensures g) (is_done)))) (λ why rest g. by (type_rule kind.enumerators) (refl) (refl) (here (answer c.in-Ok.ensures.goes) (stops_here (enumerators_at c.in_ok-items.ensures g))))
-
-pub types::more_enumerators-returns-in-Err-clause-goes : goal.types::more_enumerators-returns-in-Err-clause-goes
-types::more_enumerators-returns-in-Err-clause-goes t c = halted (halts (refuse c.in-Err.ensures.goes) (λ why rest g. c.values.invariant.0 _ (by (type_rule kind.enumerators_more) (refl) (if_false _ (sym c.values-test.ensures)) (g _ _))))
-
-pub types::more_enumerators-returns-in-Err-enumerator-clause-goes : goal.types::more_enumerators-returns-in-Err-enumerator-clause-goes
-types::more_enumerators-returns-in-Err-enumerator-clause-goes t c = halted (halts (halt c.in-Err-enumerator.ensures.goes) (λ why rest g. c.values.invariant.0 _ (next_step _ (sym c.values-test.ensures) c.in-Ok.ensures.goes (by (type_rule kind.enumerators_next) refl (if_false _ (sym c.if-comes.ensures)) (stops_here g)))))
-
-pub types::more_enumerators-returns-in_err-push_enumerator-clause-goes : goal.types::more_enumerators-returns-in_err-push_enumerator-clause-goes
-types::more_enumerators-returns-in_err-push_enumerator-clause-goes t c = starved c.from_residual.ensures.1
-
-pub types::more_enumerators-returns-then-comes-clause-goes : goal.types::more_enumerators-returns-then-comes-clause-goes
-types::more_enumerators-returns-then-comes-clause-goes t c = carried c.comma_end.ensures.goes (λ o g. c.values.invariant.0 o (next_step o (sym c.values-test.ensures) c.in-Ok.ensures.goes g))
-
-pub types::more_enumerators-values-preserved : goal.types::more_enumerators-values-preserved
-types::more_enumerators-values-preserved t c = ((λ o g. c.values.invariant.0 o (next_step o (sym c.values-test.ensures) c.in-Ok.ensures.goes (enumerator_step o (sym c.if-comes.ensures) (answer c.in-Ok-enumerator.ensures.goes) c.in_ok-push_enumerator.ensures g))), omega (arith, c.in-Ok.ensures.shorter, c.in-Ok-enumerator.ensures.shorter))
-
-pub types::more_enumerators-returns-clause-goes : goal.types::more_enumerators-returns-clause-goes
-types::more_enumerators-returns-clause-goes t c = closed_so (λ o g. c.values.invariant.0 o (by (type_rule kind.enumerators_end) (refl) (if_true _ (sym c.values-test.ensures)) g)) c.from_vec.ensures c.closed.ensures.goes
 
 pub types::enumerator-returns-in-Err-clause-goes : goal.types::enumerator-returns-in-Err-clause-goes
 types::enumerator-returns-in-Err-clause-goes t c = halted (halts (refuse c.in-Err.ensures.goes) (λ why rest g. by (type_rule kind.enumerator) (refl) (refl) (g _ _)))
@@ -503,30 +432,6 @@ declarators::size-returns-in-Err-clause-goes t c = halted (halts (halt c.in-Err.
 pub declarators::size-returns-clause-goes : goal.declarators::size-returns-clause-goes
 declarators::size-returns-clause-goes t c = closed_so (λ o g. by (type_rule kind.size) (unborne _ (first_false _ (sym c.if-comes.ensures))) (if_false _ (sym c.if-comes.ensures)) (here (answer c.in-Ok.ensures.goes) g)) c.array_declarator-whole.ensures c.closed.ensures.goes
 
-pub declarators::parameters-returns-in-Err-clause-goes : goal.declarators::parameters-returns-in-Err-clause-goes
-declarators::parameters-returns-in-Err-clause-goes t c = halted (halts (halt c.in-Err.ensures.goes) (λ why rest g. by (type_rule kind.parameters) (refl) (if_false _ (sym c.if-comes.ensures)) (stops_here g)))
-
-pub declarators::parameters-returns-in_err-params-clause-goes : goal.declarators::parameters-returns-in_err-params-clause-goes
-declarators::parameters-returns-in_err-params-clause-goes t c = starved c.from_residual.ensures.1
-
-pub declarators::parameters-returns-clause-goes : goal.declarators::parameters-returns-clause-goes
-declarators::parameters-returns-clause-goes t c = relayed c.more_parameters.ensures.goes (λ x g. by (type_rule kind.parameters) (refl) (if_false _ (sym c.if-comes.ensures)) (here (answer c.in-Ok.ensures.goes) (here (parameters_at c.in_ok-params.ensures g) (is_done)))) (λ why rest g. by (type_rule kind.parameters) (refl) (if_false _ (sym c.if-comes.ensures)) (here (answer c.in-Ok.ensures.goes) (stops_here (parameters_at c.in_ok-params.ensures g))))
-
-pub declarators::more_parameters-returns-in-Err-clause-goes : goal.declarators::more_parameters-returns-in-Err-clause-goes
-declarators::more_parameters-returns-in-Err-clause-goes t c = halted (halts (refuse c.in-Err.ensures.goes) (λ why rest g. c.others.invariant.0 _ (by (type_rule kind.parameters_more) (refl) (if_false _ (sym c.others-test.ensures)) (g _ _))))
-
-pub declarators::more_parameters-returns-in-Err-parameter-clause-goes : goal.declarators::more_parameters-returns-in-Err-parameter-clause-goes
-declarators::more_parameters-returns-in-Err-parameter-clause-goes t c = halted (halts (halt c.in-Err-parameter.ensures.goes) (λ why rest g. c.others.invariant.0 _ (by (type_rule kind.parameters_more) (refl) (if_false _ (sym c.others-test.ensures)) (take c.in-Ok.ensures.goes (stops_here g)))))
-
-pub declarators::more_parameters-returns-in_err-push_param-clause-goes : goal.declarators::more_parameters-returns-in_err-push_param-clause-goes
-declarators::more_parameters-returns-in_err-push_param-clause-goes t c = starved c.from_residual.ensures.1
-
-pub declarators::more_parameters-others-preserved : goal.declarators::more_parameters-others-preserved
-declarators::more_parameters-others-preserved t c = ((λ o g. c.others.invariant.0 o (parameter_step o (sym c.others-test.ensures) c.in-Ok.ensures.goes (answer c.in-Ok-parameter.ensures.goes) c.in_ok-push_param.ensures g)), c.others.invariant.1, omega (arith, c.in-Ok.ensures.shorter, c.in-Ok-parameter.ensures.shorter))
-
-pub declarators::more_parameters-returns-clause-goes : goal.declarators::more_parameters-returns-clause-goes
-declarators::more_parameters-returns-clause-goes t c = closed_so (λ o g. c.others.invariant.0 o (by (type_rule kind.parameters_end) (refl) (if_true _ (sym c.others-test.ensures)) (function_so c.args.at (trees.params_from c.others.params.items) c.others.invariant.1 g))) c.function_declarator-whole.ensures c.closed.ensures.goes
-
 pub declarators::parameter-returns-then-plain_word_ahead-clause-goes : goal.declarators::parameter-returns-then-plain_word_ahead-clause-goes
 declarators::parameter-returns-then-plain_word_ahead-clause-goes t c = halted (stopped c.barred.ensures (is_barred (borne _ (sym c.if-plain_word_ahead.ensures))))
 
@@ -538,3 +443,75 @@ declarators::parameter-returns-in-Err-declarator-clause-goes t c = halted (halts
 
 pub declarators::parameter-returns-clause-goes : goal.declarators::parameter-returns-clause-goes
 declarators::parameter-returns-clause-goes t c = given (by (type_rule kind.parameter) (unborne _ (sym c.if-plain_word_ahead.ensures)) (refl) (here (answer c.in-Ok.ensures.goes) (here (answer c.in-Ok-declarator.ensures.goes) (done c.param_of.ensures))))
+
+pub exprs::arguments-all-init : goal.exprs::arguments-all-init
+exprs::arguments-all-init t c = (first_argument (sym c.if-comes.ensures) c.new-args.ensures.items, omega arith)
+
+pub exprs::arguments-returns-in-Err-clause-goes : goal.exprs::arguments-returns-in-Err-clause-goes
+exprs::arguments-returns-in-Err-clause-goes t c = not_read c.all.invariant.0 c.in-Err.ensures.goes
+
+pub exprs::arguments-returns-in_err-push_expr-clause-goes : goal.exprs::arguments-returns-in_err-push_expr-clause-goes
+exprs::arguments-returns-in_err-push_expr-clause-goes t c = starved c.from_residual.ensures.1
+
+pub exprs::arguments-returns-then-comes-2-clause-goes : goal.exprs::arguments-returns-then-comes-2-clause-goes
+exprs::arguments-returns-then-comes-2-clause-goes t c = closed_so (λ o g. goes_behind c.all.invariant.0 c.in-Ok.ensures.goes o (by (expr_rule rule.arguments_end) refl (if_true _ (sym c.if-comes-2.ensures)) g)) (c.from_vec.ensures ∙ c.in_ok-push_expr.ensures) c.closed.ensures.goes
+
+pub exprs::arguments-returns-in-Err-taken-clause-goes : goal.exprs::arguments-returns-in-Err-taken-clause-goes
+exprs::arguments-returns-in-Err-taken-clause-goes t c = halted (halts (refuse c.in-Err-taken.ensures.goes) (λ why rest g. goes_behind c.all.invariant.0 c.in-Ok.ensures.goes _ (by (expr_rule rule.arguments_more) refl (if_false _ (sym c.if-comes-2.ensures)) (g _ _))))
+
+pub exprs::arguments-all-preserved : goal.exprs::arguments-all-preserved
+exprs::arguments-all-preserved t c = (next_argument (sym c.if-comes-2.ensures) c.in-Ok-taken.ensures.goes c.in_ok-push_expr.ensures (λ o g. goes_behind c.all.invariant.0 c.in-Ok.ensures.goes o g), omega (arith, c.in-Ok.ensures.shorter, c.in-Ok-taken.ensures.shorter))
+
+pub types::members-lines-init : goal.types::members-lines-init
+types::members-lines-init t c = (first_member c.new-items.ensures.items, omega arith)
+
+pub types::members-returns-in-Err-clause-goes : goal.types::members-returns-in-Err-clause-goes
+types::members-returns-in-Err-clause-goes t c = not_read c.lines.invariant.0 c.in-Err.ensures.goes
+
+pub types::members-returns-in_err-push_member-clause-goes : goal.types::members-returns-in_err-push_member-clause-goes
+types::members-returns-in_err-push_member-clause-goes t c = starved c.from_residual.ensures.1
+
+pub types::members-returns-then-comes-clause-goes : goal.types::members-returns-then-comes-clause-goes
+types::members-returns-then-comes-clause-goes t c = closed_so (λ o g. goes_behind c.lines.invariant.0 c.in-Ok.ensures.goes o (by (type_rule kind.members_end) refl (if_true _ (sym c.if-comes.ensures)) g)) (c.from_vec.ensures ∙ c.in_ok-push_member.ensures) c.closed.ensures.goes
+
+pub types::members-lines-preserved : goal.types::members-lines-preserved
+types::members-lines-preserved t c = (next_member (sym c.if-comes.ensures) c.in_ok-push_member.ensures (λ o g. goes_behind c.lines.invariant.0 c.in-Ok.ensures.goes o g), omega (arith, c.in-Ok.ensures.shorter))
+
+pub types::enumerators-values-init : goal.types::enumerators-values-init
+types::enumerators-values-init t c = (first_enumerator c.new-items.ensures.items, omega arith)
+
+pub types::enumerators-returns-in-Err-clause-goes : goal.types::enumerators-returns-in-Err-clause-goes
+types::enumerators-returns-in-Err-clause-goes t c = not_read c.values.invariant.0 c.in-Err.ensures.goes
+
+pub types::enumerators-returns-in_err-push_enumerator-clause-goes : goal.types::enumerators-returns-in_err-push_enumerator-clause-goes
+types::enumerators-returns-in_err-push_enumerator-clause-goes t c = starved c.from_residual.ensures.1
+
+pub types::enumerators-returns-then-comes-clause-goes : goal.types::enumerators-returns-then-comes-clause-goes
+types::enumerators-returns-then-comes-clause-goes t c = closed_so (λ o g. goes_behind c.values.invariant.0 c.in-Ok.ensures.goes o (by (type_rule kind.enumerators_end) refl (if_true _ (sym c.if-comes.ensures)) g)) (c.from_vec.ensures ∙ c.in_ok-push_enumerator.ensures) c.closed.ensures.goes
+
+pub types::enumerators-returns-in-Err-taken-clause-goes : goal.types::enumerators-returns-in-Err-taken-clause-goes
+types::enumerators-returns-in-Err-taken-clause-goes t c = halted (halts (refuse c.in-Err-taken.ensures.goes) (λ why rest g. goes_behind c.values.invariant.0 c.in-Ok.ensures.goes _ (by (type_rule kind.enumerators_more) refl (if_false _ (sym c.if-comes.ensures)) (g _ _))))
+
+pub types::enumerators-returns-then-comes-2-clause-goes : goal.types::enumerators-returns-then-comes-2-clause-goes
+types::enumerators-returns-then-comes-2-clause-goes t c = carried c.comma_end.ensures.goes (λ o g. goes_behind c.values.invariant.0 c.in-Ok.ensures.goes o (comma_behind o (sym c.if-comes.ensures) c.in-Ok-taken.ensures.goes c.in_ok-push_enumerator.ensures g))
+
+pub types::enumerators-values-preserved : goal.types::enumerators-values-preserved
+types::enumerators-values-preserved t c = (next_enumerator (sym c.if-comes-2.ensures) c.in_ok-push_enumerator.ensures (λ o g. goes_behind c.values.invariant.0 c.in-Ok.ensures.goes o (next_step o (sym c.if-comes.ensures) c.in-Ok-taken.ensures.goes g)), omega (arith, c.in-Ok.ensures.shorter, c.in-Ok-taken.ensures.shorter))
+
+pub declarators::parameters-all-init : goal.declarators::parameters-all-init
+declarators::parameters-all-init t c = (first_parameter (sym c.if-comes.ensures) c.new-params.ensures.items, refl, omega arith)
+
+pub declarators::parameters-returns-in-Err-clause-goes : goal.declarators::parameters-returns-in-Err-clause-goes
+declarators::parameters-returns-in-Err-clause-goes t c = not_read c.all.invariant.0 c.in-Err.ensures.goes
+
+pub declarators::parameters-returns-in_err-push_param-clause-goes : goal.declarators::parameters-returns-in_err-push_param-clause-goes
+declarators::parameters-returns-in_err-push_param-clause-goes t c = starved c.from_residual.ensures.1
+
+pub declarators::parameters-returns-then-comes-2-clause-goes : goal.declarators::parameters-returns-then-comes-2-clause-goes
+declarators::parameters-returns-then-comes-2-clause-goes t c = closed_so (λ o g. goes_behind c.all.invariant.0 c.in-Ok.ensures.goes o (by (type_rule kind.parameters_end) refl (if_true _ (sym c.if-comes-2.ensures)) (function_so c.args.at c.all.invariant.1 c.in_ok-push_param.ensures g))) c.function_declarator-whole.ensures c.closed.ensures.goes
+
+pub declarators::parameters-returns-in-Err-taken-clause-goes : goal.declarators::parameters-returns-in-Err-taken-clause-goes
+declarators::parameters-returns-in-Err-taken-clause-goes t c = halted (halts (refuse c.in-Err-taken.ensures.goes) (λ why rest g. goes_behind c.all.invariant.0 c.in-Ok.ensures.goes _ (by (type_rule kind.parameters_more) refl (if_false _ (sym c.if-comes-2.ensures)) (g _ _))))
+
+pub declarators::parameters-all-preserved : goal.declarators::parameters-all-preserved
+declarators::parameters-all-preserved t c = (next_parameter (sym c.if-comes-2.ensures) c.in-Ok-taken.ensures.goes c.in_ok-push_param.ensures (λ o g. goes_behind c.all.invariant.0 c.in-Ok.ensures.goes o g), c.all.invariant.1, omega (arith, c.in-Ok.ensures.shorter, c.in-Ok-taken.ensures.shorter))

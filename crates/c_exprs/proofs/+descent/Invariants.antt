@@ -1,8 +1,9 @@
 use Rattle.std.proofs.Common.{◌+◌, ◌*◌, ◌≤◌, length, ◌≡◌}
-use Rattle.c_written.specs.Written.{ExprTree, ExprTrees, exprs_from, DeclaratorTree, EnumeratorTrees, MemberDeclTree, MemberDeclTrees, SpecTrees, declarators_from, enumerators_from, memberdecls_from, params_from, specs_from, specs_tree}
+use Rattle.c_written.specs.Written.{ExprTree, ExprTrees, exprs_from, exprs_then, DeclaratorTree, EnumeratorTrees, MemberDeclTree, MemberDeclTrees, SpecTrees, declarators_from, enumerators_from, enumerators_then, memberdecls_from, memberdecls_then, params_from, params_then, specs_from, specs_tree}
 use Rattle.c_grammar.specs.Parts as part
 use Rattle.c_grammar.specs.Descent.{Outcome, Goes}
 use Rattle.c_descent.specs.Views.{boxed_declarator, boxed_expr, scene_of, level_view, role_view}
+use Rattle.c_leaves.proofs.Listings.{Listing}
 use Rattle.c_exprs.proofs.Ranks.{rank}
 use Rattle.c_grammar.specs.Made.{has_type}
 use Rattle.c_exprs.proofs.+descent.Given as goal
@@ -79,9 +80,6 @@ decreases-exprs::more l = 64 * length l.tokens.now + 1
 abbrev pub decreases-exprs::arguments : goal.decreases-exprs::arguments
 decreases-exprs::arguments l = 64 * length l.tokens.now + 32
 
-abbrev pub decreases-exprs::more_arguments : goal.decreases-exprs::more_arguments
-decreases-exprs::more_arguments l = 64 * length l.tokens.now + 0
-
 abbrev pub decreases-types::spec : goal.decreases-types::spec
 decreases-types::spec l = 64 * length l.tokens.now + 1
 
@@ -109,9 +107,6 @@ decreases-types::members l = 64 * length l.tokens.now + 4
 abbrev pub decreases-types::member : goal.decreases-types::member
 decreases-types::member l = 64 * length l.tokens.now + 3
 
-abbrev pub decreases-types::more_members : goal.decreases-types::more_members
-decreases-types::more_members l = 64 * length l.tokens.now + 4
-
 abbrev pub decreases-types::more_declarators : goal.decreases-types::more_declarators
 decreases-types::more_declarators l = 64 * length l.tokens.now + 0
 
@@ -120,9 +115,6 @@ decreases-types::enumerators l = 64 * length l.tokens.now + 1
 
 abbrev pub decreases-types::enumerator : goal.decreases-types::enumerator
 decreases-types::enumerator l = 64 * length l.tokens.now + 0
-
-abbrev pub decreases-types::more_enumerators : goal.decreases-types::more_enumerators
-decreases-types::more_enumerators l = 64 * length l.tokens.now + 0
 
 abbrev pub decreases-types::enumerator_value : goal.decreases-types::enumerator_value
 decreases-types::enumerator_value l = 64 * length l.tokens.now + 0
@@ -163,9 +155,6 @@ decreases-declarators::size l = 64 * length l.tokens.now + 33
 abbrev pub decreases-declarators::parameters : goal.decreases-declarators::parameters
 decreases-declarators::parameters l = 64 * length l.tokens.now + 4
 
-abbrev pub decreases-declarators::more_parameters : goal.decreases-declarators::more_parameters
-decreases-declarators::more_parameters l = 64 * length l.tokens.now + 0
-
 abbrev pub decreases-declarators::parameter : goal.decreases-declarators::parameter
 decreases-declarators::parameter l = 64 * length l.tokens.now + 3
 
@@ -193,26 +182,12 @@ invariant-exprs::suffixes-forms l =
 abbrev pub decreases-exprs::suffixes-forms : goal.decreases-exprs::suffixes-forms
 decreases-exprs::suffixes-forms l = length l.rest
 
-abbrev pub invariant-exprs::more_arguments-others : goal.invariant-exprs::more_arguments-others
-invariant-exprs::more_arguments-others l =
-    ((o : Outcome ExprTrees) → Goes l.count (scene_of l.context) (part.MoreArguments (exprs_from l.args.items)) l.rest o → Goes l.count (scene_of l.context) (part.MoreArguments (exprs_from l.fn.before.items)) l.fn.tokens o) × (length l.rest ≤ length l.fn.tokens)
-
-abbrev pub decreases-exprs::more_arguments-others : goal.decreases-exprs::more_arguments-others
-decreases-exprs::more_arguments-others l = length l.rest
-
 abbrev pub invariant-types::more_specs-words : goal.invariant-types::more_specs-words
 invariant-types::more_specs-words l =
     ((o : Outcome SpecTrees) → Goes l.count (scene_of l.context) (part.MoreSpecs (specs_from l.items.items)) l.rest o → Goes l.count (scene_of l.context) (part.MoreSpecs (specs_from l.fn.before.items)) l.fn.tokens o) × (l.has_type ≡ has_type (specs_from l.items.items)) × (length l.rest ≤ length l.fn.tokens)
 
 abbrev pub decreases-types::more_specs-words : goal.decreases-types::more_specs-words
 decreases-types::more_specs-words l = length l.rest
-
-abbrev pub invariant-types::more_members-lines : goal.invariant-types::more_members-lines
-invariant-types::more_members-lines l =
-    ((o : Outcome MemberDeclTrees) → Goes l.count (scene_of l.context) (part.MoreMembers (memberdecls_from l.items.items)) l.rest o → Goes l.count (scene_of l.context) (part.MoreMembers (memberdecls_from l.fn.before.items)) l.fn.tokens o) × (length l.rest ≤ length l.fn.tokens)
-
-abbrev pub decreases-types::more_members-lines : goal.decreases-types::more_members-lines
-decreases-types::more_members-lines l = length l.rest
 
 abbrev pub invariant-types::more_declarators-others : goal.invariant-types::more_declarators-others
 invariant-types::more_declarators-others l =
@@ -221,13 +196,6 @@ invariant-types::more_declarators-others l =
 abbrev pub decreases-types::more_declarators-others : goal.decreases-types::more_declarators-others
 decreases-types::more_declarators-others l = length l.rest
 
-abbrev pub invariant-types::more_enumerators-values : goal.invariant-types::more_enumerators-values
-invariant-types::more_enumerators-values l =
-    ((o : Outcome EnumeratorTrees) → Goes l.count (scene_of l.context) (part.MoreEnumerators (enumerators_from l.items.items)) l.rest o → Goes l.count (scene_of l.context) (part.MoreEnumerators (enumerators_from l.fn.before.items)) l.fn.tokens o) × (length l.rest ≤ length l.fn.tokens)
-
-abbrev pub decreases-types::more_enumerators-values : goal.decreases-types::more_enumerators-values
-decreases-types::more_enumerators-values l = length l.rest
-
 abbrev pub invariant-declarators::tails-forms : goal.invariant-declarators::tails-forms
 invariant-declarators::tails-forms l =
     ((o : Outcome DeclaratorTree) → Goes l.count (scene_of l.context) (part.ADeclarator (part.Tails (role_view l.role) l.is_plain (boxed_declarator l.inner))) l.rest o → Goes l.count (scene_of l.context) (part.ADeclarator (part.Tails (role_view l.role) l.fn.plain (boxed_declarator l.fn.first))) l.fn.tokens o) × (length l.rest ≤ length l.fn.tokens)
@@ -235,9 +203,30 @@ invariant-declarators::tails-forms l =
 abbrev pub decreases-declarators::tails-forms : goal.decreases-declarators::tails-forms
 decreases-declarators::tails-forms l = length l.rest
 
-abbrev pub invariant-declarators::more_parameters-others : goal.invariant-declarators::more_parameters-others
-invariant-declarators::more_parameters-others l =
-    ((o : Outcome DeclaratorTree) → Goes l.count (scene_of l.context) (part.ADeclarator (part.MoreParameters l.at (boxed_declarator l.fn.inner) (params_from l.params.items))) l.rest o → Goes l.count (scene_of l.context) (part.ADeclarator (part.MoreParameters l.at (boxed_declarator l.fn.inner) (params_from l.fn.before.items))) l.fn.tokens o) × (l.inner ≡ l.fn.inner) × (length l.rest ≤ length l.fn.tokens)
+abbrev pub invariant-exprs::arguments-all : goal.invariant-exprs::arguments-all
+invariant-exprs::arguments-all l =
+    (Listing (part.AnExpr part.Assignment) (λ (o : Outcome ExprTrees). Goes l.count (scene_of l.context) part.Arguments l.fn.tokens o) l.count (scene_of l.context) (λ v after o. Goes l.count (scene_of l.context) (part.MoreArguments (exprs_then (exprs_from l.args.items) v)) after o) l.rest) × (length l.rest ≤ length l.fn.tokens)
 
-abbrev pub decreases-declarators::more_parameters-others : goal.decreases-declarators::more_parameters-others
-decreases-declarators::more_parameters-others l = length l.rest
+abbrev pub decreases-exprs::arguments-all : goal.decreases-exprs::arguments-all
+decreases-exprs::arguments-all l = length l.rest
+
+abbrev pub invariant-types::members-lines : goal.invariant-types::members-lines
+invariant-types::members-lines l =
+    (Listing part.AMember (λ (o : Outcome MemberDeclTrees). Goes l.count (scene_of l.context) part.Members l.fn.tokens o) l.count (scene_of l.context) (λ v after o. Goes l.count (scene_of l.context) (part.MoreMembers (memberdecls_then (memberdecls_from l.items.items) v)) after o) l.rest) × (length l.rest ≤ length l.fn.tokens)
+
+abbrev pub decreases-types::members-lines : goal.decreases-types::members-lines
+decreases-types::members-lines l = length l.rest
+
+abbrev pub invariant-types::enumerators-values : goal.invariant-types::enumerators-values
+invariant-types::enumerators-values l =
+    (Listing part.AnEnumerator (λ (o : Outcome EnumeratorTrees). Goes l.count (scene_of l.context) part.Enumerators l.fn.tokens o) l.count (scene_of l.context) (λ v after o. Goes l.count (scene_of l.context) (part.MoreEnumerators (enumerators_then (enumerators_from l.items.items) v)) after o) l.rest) × (length l.rest ≤ length l.fn.tokens)
+
+abbrev pub decreases-types::enumerators-values : goal.decreases-types::enumerators-values
+decreases-types::enumerators-values l = length l.rest
+
+abbrev pub invariant-declarators::parameters-all : goal.invariant-declarators::parameters-all
+invariant-declarators::parameters-all l =
+    (Listing part.Parameter (λ (o : Outcome DeclaratorTree). Goes l.count (scene_of l.context) (part.ADeclarator (part.Parameters l.at (boxed_declarator l.fn.inner))) l.fn.tokens o) l.count (scene_of l.context) (λ v after o. Goes l.count (scene_of l.context) (part.ADeclarator (part.MoreParameters l.at (boxed_declarator l.fn.inner) (params_then (params_from l.params.items) v))) after o) l.rest) × (l.inner ≡ l.fn.inner) × (length l.rest ≤ length l.fn.tokens)
+
+abbrev pub decreases-declarators::parameters-all : goal.decreases-declarators::parameters-all
+decreases-declarators::parameters-all l = length l.rest
