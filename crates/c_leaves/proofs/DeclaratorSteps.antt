@@ -10,15 +10,15 @@ use Rattle.c_written.specs.declared.token.Token.TheVariants as kinds
 use Rattle.c_written.specs.declared.written.Declarator.{Declarator}
 use Rattle.c_written.specs.declared.written.Declarator.TheVariants as declarators
 use Rattle.c_written.proofs.WrittenTrees.{declarator_absent, declarator_name}
-use Rattle.c_written.specs.Written.{DeclaratorTree, Absent, Name, declarator_tree, ParamTree, ParamTrees, params_then}
-use Rattle.c_grammar.specs.Parts.{Scene, Role, Naming, OfMember, OfParameter, OfTypeName, Pointed, Direct, Tails, MoreParameters, ADeclarator, DeclaratorPart, Parameter}
+use Rattle.c_written.specs.Written.{DeclaratorTree, Absent, Name, declarator_tree, ParamTrees}
+use Rattle.c_grammar.specs.Parts.{Scene, Role, Naming, OfMember, OfParameter, OfTypeName, Pointed, Direct, Tails, MoreParameters, ADeclarator, DeclaratorPart}
 use Rattle.c_grammar.specs.Process.{give, part, token}
-use Rattle.c_grammar.specs.Classes.{Class, sign, keyword, names_type}
+use Rattle.c_grammar.specs.Classes.{Class, keyword, names_type}
 use Rattle.c_grammar.specs.Made.{function_of, is_given}
 use Rattle.c_grammar.specs.Grammar.{type_rule}
 use Rattle.c_grammar.specs.TypeRules as types
 use Rattle.c_grammar.specs.TypeRules.{MayName, MayOmit}
-use Rattle.c_grammar.specs.Ahead.{is_close, no_group_ahead}
+use Rattle.c_grammar.specs.Ahead.{no_group_ahead}
 use Rattle.c_grammar.specs.Refused.{first_is}
 use Rattle.c_grammar.specs.Choice.{choose, direct_word_choice, is_const_word}
 use Rattle.c_grammar.specs.Descent.{Outcome, Done, Stop, Goes, Follows, is_done}
@@ -32,7 +32,7 @@ use Rattle.std.specs.declared.alloc.Global.{Global}
 use Rattle.std.specs.declared.boxed.Box.{Box}
 use Rattle.c_descent.specs.Kinds.{direct_at, direct_of, direct_of_word, is_no_tail, tail_at, tail_of, sign_of}
 use Rattle.c_descent.proofs.Choices.{Chosen}
-use Rattle.c_descent.proofs.Steps.{by, take, here, stops_here, if_true, if_false}
+use Rattle.c_descent.proofs.Steps.{by, take, here, stops_here, if_true}
 
 abbrev at_token : Pos → Token → List Placed → List Placed
 at_token at k ts = record { pos = at; token = k } ∷ ts

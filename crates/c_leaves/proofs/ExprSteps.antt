@@ -12,7 +12,7 @@ use Rattle.c_written.specs.declared.token.Token.{Token}
 use Rattle.c_written.specs.declared.token.Token.TheVariants as kinds
 use Rattle.c_written.specs.declared.written.Expr.{Expr}
 use Rattle.c_written.specs.declared.written.Expr.TheVariants as variants
-use Rattle.c_written.specs.Written.{expr_tree, ExprTree, ExprTrees, exprs_then, Word, Call}
+use Rattle.c_written.specs.Written.{expr_tree, ExprTree, ExprTrees, Word, Call}
 use Rattle.c_grammar.specs.Parts.{Scene, Part, Value, ExprPart, Run, More, Assignment, Cast, Suffixes, AnExpr, Arguments, MoreArguments}
 use Rattle.c_grammar.specs.Parts as parts
 use Rattle.c_grammar.specs.Process.{Process, give, token, part}
@@ -20,7 +20,7 @@ use Rattle.c_grammar.specs.Classes.{sign, joint_sign}
 use Rattle.c_grammar.specs.Grammar.{expr_rule, at_start}
 use Rattle.c_grammar.specs.ExprRules as exprs
 use Rattle.c_grammar.specs.ExprRules.{operand}
-use Rattle.c_grammar.specs.Ahead.{is_open, is_close}
+use Rattle.c_grammar.specs.Ahead.{is_open}
 use Rattle.c_grammar.specs.Refused.{first_is, where_true, part_construct}
 use Rattle.c_grammar.specs.Made.{is_word, joined}
 use Rattle.c_grammar.specs.Descent.{Outcome, Done, Stop, Goes, Follows, goes_on, stops, is_done}
@@ -31,13 +31,13 @@ use Rattle.c_descent.specs.declared.level.Operand.{Operand}
 use Rattle.c_descent.specs.declared.level.Operand.TheVariants as operands
 use Rattle.c_descent.specs.declared.level.Joint.{Joint}
 use Rattle.c_descent.specs.Views.{boxed_expr, level_view, joint_view, is_question}
-use Rattle.c_descent.specs.Answers.{Gives, Halts, Takes, SuffixComes}
+use Rattle.c_descent.specs.Answers.{Gives, Halts, SuffixComes}
 use Rattle.c_leaves.specs.Readers.{ReadsBehind}
 use Rattle.c_descent.specs.declared.kind.SuffixKind.{SuffixKind}
 use Rattle.c_descent.specs.declared.kind.SuffixKind.TheVariants as suffixes
 use Rattle.c_descent.specs.Kinds.{joint_here, operand_of, suffix_at, is_no_suffix}
 use Rattle.c_descent.proofs.Choices.{Chosen, MoreTells, more_is, SuffixTells, suffix_is}
-use Rattle.c_descent.proofs.Steps.{by, take, here, stops_here, if_false, halts, stall, step}
+use Rattle.c_descent.proofs.Steps.{by, here, stops_here, halts, stall, step}
 
 -- the operand as a part of an expression
 abbrev pub operand_part : Operand → ExprPart

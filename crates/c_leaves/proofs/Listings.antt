@@ -1,6 +1,6 @@
 -- Lists that are read part by part.
 use Rattle.std.proofs.Common.{◌≡◌, refl, subst, ap, ℕ, false, List, Bor}
-use Rattle.std.specs.Prelude.{[], Result, Ok, Err}
+use Rattle.std.specs.Prelude.{[], Ok, Err}
 use Rattle.c_written.specs.declared.place.Pos.{Pos}
 use Rattle.c_written.specs.declared.token.Placed.{Placed}
 use Rattle.c_written.specs.declared.token.Punctuator.TheVariants as signs

@@ -8,15 +8,14 @@ use Rattle.c_grammar.specs.Grammar.{expr_rule, type_rule}
 use Rattle.c_grammar.specs.ExprRules as rule
 use Rattle.c_grammar.specs.TypeRules as kind
 use Rattle.c_grammar.specs.Descent.{goes_on, stops, is_done, is_barred, no_rule, passes, fails}
-use Rattle.c_descent.specs.Views.{boxed_declarator, boxed_expr, scene_of, level_view}
+use Rattle.c_descent.specs.Views.{boxed_expr, scene_of, level_view}
 use Rattle.c_descent.specs.Answers.{given, halted, stalled, stepped}
-use Rattle.c_descent.proofs.Steps.{relayed, halts, failed, starved, stalls, starves, answer, halt, take, refuse, step, stall, stopped, by, here, stops_here, done, if_true, if_false, borne, unborne, sign_is}
+use Rattle.c_descent.proofs.Steps.{relayed, halts, starved, answer, halt, take, refuse, step, stall, stopped, by, here, stops_here, done, if_true, if_false, borne, unborne, sign_is}
 use Rattle.c_descent.proofs.Choices.{primary_is, prefix_is, suffix_is, assign_is, more_is}
 use Rattle.c_leaves.proofs.EndSteps.{made_so, longer_so, closed_so, longer_closed, led}
 use Rattle.c_leaves.proofs.ExprSteps.{operand_at, not_question, is_question_ahead, suffix_free, tail_expr, suffixes_at, behind_sign, joint_step, joint_stop, and_left, rebased, nothing_of, call_by, no_joint}
 use Rattle.c_leaves.proofs.Listings.{goes_behind, not_read, first_argument, next_argument, first_member, next_member, first_enumerator, next_enumerator, comma_behind, first_parameter, next_parameter}
 use Rattle.c_leaves.proofs.TagSteps.{structure_alone, structure_braces, enumeration_alone, enumeration_braces}
-use Rattle.c_grammar.specs.Made.{function_of}
 use Rattle.c_descent.proofs.TypeSteps.{specs_at, declarators_at, value_at, again_is, spec_step, declarator_step, next_step, carried, one_type, more_type}
 use Rattle.c_leaves.proofs.DeclaratorSteps.{direct_is, tail_is, no_tail, tails_at, tails_named, tails_absent, function_so, tail_declarator, regiven, renamed, both_true, first_false}
 use Rattle.c_exprs.proofs.+descent.Goals as goal
