@@ -125,7 +125,7 @@ pub value_at : {d : ℕ} {w : Scene} {at : Pos} {a b : List ℕ} {ts : List Plac
 value_at {d} {w} {at} {a} {b} {ts} {o} e g = subst (λ v. Goes d w (EnumeratorValue at v) ts o) e g
 
 -- a last part, which is the whole
-tail_specs : {d : ℕ} {w : Scene} {a b : SpecTrees} {ts : List Placed} (o : Outcome SpecTrees) → Goes d w (MoreSpecs a) ts o → Follows d w (MoreSpecs b) (part 0 w (MoreSpecs a) give) ts o
+pub tail_specs : {d : ℕ} {w : Scene} {a b : SpecTrees} {ts : List Placed} (o : Outcome SpecTrees) → Goes d w (MoreSpecs a) ts o → Follows d w (MoreSpecs b) (part 0 w (MoreSpecs a) give) ts o
 tail_specs (Done v mid) g = here g is_done
 tail_specs (Stop why rest) g = stops_here g
 
@@ -137,7 +137,7 @@ pub tail_lines : {d : ℕ} {w : Scene} {a : MemberDeclTrees} {ts : List Placed} 
 tail_lines (Done v mid) g = here g is_done
 tail_lines (Stop why rest) g = stops_here g
 
-tail_declarators : {d : ℕ} {w : Scene} {s : SpecTrees} {a b : DeclaratorTrees} {ts : List Placed} (o : Outcome MemberDeclTree) → Goes d w (MoreDeclarators s a) ts o → Follows d w (MoreDeclarators s b) (part 0 w (MoreDeclarators s a) give) ts o
+pub tail_declarators : {d : ℕ} {w : Scene} {s : SpecTrees} {a b : DeclaratorTrees} {ts : List Placed} (o : Outcome MemberDeclTree) → Goes d w (MoreDeclarators s a) ts o → Follows d w (MoreDeclarators s b) (part 0 w (MoreDeclarators s a) give) ts o
 tail_declarators (Done v mid) g = here g is_done
 tail_declarators (Stop why rest) g = stops_here g
 
@@ -152,14 +152,6 @@ tail_more (Stop why rest) g = stops_here g
 pub tail_next : {d : ℕ} {w : Scene} {b : EnumeratorTrees} {ts : List Placed} (o : Outcome EnumeratorTrees) → Goes d w (NextEnumerator b) ts o → Follows d w (MoreEnumerators b) (part 0 w (NextEnumerator b) give) ts o
 tail_next (Done v mid) g = here g is_done
 tail_next (Stop why rest) g = stops_here g
-
--- one more spec
-pub spec_step : {d : ℕ} {w : Scene} {before longer : SpecTrees} {next : SpecTree} {ts after : List Placed} (o : Outcome SpecTrees) → part_construct w (MoreSpecs before) ts ≡ None → spec_ahead w ts ≡ true → Goes d w (ASpec Spec) ts (Done next after) → longer ≡ specs_then before next → Goes d w (MoreSpecs longer) after o → Goes d w (MoreSpecs before) ts o
-spec_step {d} {w} {before} {longer} {next} {ts} {after} o n e g h k = by (type_rule types.specs_more) n (if_true _ e) (here g (tail_specs o (specs_at h k)))
-
--- one more declarator of members
-pub declarator_step : {d : ℕ} {w : Scene} {s : SpecTrees} {before longer : DeclaratorTrees} {next : DeclaratorTree} {p : Bor Placed × Bor (List Placed)} {ts after : List Placed} (o : Outcome MemberDeclTree) → first_is is_colon ts ≡ false → first_is is_semicolon ts ≡ false → Takes d w 0 (sign signs.Comma) ts (Ok p) → Goes d w (ADeclarator (Declarator OfMember)) p.1.now (Done next after) → longer ≡ declarators_then before next → Goes d w (MoreDeclarators s longer) after o → Goes d w (MoreDeclarators s before) ts o
-declarator_step {d} {w} {s} {before} {longer} {next} {p} {ts} {after} o n e t g h k = by (type_rule types.declarators_more) (unborne _ n) (if_false _ e) (take t (here g (tail_declarators o (declarators_at h k))))
 
 -- what follows a comma between enumerators
 pub next_step : {d : ℕ} {w : Scene} {before : EnumeratorTrees} {p : Bor Placed × Bor (List Placed)} {ts : List Placed} (o : Outcome EnumeratorTrees) → first_is is_right_brace ts ≡ false → Takes d w 0 (sign signs.Comma) ts (Ok p) → Goes d w (NextEnumerator before) p.1.now o → Goes d w (MoreEnumerators before) ts o
@@ -177,10 +169,6 @@ or_or false b c = refl
 -- a typedef name comes behind specs that tell a type, or not
 pub again_is : {a c d : Bool} (b : Bool) → a ≡ c → (b && a) ≡ d → (b && c) ≡ d
 again_is {a} {c} {d} b e f = subst (λ v. (b && v) ≡ d) e f
-
-pub one_type : {b : Bool} {first : SpecTree} {all : SpecTrees} → b ≡ is_type first → all ≡ more_specs first no_specs → b ≡ has_type all
-unfolding has_type
-one_type {b} {first} {all} e f = subst (λ v. b ≡ has_type v) (sym f) (e ∙ sym (or_false (is_type first)))
 
 then_type : (before : SpecTrees) (next : SpecTree) → (has_type before || is_type next) ≡ has_type (specs_then before next)
 unfolding has_type specs_then

@@ -41,7 +41,6 @@ pub use type_kind::{
 };
 pub use type_node::{
     array_declarator, declared_word, empty_declarator, function_declarator, grouped_declarator,
-    is_given, is_type, one_declarator, one_spec, open_array_declarator, param_of,
-    pointer_declarator, push_declarator, push_enumerator, push_member, push_param, push_spec,
-    specs_pos, valued_enumerator,
+    is_given, is_type, open_array_declarator, param_of, pointer_declarator, push_declarator,
+    push_enumerator, push_member, push_param, push_spec, specs_pos, valued_enumerator,
 };

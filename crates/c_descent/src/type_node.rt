@@ -235,15 +235,6 @@ pub fn param_of(specs: Specs, declarator: Box<Declarator>) -> Param
     }
 }
 
-/// The list of this one.
-pub fn one_spec(alloc: Global, first: Spec) -> Result<Vec<Spec>, AllocError>
-    ensures { IfOk result (λ v. specs_from v.items ≡ more_specs (spec_tree first) no_specs) }
-{
-    let mut items = Vec::new(alloc);
-    items.push(first)?;
-    Ok(items)
-}
-
 /// One more at the end.
 pub fn push_spec(items: &mut Vec<Spec>, next: Spec) -> Result<(), AllocError>
     ensures { IfOk result (λ _. specs_from items.new.items ≡ specs_then (specs_from items.old.items) (spec_tree next)) }
@@ -266,15 +257,6 @@ pub fn push_enumerator(items: &mut Vec<Enumerator>, next: Enumerator) -> Result<
 {
     items.push(next)?;
     Ok(())
-}
-
-/// The list of this one.
-pub fn one_declarator(alloc: Global, first: Box<Declarator>) -> Result<Vec<Declarator>, AllocError>
-    ensures { IfOk result (λ v. declarators_from v.items ≡ more_declarators (boxed_declarator first) no_declarators) }
-{
-    let mut items = Vec::new(alloc);
-    items.push(Box::into_inner(first))?;
-    Ok(items)
 }
 
 /// One more at the end.

@@ -12,13 +12,14 @@ use crate::exprs::conditional;
 use crate::types::specs;
 use c_descent::{
     Class, Context, DirectKind, Fault, Mark, Role, TailKind, array_declarator, barred, comes,
-    direct_at, function_declarator, grouped_declarator, is_given, name_of, param_of,
-    plain_word_ahead, pointer_declarator, push_param, refused, tail_at, taken, type_name_ahead,
+    direct_at, function_declarator, grouped_declarator, is_given, param_of, plain_word_ahead,
+    pointer_declarator, push_param, refused, tail_at, taken, type_name_ahead,
 };
 use c_leaves::{
-    calls_no_name, closed, consts, handed, is_no_tail, no_parameters, no_size, params_come,
+    calls_no_name, closed, consts, declared_name, handed, is_no_tail, no_parameters, no_size,
+    params_come,
 };
-use c_written::{Construct, Declarator, Name, Param, Placed, Pos, Punctuator};
+use c_written::{Construct, Declarator, Param, Placed, Pos, Punctuator};
 
 /// A declarator, or an abstract one.
 #[cycle(descent)]
@@ -96,10 +97,7 @@ fn named<'a>(
     ensures goes { Answers count (scene_of context.now) (part.ADeclarator (part.Direct (role_view role))) tokens.now (λ d. boxed_declarator d) result }
     ensures shorter { IfOk result (λ x. length x.1.now < length tokens.now) }
 {
-    let (word, behind) = read!(taken(context, count, 0, Class::Word, tokens));
-    let name = name_of(context.alloc, &word.token)?;
-    let pos = word.pos;
-    let first = Box::new(context.alloc, Declarator::Name { pos, name })?;
+    let (first, behind) = read!(declared_name(context, count, tokens));
     tails(context, role, count, true, first, behind)
 }
 
@@ -132,14 +130,14 @@ fn grouped<'a>(
     ensures shorter { IfOk result (λ x. length x.1.now < length tokens.now) }
 {
     let opens = Class::Sign(Punctuator::LeftParenthesis);
-    let closes = Class::Sign(Punctuator::RightParenthesis);
+    let closes = Punctuator::RightParenthesis;
     let (opening, behind) = read!(taken(context, count, 1, opens, tokens));
     let (inner, rest) = read!(declarator(context, role, count + 1, behind));
     if !is_given(&inner) {
         return Err(refused(context, count, rest));
     }
-    let (_close, behind) = read!(taken(context, count, 0, closes, rest));
-    let first = grouped_declarator(context.alloc, opening.pos, inner)?;
+    let whole = grouped_declarator(context.alloc, opening.pos, inner);
+    let (first, behind) = read!(closed(context, count, 0, closes, whole, rest));
     tails(context, role, count, false, first, behind)
 }
 

@@ -13,9 +13,8 @@ ghost use Rattle.c_leaves.specs.Tags.{NamesOrBraces, of_enumeration, of_structur
 use crate::declarators::declarator;
 use crate::exprs::conditional;
 use c_descent::{
-    Class, Context, Fault, Mark, Role, SpecKind, barred, comes, is_type, name_of, one_declarator,
-    one_spec, push_declarator, push_enumerator, push_member, push_spec, spec_ahead, spec_at, taken,
-    valued_enumerator,
+    Class, Context, Fault, Mark, Role, SpecKind, barred, comes, name_of, push_declarator,
+    push_enumerator, push_member, push_spec, spec_ahead, spec_at, taken, valued_enumerator,
 };
 use c_leaves::{
     closed, comma_end, enumeration_head, enumeration_of, members_end, simple_spec, structure_head,
@@ -26,7 +25,7 @@ use c_written::{
     Punctuator, Spec, Specs, Tag,
 };
 
-/// Specs, as many as there are.
+/// Specs, as many as there are: at least one.
 #[cycle(descent)]
 pub fn specs<'a>(
     context: &Context<'_>,
@@ -36,38 +35,19 @@ pub fn specs<'a>(
     ensures goes { Answers count (scene_of context.now) part.Specs tokens.now (λ s. specs_tree s) result }
     ensures shorter { IfOk result (λ x. length x.1.now < length tokens.now) }
 {
-    let (first, rest) = read!(spec(context, count, tokens));
-    let typed = is_type(&first);
-    let items = one_spec(context.alloc, first)?;
-    more_specs(context, count, typed, items, rest)
-}
-
-/// The specs behind the first. `typed` tells that those before tell a type.
-#[cycle(descent)]
-fn more_specs<'a>(
-    context: &Context<'_>,
-    count: u32,
-    typed: bool,
-    before: Vec<Spec>,
-    tokens: &'a [Placed],
-) -> Result<(Specs, &'a [Placed]), Fault<'a>>
-    requires { typed ≡ has_type (specs_from before.items) }
-    ensures goes { Answers count (scene_of context.now) (part.MoreSpecs (specs_from before.items)) tokens.now (λ s. specs_tree s) result }
-    ensures shorter { IfOk result (λ x. length x.1.now ≤ length tokens.now) }
-{
-    let mut has_type = typed;
-    let mut items = before;
+    let mut has_type = false;
+    let mut items = Vec::new(context.alloc);
     let mut rest = tokens;
     'words: loop {
-        if type_comes_again(context, has_type, rest) {
-            return Err(barred(count, Construct::TypedefAgain, rest));
-        }
-        if !spec_ahead(context, rest) {
-            return Ok((Specs::from_vec(items), rest));
-        }
         let (next, after) = read!(spec(context, count, rest));
         has_type = tells_type(has_type, &next);
         push_spec(&mut items, next)?;
+        if type_comes_again(context, has_type, after) {
+            return Err(barred(count, Construct::TypedefAgain, after));
+        }
+        if !spec_ahead(context, after) {
+            return Ok((Specs::from_vec(items), after));
+        }
         rest = after;
     }
 }
@@ -207,42 +187,20 @@ fn member<'a>(
     ensures shorter { IfOk result (λ x. length x.1.now < length tokens.now) }
 {
     let (words, rest) = read!(specs(context, count, tokens));
-    let (first, rest) = read!(declarator(context, Role::OfMember, count, rest));
-    let items = one_declarator(context.alloc, first)?;
-    more_declarators(context, count, words, items, rest)
-}
-
-/// The declarators of members behind the first.
-#[cycle(descent)]
-fn more_declarators<'a>(
-    context: &Context<'_>,
-    count: u32,
-    specs: Specs,
-    before: Vec<Declarator>,
-    tokens: &'a [Placed],
-) -> Result<(MemberDecl, &'a [Placed]), Fault<'a>>
-    ensures goes { Answers count (scene_of context.now) (part.MoreDeclarators (specs_tree specs) (declarators_from before.items)) tokens.now (λ m. memberdecl_tree m) result }
-    ensures shorter { IfOk result (λ x. length x.1.now < length tokens.now) }
-{
-    let mut declarators = before;
-    let mut rest = tokens;
-    'others: loop {
-        if comes(Mark::Colon, rest) {
-            return Err(barred(count, Construct::BitField, rest));
-        }
-        if comes(Mark::Semicolon, rest) {
-            return members_end(context, count, specs, declarators, rest);
-        }
-        let (_comma, behind) = read!(taken(
-            context,
-            count,
-            0,
-            Class::Sign(Punctuator::Comma),
-            rest
-        ));
-        let (next, after) = read!(declarator(context, Role::OfMember, count, behind));
+    let mut declarators = Vec::new(context.alloc);
+    let mut rest = rest;
+    'all: loop {
+        let (next, after) = read!(declarator(context, Role::OfMember, count, rest));
         push_declarator(&mut declarators, next)?;
-        rest = after;
+        if comes(Mark::Colon, after) {
+            return Err(barred(count, Construct::BitField, after));
+        }
+        if comes(Mark::Semicolon, after) {
+            return members_end(context, count, words, declarators, after);
+        }
+        let comma = Class::Sign(Punctuator::Comma);
+        let (_comma, behind) = read!(taken(context, count, 0, comma, after));
+        rest = behind;
     }
 }
 

@@ -11,8 +11,8 @@ use Rattle.c_written.specs.declared.written.Declarator.{Declarator}
 use Rattle.c_written.specs.declared.written.Declarator.TheVariants as declarators
 use Rattle.c_written.proofs.WrittenTrees.{declarator_absent, declarator_name}
 use Rattle.c_written.specs.Written.{DeclaratorTree, Absent, Name, declarator_tree, ParamTrees}
-use Rattle.c_grammar.specs.Parts.{Scene, Role, Naming, OfMember, OfParameter, OfTypeName, Pointed, Direct, Tails, MoreParameters, ADeclarator, DeclaratorPart}
-use Rattle.c_grammar.specs.Process.{give, part, token}
+use Rattle.c_grammar.specs.Parts.{Scene, Part, Value, Role, Naming, OfMember, OfParameter, OfTypeName, Pointed, Direct, Tails, MoreParameters, ADeclarator, DeclaratorPart}
+use Rattle.c_grammar.specs.Process.{Process, give, part, token}
 use Rattle.c_grammar.specs.Classes.{Class, keyword, names_type}
 use Rattle.c_grammar.specs.Made.{function_of, is_given}
 use Rattle.c_grammar.specs.Grammar.{type_rule}
@@ -109,8 +109,9 @@ tail_is w r p d ts e = subst (λ v. TailTells w r p d ts v) e (tail_tells w r p 
 pub tails_at : {d : ℕ} {w : Scene} {r : Role} {p : Bool} {a b : DeclaratorTree} {ts : List Placed} {o : Outcome DeclaratorTree} → a ≡ b → Goes d w (ADeclarator (Tails r p a)) ts o → Goes d w (ADeclarator (Tails r p b)) ts o
 tails_at {d} {w} {r} {p} {a} {b} {ts} {o} e g = subst (λ v. Goes d w (ADeclarator (Tails r p v)) ts o) e g
 
-pub tails_named : {d : ℕ} {w : Scene} {r : Role} {p : Bool} {place : Pos} {a b : List ℕ} {v : Declarator} {ts : List Placed} {o : Outcome DeclaratorTree} → v ≡ declarators.Name place a → a ≡ b → Goes d w (ADeclarator (Tails r p (declarator_tree v))) ts o → Goes d w (ADeclarator (Tails r p (Name place b))) ts o
-tails_named {d} {w} {r} {p} {place} {a} {b} {v} {ts} {o} h e g = tails_at (ap declarator_tree h ∙ declarator_name place a ∙ ap (Name place) e) g
+-- the declarator of this word
+pub name_so : {d : ℕ} {w : Scene} {p : Part} (k : DeclaratorTree → Process (Value p)) {place : Pos} {a b : List ℕ} {v : Declarator} {ts : List Placed} {o : Outcome (Value p)} → v ≡ declarators.Name place a → a ≡ b → Follows d w p (k (declarator_tree v)) ts o → Follows d w p (k (Name place b)) ts o
+name_so {d} {w} {p} k {place} {a} {b} {v} {ts} {o} h e g = subst (λ u. Follows d w p (k u) ts o) (ap declarator_tree h ∙ declarator_name place a ∙ ap (Name place) e) g
 
 pub tails_absent : {d : ℕ} {w : Scene} {r : Role} {p : Bool} {v : Declarator} {ts : List Placed} {o : Outcome DeclaratorTree} → v ≡ declarators.Absent → Goes d w (ADeclarator (Tails r p (declarator_tree v))) ts o → Goes d w (ADeclarator (Tails r p Absent)) ts o
 tails_absent h g = tails_at (ap declarator_tree h ∙ declarator_absent) g

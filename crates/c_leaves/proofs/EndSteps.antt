@@ -1,6 +1,6 @@
 -- What was made of a form is what the production asks for.
 use Rattle.std.proofs.Common.{◌≡◌, sym, subst, ℕ, ◌+◌, List, Bor}
-use Rattle.std.specs.Prelude.{Result, IfOk}
+use Rattle.std.specs.Prelude.{Result, Ok, Err, IfOk}
 use Rattle.std.specs.declared.alloc.AllocError.{AllocError}
 use Rattle.std.specs.declared.alloc.Global.{Global}
 use Rattle.std.specs.declared.boxed.Box.{Box}
@@ -9,11 +9,11 @@ use Rattle.c_written.specs.declared.written.Expr.{Expr}
 use Rattle.c_written.specs.Written.{ExprTree}
 use Rattle.c_grammar.specs.Parts.{Scene, Part, Value, ExprPart, AnExpr, Suffixes}
 use Rattle.c_grammar.specs.Classes.{Class}
-use Rattle.c_grammar.specs.Process.{give, part, token}
+use Rattle.c_grammar.specs.Process.{Process, give, part, token}
 use Rattle.c_grammar.specs.Refused.{Why}
 use Rattle.c_grammar.specs.Descent.{Outcome, Done, Stop, Goes, Follows}
 use Rattle.c_descent.specs.declared.fault.Fault.{Fault}
-use Rattle.c_descent.specs.Answers.{no_memory, Gives, given, halted, Steps, stepped, stalled}
+use Rattle.c_descent.specs.Answers.{Halts, no_memory, Gives, given, halted, Steps, stepped, stalled}
 use Rattle.c_descent.specs.Views.{boxed_expr}
 use Rattle.c_descent.proofs.Steps.{done, halts, refuse, take}
 use Rattle.c_leaves.specs.Ends.{Hands, handed, unmade, Closes, closed, unclosed}
@@ -34,6 +34,15 @@ pub closed_so : {A : Type 0} {p : Part} {goes : Outcome (Value p) → Type 0} {v
 closed_so {p = p} {view = view} {v = v} {d = d} {w = w} f h (closed t (handed {a = a} {rest = rest} e)) = given (f _ (take t (subst (λ s. Follows d w p (give v) s (Done (view a) rest.now)) e (done h))))
 closed_so f h (closed t unmade) = halted no_memory
 closed_so f h (unclosed t) = halted (halts (refuse t) (λ why rest g. f _ (g _ _)))
+
+-- the production goes on behind its last token, with what was made
+pub behind_closed : {A : Type 0} {p : Part} {V : Type 0} (view : A → V) {v : V} {d n : ℕ} {w : Scene} {c : Class} {q : Process (Value p)} {ts : List Placed} {m : Result A AllocError} {x : A × Bor (List Placed)} {o : Outcome (Value p)} → Closes d w n c ts m (Ok x) → IfOk m (λ a. view a ≡ v) → (view x.0 ≡ v → Follows d w p q x.1.now o) → Follows d w p (token n c (λ t. q)) ts o
+behind_closed {p = p} view {d = d} {w = w} {q = q} {o = o} (closed t (handed e)) h f = take t (subst (λ s. Follows d w p q s o) e (f h))
+
+-- the last token was not taken
+pub not_closed : {A : Type 0} {d n : ℕ} {w : Scene} {c : Class} {ts : List Placed} {m : Result A AllocError} {f : Fault} → Closes d w n c ts m (Err f) → Halts (λ why rest. (p : Part) (q : Process (Value p)) → Follows d w p (token n c (λ t. q)) ts (Stop why rest)) f
+not_closed (closed t unmade) = no_memory
+not_closed (unclosed t) = halts (refuse t) (λ why rest g p q. g p _)
 
 -- the same of a longer postfix form
 pub longer_closed : {x : ExprPart} {goes : Outcome ExprTree → Type 0} {v : ExprTree} (d : ℕ) {n : ℕ} {w : Scene} {c : Class} {ts : List Placed} {m : Result (Box Expr Global) AllocError} {r : Result (Box Expr Global × Bor (List Placed)) Fault} → ((o : Outcome ExprTree) → Follows d w (AnExpr x) (token n c (λ t. part 1 w (AnExpr (Suffixes v)) give)) ts o → goes o) → IfOk m (λ a. boxed_expr a ≡ v) → Closes d w n c ts m r → Steps goes (λ e rest o. Goes (d + 1) w (AnExpr (Suffixes (boxed_expr e))) rest o) r

@@ -14,4 +14,6 @@ pub use leaf::{simple_primary, simple_spec};
 pub use made::{closed, handed};
 pub use suffix::{calls_no_word, is_no_suffix, no_arguments, simple_suffix, word_of};
 pub use tag::{enumeration_head, enumeration_of, structure_head, structure_of};
-pub use tail::{calls_no_name, consts, is_no_tail, no_parameters, no_size, params_come};
+pub use tail::{
+    calls_no_name, consts, declared_name, is_no_tail, no_parameters, no_size, params_come,
+};

@@ -1,4 +1,4 @@
-// What may follow the name that is declared, and holds no expression.
+// The name that is declared, and what may follow it and holds no expression.
 #![tactic(auto, using(c_written::proofs::Trees::the_written_trees))]
 
 ghost use Rattle.std.specs.Prelude.{◌≡◌, ◌<◌, ◌≤◌, true, false, not, ◌&&◌, length, IfOk};
@@ -11,12 +11,29 @@ ghost use Rattle.c_grammar.specs.Refused.{first_is, may_omit};
 ghost use Rattle.c_descent.specs.Answers.{Answers, Consts, SizeIsMissing};
 ghost use Rattle.c_descent.specs.Kinds.{is_no_tail};
 ghost use Rattle.c_descent.specs.Views.{boxed_declarator, role_view, scene_of};
+ghost use Rattle.c_leaves.specs.Readers.{ReadsName};
 
 use c_descent::{
-    Class, Context, Fault, Mark, Role, TailKind, comes, empty_declarator, is_given,
+    Class, Context, Fault, Mark, Role, TailKind, comes, empty_declarator, is_given, name_of,
     open_array_declarator, params_ahead, taken,
 };
 use c_written::{Declarator, Keyword, Placed, Pos, Punctuator};
+
+/// The word that a declarator declares.
+pub fn declared_name<'a>(
+    context: &Context<'_>,
+    count: u32,
+    tokens: &'a [Placed],
+) -> Result<(Box<Declarator>, &'a [Placed]), Fault<'a>>
+    ensures goes { ReadsName count (scene_of context.now) tokens.now result }
+    ensures shorter { IfOk result (λ x. length x.1.now < length tokens.now) }
+{
+    let (word, rest) = taken(context, count, 0, Class::Word, tokens)?;
+    let name = name_of(context.alloc, &word.token)?;
+    let pos = word.pos;
+    let whole = Box::new(context.alloc, Declarator::Name { pos, name })?;
+    Ok((whole, rest))
+}
 
 /// The words `const` behind a `*`, and whether there is one.
 pub fn consts<'a>(

@@ -1,5 +1,5 @@
 -- How the functions of the cycle read their parts.
-use Rattle.std.proofs.Common.{refl, sym, ap, ◌∙◌, not, arith}
+use Rattle.std.proofs.Common.{refl, true, sym, ap, ◌∙◌, not, arith}
 use Rattle.c_written.specs.Written as trees
 use Rattle.c_written.proofs.WrittenTrees.{spec_struct_body, spec_enum_body, enumerator_plain}
 use Rattle.c_grammar.specs.Parts as part
@@ -8,16 +8,16 @@ use Rattle.c_grammar.specs.Grammar.{expr_rule, type_rule}
 use Rattle.c_grammar.specs.ExprRules as rule
 use Rattle.c_grammar.specs.TypeRules as kind
 use Rattle.c_grammar.specs.Descent.{goes_on, stops, is_done, is_barred, no_rule, passes, fails}
-use Rattle.c_descent.specs.Views.{boxed_expr, scene_of, level_view}
+use Rattle.c_descent.specs.Views.{boxed_declarator, boxed_expr, scene_of, level_view, role_view}
 use Rattle.c_descent.specs.Answers.{given, halted, stalled, stepped}
 use Rattle.c_descent.proofs.Steps.{relayed, halts, starved, answer, halt, take, refuse, step, stall, stopped, by, here, stops_here, done, if_true, if_false, borne, unborne, sign_is}
 use Rattle.c_descent.proofs.Choices.{primary_is, prefix_is, suffix_is, assign_is, more_is}
-use Rattle.c_leaves.proofs.EndSteps.{made_so, longer_so, closed_so, longer_closed, led}
+use Rattle.c_leaves.proofs.EndSteps.{made_so, longer_so, closed_so, behind_closed, not_closed, longer_closed, led}
 use Rattle.c_leaves.proofs.ExprSteps.{operand_at, not_question, is_question_ahead, suffix_free, tail_expr, suffixes_at, behind_sign, joint_step, joint_stop, and_left, rebased, nothing_of, call_by, no_joint}
-use Rattle.c_leaves.proofs.Listings.{goes_behind, not_read, first_argument, next_argument, first_member, next_member, first_enumerator, next_enumerator, comma_behind, first_parameter, next_parameter}
+use Rattle.c_leaves.proofs.Listings.{goes_behind, not_read, first_spec, next_spec, no_type, first_declarator, next_declarator, first_argument, next_argument, first_member, next_member, first_enumerator, next_enumerator, comma_behind, first_parameter, next_parameter}
 use Rattle.c_leaves.proofs.TagSteps.{structure_alone, structure_braces, enumeration_alone, enumeration_braces}
-use Rattle.c_descent.proofs.TypeSteps.{specs_at, declarators_at, value_at, again_is, spec_step, declarator_step, next_step, carried, one_type, more_type}
-use Rattle.c_leaves.proofs.DeclaratorSteps.{direct_is, tail_is, no_tail, tails_at, tails_named, tails_absent, function_so, tail_declarator, regiven, renamed, both_true, first_false}
+use Rattle.c_descent.proofs.TypeSteps.{declarators_at, value_at, again_is, next_step, carried, more_type}
+use Rattle.c_leaves.proofs.DeclaratorSteps.{direct_is, tail_is, no_tail, tails_at, tails_absent, function_so, tail_declarator, regiven, renamed, both_true, first_false}
 use Rattle.c_exprs.proofs.+descent.Goals as goal
 
 pub exprs::run-returns-in-Err-clause-goes : goal.exprs::run-returns-in-Err-clause-goes
@@ -224,18 +224,6 @@ exprs::sized_type-returns-clause-goes t c = made_so _ (by (expr_rule rule.size_o
 pub exprs::more-returns-clause-goes : goal.exprs::more-returns-clause-goes
 exprs::more-returns-clause-goes t c = given (c.joints.invariant.0 _ (by (expr_rule rule.run_end) refl (more_is (scene_of c.args.context.now) (level_view c.args.level) (boxed_expr c.joints.left) c.joints.rest.now (no_joint c.joint_at.result (λ j e. c.in_default.not-Some j e) c.joint_at.ensures)) is_done))
 
-pub types::specs-more_specs-requires : goal.types::specs-more_specs-requires
-types::specs-more_specs-requires t c = (omega (arith, c.in-Ok.ensures.shorter), one_type c.is_type-typed.ensures c.in_ok-items.ensures)
-
-pub types::specs-returns-in-Err-clause-goes : goal.types::specs-returns-in-Err-clause-goes
-types::specs-returns-in-Err-clause-goes t c = halted (halts (halt c.in-Err.ensures.goes) (λ why rest g. by (type_rule kind.specs) (refl) (refl) (stops_here g)))
-
-pub types::specs-returns-in_err-items-clause-goes : goal.types::specs-returns-in_err-items-clause-goes
-types::specs-returns-in_err-items-clause-goes t c = starved c.from_residual.ensures.1
-
-pub types::specs-returns-clause-goes : goal.types::specs-returns-clause-goes
-types::specs-returns-clause-goes t c = relayed c.more_specs.ensures.goes (λ x g. by (type_rule kind.specs) (refl) (refl) (here (answer c.in-Ok.ensures.goes) (here (specs_at c.in_ok-items.ensures g) (is_done)))) (λ why rest g. by (type_rule kind.specs) (refl) (refl) (here (answer c.in-Ok.ensures.goes) (stops_here (specs_at c.in_ok-items.ensures g))))
-
 pub types::structure-returns-in-Err-clause-goes : goal.types::structure-returns-in-Err-clause-goes
 types::structure-returns-in-Err-clause-goes t c = halted (stall c.in-Err.ensures.goes)
 
@@ -271,51 +259,6 @@ types::enumeration_form-returns-in-Err-enumerators-clause-goes t c = halted (hal
 
 pub types::enumeration_form-returns-clause-goes : goal.types::enumeration_form-returns-clause-goes
 types::enumeration_form-returns-clause-goes t c = given (enumeration_braces c.args.tag (sym c.if-not-comes.ensures) (take c.in-Ok.ensures.goes (goes_on (answer c.in-Ok-enumerators.ensures.goes) (done (spec_enum_body _ _ _)))))
-
-pub types::more_specs-returns-then-type_comes_again-clause-goes : goal.types::more_specs-returns-then-type_comes_again-clause-goes
-types::more_specs-returns-then-type_comes_again-clause-goes t c = halted (stopped c.barred.ensures (c.words.invariant.0 _ (is_barred (borne _ (again_is _ c.words.invariant.1 (sym c.if-type_comes_again.ensures))))))
-
-pub types::more_specs-returns-then-not-spec_ahead-clause-goes : goal.types::more_specs-returns-then-not-spec_ahead-clause-goes
-types::more_specs-returns-then-not-spec_ahead-clause-goes t c = given (c.words.invariant.0 _ (by (type_rule kind.specs_end) (unborne _ (again_is _ c.words.invariant.1 (sym c.if-type_comes_again.ensures))) (if_false _ (sym c.if-not-spec_ahead.ensures)) (passes (ap not (sym c.if-not-spec_ahead.ensures)) (done c.from_vec.ensures))))
-
-pub types::more_specs-returns-in-Err-clause-goes : goal.types::more_specs-returns-in-Err-clause-goes
-types::more_specs-returns-in-Err-clause-goes t c = halted (halts (halt c.in-Err.ensures.goes) (λ why rest g. c.words.invariant.0 _ (by (type_rule kind.specs_more) (unborne _ (again_is _ c.words.invariant.1 (sym c.if-type_comes_again.ensures))) (if_true _ (sym c.if-not-spec_ahead.ensures)) (stops_here g))))
-
-pub types::more_specs-returns-in_err-push_spec-clause-goes : goal.types::more_specs-returns-in_err-push_spec-clause-goes
-types::more_specs-returns-in_err-push_spec-clause-goes t c = starved c.from_residual.ensures.1
-
-pub types::more_specs-words-preserved : goal.types::more_specs-words-preserved
-types::more_specs-words-preserved t c = ((λ o g. c.words.invariant.0 o (spec_step o (unborne _ (again_is _ c.words.invariant.1 (sym c.if-type_comes_again.ensures))) (sym c.if-not-spec_ahead.ensures) (answer c.in-Ok.ensures.goes) c.in_ok-push_spec.ensures g)), more_type _ _ c.tells_type-has_type.ensures c.words.invariant.1 c.in_ok-push_spec.ensures, omega (arith, c.in-Ok.ensures.shorter))
-
-pub types::member-returns-in-Err-clause-goes : goal.types::member-returns-in-Err-clause-goes
-types::member-returns-in-Err-clause-goes t c = halted (halts (halt c.in-Err.ensures.goes) (λ why rest g. by (type_rule kind.member) (refl) (refl) (stops_here g)))
-
-pub types::member-returns-in-Err-declarator-clause-goes : goal.types::member-returns-in-Err-declarator-clause-goes
-types::member-returns-in-Err-declarator-clause-goes t c = halted (halts (halt c.in-Err-declarator.ensures.goes) (λ why rest g. by (type_rule kind.member) (refl) (refl) (here (answer c.in-Ok.ensures.goes) (stops_here g))))
-
-pub types::member-returns-in_err-items-clause-goes : goal.types::member-returns-in_err-items-clause-goes
-types::member-returns-in_err-items-clause-goes t c = starved c.from_residual.ensures.1
-
-pub types::member-returns-clause-goes : goal.types::member-returns-clause-goes
-types::member-returns-clause-goes t c = relayed c.more_declarators.ensures.goes (λ x g. by (type_rule kind.member) (refl) (refl) (here (answer c.in-Ok.ensures.goes) (here (answer c.in-Ok-declarator.ensures.goes) (here (declarators_at c.in_ok-items.ensures g) (is_done))))) (λ why rest g. by (type_rule kind.member) (refl) (refl) (here (answer c.in-Ok.ensures.goes) (here (answer c.in-Ok-declarator.ensures.goes) (stops_here (declarators_at c.in_ok-items.ensures g)))))
-
-pub types::more_declarators-returns-then-comes-clause-goes : goal.types::more_declarators-returns-then-comes-clause-goes
-types::more_declarators-returns-then-comes-clause-goes t c = halted (stopped c.barred.ensures (c.others.invariant.0 _ (is_barred (borne _ (sym c.if-comes.ensures)))))
-
-pub types::more_declarators-returns-then-comes-2-clause-goes : goal.types::more_declarators-returns-then-comes-2-clause-goes
-types::more_declarators-returns-then-comes-2-clause-goes t c = carried c.members_end.ensures.goes (λ o g. c.others.invariant.0 o g)
-
-pub types::more_declarators-returns-in-Err-clause-goes : goal.types::more_declarators-returns-in-Err-clause-goes
-types::more_declarators-returns-in-Err-clause-goes t c = halted (halts (refuse c.in-Err.ensures.goes) (λ why rest g. c.others.invariant.0 _ (by (type_rule kind.declarators_more) (unborne _ (sym c.if-comes.ensures)) (if_false _ (sym c.if-comes-2.ensures)) (g _ _))))
-
-pub types::more_declarators-returns-in-Err-declarator-clause-goes : goal.types::more_declarators-returns-in-Err-declarator-clause-goes
-types::more_declarators-returns-in-Err-declarator-clause-goes t c = halted (halts (halt c.in-Err-declarator.ensures.goes) (λ why rest g. c.others.invariant.0 _ (by (type_rule kind.declarators_more) (unborne _ (sym c.if-comes.ensures)) (if_false _ (sym c.if-comes-2.ensures)) (take c.in-Ok.ensures.goes (stops_here g)))))
-
-pub types::more_declarators-returns-in_err-push_declarator-clause-goes : goal.types::more_declarators-returns-in_err-push_declarator-clause-goes
-types::more_declarators-returns-in_err-push_declarator-clause-goes t c = starved c.from_residual.ensures.1
-
-pub types::more_declarators-others-preserved : goal.types::more_declarators-others-preserved
-types::more_declarators-others-preserved t c = ((λ o g. c.others.invariant.0 o (declarator_step o (sym c.if-comes.ensures) (sym c.if-comes-2.ensures) c.in-Ok.ensures.goes (answer c.in-Ok-declarator.ensures.goes) c.in_ok-push_declarator.ensures g)), omega (arith, c.in-Ok.ensures.shorter, c.in-Ok-declarator.ensures.shorter))
 
 pub types::enumerator-returns-in-Err-clause-goes : goal.types::enumerator-returns-in-Err-clause-goes
 types::enumerator-returns-in-Err-clause-goes t c = halted (halts (refuse c.in-Err.ensures.goes) (λ why rest g. by (type_rule kind.enumerator) (refl) (refl) (g _ _)))
@@ -368,18 +311,6 @@ declarators::nameless-returns-clause-goes t c = carried c.tails.ensures.goes (λ
 pub declarators::direct-returns-in-Neither-clause-goes : goal.declarators::direct-returns-in-Neither-clause-goes
 declarators::direct-returns-in-Neither-clause-goes t c = halted (stopped c.refused.ensures (no_rule (unborne _ (sym c.if-params_come.ensures)) (direct_is _ _ _ (sym c.in-Neither.ensures))))
 
-pub declarators::named-returns-in-Err-clause-goes : goal.declarators::named-returns-in-Err-clause-goes
-declarators::named-returns-in-Err-clause-goes t c = halted (halts (refuse c.in-Err.ensures.goes) (λ why rest g. by (type_rule (kind.declared_name (direct_is _ _ _ c.requires.1).0)) (unborne _ c.requires.0) ((direct_is _ _ _ c.requires.1).1) (g _ _)))
-
-pub declarators::named-returns-in_err-name-clause-goes : goal.declarators::named-returns-in_err-name-clause-goes
-declarators::named-returns-in_err-name-clause-goes t c = starved c.from_residual.ensures.1
-
-pub declarators::named-returns-in_err-first-clause-goes : goal.declarators::named-returns-in_err-first-clause-goes
-declarators::named-returns-in_err-first-clause-goes t c = starved c.from_residual-in_err-first.ensures.1
-
-pub declarators::named-returns-clause-goes : goal.declarators::named-returns-clause-goes
-declarators::named-returns-clause-goes t c = relayed c.tails.ensures.goes (λ x g. by (type_rule (kind.declared_name (direct_is _ _ _ c.requires.1).0)) (unborne _ c.requires.0) ((direct_is _ _ _ c.requires.1).1) (take c.in-Ok.ensures.goes (here (tails_named c.in_ok-first.ensures.ok c.in_ok-name.ensures g) (is_done)))) (λ why rest g. by (type_rule (kind.declared_name (direct_is _ _ _ c.requires.1).0)) (unborne _ c.requires.0) ((direct_is _ _ _ c.requires.1).1) (take c.in-Ok.ensures.goes (stops_here (tails_named c.in_ok-first.ensures.ok c.in_ok-name.ensures g))))
-
 pub declarators::grouped-returns-in-Err-clause-goes : goal.declarators::grouped-returns-in-Err-clause-goes
 declarators::grouped-returns-in-Err-clause-goes t c = halted (halts (refuse c.in-Err.ensures.goes) (λ why rest g. by (type_rule kind.grouped) (unborne _ c.requires.0) (direct_is _ _ _ c.requires.1) (g _ _)))
 
@@ -388,15 +319,6 @@ declarators::grouped-returns-in-Err-declarator-clause-goes t c = halted (halts (
 
 pub declarators::grouped-returns-then-not-is_given-clause-goes : goal.declarators::grouped-returns-then-not-is_given-clause-goes
 declarators::grouped-returns-then-not-is_given-clause-goes t c = halted (stopped c.refused.ensures (by (type_rule kind.grouped) (unborne _ c.requires.0) (direct_is _ _ _ c.requires.1) (take c.in-Ok.ensures.goes (goes_on (answer c.in-Ok-declarator.ensures.goes) (fails (regiven c.deref.ensures c.if-not-is_given.ensures))))))
-
-pub declarators::grouped-returns-in-Err-taken-clause-goes : goal.declarators::grouped-returns-in-Err-taken-clause-goes
-declarators::grouped-returns-in-Err-taken-clause-goes t c = halted (halts (refuse c.in-Err-taken.ensures.goes) (λ why rest g. by (type_rule kind.grouped) (unborne _ c.requires.0) (direct_is _ _ _ c.requires.1) (take c.in-Ok.ensures.goes (goes_on (answer c.in-Ok-declarator.ensures.goes) (passes (regiven c.deref.ensures c.if-not-is_given.ensures) (g _ _))))))
-
-pub declarators::grouped-returns-in_err-first-clause-goes : goal.declarators::grouped-returns-in_err-first-clause-goes
-declarators::grouped-returns-in_err-first-clause-goes t c = starved c.from_residual.ensures.1
-
-pub declarators::grouped-returns-clause-goes : goal.declarators::grouped-returns-clause-goes
-declarators::grouped-returns-clause-goes t c = relayed c.tails.ensures.goes (λ x g. by (type_rule kind.grouped) (unborne _ c.requires.0) (direct_is _ _ _ c.requires.1) (take c.in-Ok.ensures.goes (goes_on (answer c.in-Ok-declarator.ensures.goes) (passes (regiven c.deref.ensures c.if-not-is_given.ensures) (take c.in-Ok-taken.ensures.goes (here (tails_at c.in_ok-first.ensures g) is_done)))))) (λ why rest g. by (type_rule kind.grouped) (unborne _ c.requires.0) (direct_is _ _ _ c.requires.1) (take c.in-Ok.ensures.goes (goes_on (answer c.in-Ok-declarator.ensures.goes) (passes (regiven c.deref.ensures c.if-not-is_given.ensures) (take c.in-Ok-taken.ensures.goes (stops_here (tails_at c.in_ok-first.ensures g)))))))
 
 pub declarators::tails-returns-then-calls_no_name-clause-goes : goal.declarators::tails-returns-then-calls_no_name-clause-goes
 declarators::tails-returns-then-calls_no_name-clause-goes t c = halted (stopped c.barred.ensures (c.forms.invariant.0 _ (is_barred (borne _ (renamed _ _ c.deref.ensures c.if-calls_no_name.ensures)))))
@@ -514,3 +436,57 @@ declarators::parameters-returns-in-Err-taken-clause-goes t c = halted (halts (re
 
 pub declarators::parameters-all-preserved : goal.declarators::parameters-all-preserved
 declarators::parameters-all-preserved t c = (next_parameter (sym c.if-comes-2.ensures) c.in-Ok-taken.ensures.goes c.in_ok-push_param.ensures (λ o g. goes_behind c.all.invariant.0 c.in-Ok.ensures.goes o g), c.all.invariant.1, omega (arith, c.in-Ok.ensures.shorter, c.in-Ok-taken.ensures.shorter))
+
+pub types::specs-words-init : goal.types::specs-words-init
+types::specs-words-init t c = (first_spec c.new-items.ensures.items, no_type c.new-items.ensures.items, omega arith)
+
+pub types::specs-returns-in-Err-clause-goes : goal.types::specs-returns-in-Err-clause-goes
+types::specs-returns-in-Err-clause-goes t c = not_read c.words.invariant.0 c.in-Err.ensures.goes
+
+pub types::specs-returns-in_err-push_spec-clause-goes : goal.types::specs-returns-in_err-push_spec-clause-goes
+types::specs-returns-in_err-push_spec-clause-goes t c = starved c.from_residual.ensures.1
+
+pub types::specs-returns-then-type_comes_again-clause-goes : goal.types::specs-returns-then-type_comes_again-clause-goes
+types::specs-returns-then-type_comes_again-clause-goes t c = halted (stopped c.barred.ensures (goes_behind c.words.invariant.0 c.in-Ok.ensures.goes _ (is_barred (borne _ (again_is _ (more_type _ _ c.tells_type-has_type.ensures c.words.invariant.1 refl) (sym c.if-type_comes_again.ensures))))))
+
+pub types::specs-returns-then-not-spec_ahead-clause-goes : goal.types::specs-returns-then-not-spec_ahead-clause-goes
+types::specs-returns-then-not-spec_ahead-clause-goes t c = given (goes_behind c.words.invariant.0 c.in-Ok.ensures.goes _ (by (type_rule kind.specs_end) (unborne _ (again_is _ (more_type _ _ c.tells_type-has_type.ensures c.words.invariant.1 refl) (sym c.if-type_comes_again.ensures))) (if_false _ (sym c.if-not-spec_ahead.ensures)) (passes (ap not (sym c.if-not-spec_ahead.ensures)) (done (c.from_vec.ensures ∙ c.in_ok-push_spec.ensures)))))
+
+pub types::specs-words-preserved : goal.types::specs-words-preserved
+types::specs-words-preserved t c = (next_spec (unborne _ (again_is _ (more_type _ _ c.tells_type-has_type.ensures c.words.invariant.1 refl) (sym c.if-type_comes_again.ensures))) (sym c.if-not-spec_ahead.ensures) c.in_ok-push_spec.ensures (λ o g. goes_behind c.words.invariant.0 c.in-Ok.ensures.goes o g), more_type _ _ c.tells_type-has_type.ensures c.words.invariant.1 c.in_ok-push_spec.ensures, omega (arith, c.in-Ok.ensures.shorter))
+
+pub types::member-returns-in-Err-clause-goes : goal.types::member-returns-in-Err-clause-goes
+types::member-returns-in-Err-clause-goes t c = halted (halts (halt c.in-Err.ensures.goes) (λ why rest g. by (type_rule kind.member) (refl) (refl) (stops_here g)))
+
+pub types::member-all-init : goal.types::member-all-init
+types::member-all-init t c = (first_declarator c.in-Ok.ensures.goes c.new-declarators.ensures.items, c.in-Ok.ensures.shorter)
+
+pub types::member-returns-in-Err-declarator-clause-goes : goal.types::member-returns-in-Err-declarator-clause-goes
+types::member-returns-in-Err-declarator-clause-goes t c = not_read c.all.invariant.0 c.in-Err-declarator.ensures.goes
+
+pub types::member-returns-in_err-push_declarator-clause-goes : goal.types::member-returns-in_err-push_declarator-clause-goes
+types::member-returns-in_err-push_declarator-clause-goes t c = starved c.from_residual.ensures.1
+
+pub types::member-returns-then-comes-clause-goes : goal.types::member-returns-then-comes-clause-goes
+types::member-returns-then-comes-clause-goes t c = halted (stopped c.barred.ensures (goes_behind c.all.invariant.0 c.in-Ok-declarator.ensures.goes _ (is_barred (borne _ (sym c.if-comes.ensures)))))
+
+pub types::member-returns-then-comes-2-clause-goes : goal.types::member-returns-then-comes-2-clause-goes
+types::member-returns-then-comes-2-clause-goes t c = carried c.members_end.ensures.goes (λ o g. goes_behind c.all.invariant.0 c.in-Ok-declarator.ensures.goes o (declarators_at c.in_ok-push_declarator.ensures g))
+
+pub types::member-returns-in-Err-taken-clause-goes : goal.types::member-returns-in-Err-taken-clause-goes
+types::member-returns-in-Err-taken-clause-goes t c = halted (halts (refuse c.in-Err-taken.ensures.goes) (λ why rest g. goes_behind c.all.invariant.0 c.in-Ok-declarator.ensures.goes _ (by (type_rule kind.declarators_more) (unborne _ (sym c.if-comes.ensures)) (if_false _ (sym c.if-comes-2.ensures)) (g _ _))))
+
+pub types::member-all-preserved : goal.types::member-all-preserved
+types::member-all-preserved t c = (next_declarator (sym c.if-comes.ensures) (sym c.if-comes-2.ensures) c.in-Ok-taken.ensures.goes c.in_ok-push_declarator.ensures (λ o g. goes_behind c.all.invariant.0 c.in-Ok-declarator.ensures.goes o g), omega (arith, c.in-Ok-declarator.ensures.shorter, c.in-Ok-taken.ensures.shorter))
+
+pub declarators::grouped-returns-in-Err-closed-clause-goes : goal.declarators::grouped-returns-in-Err-closed-clause-goes
+declarators::grouped-returns-in-Err-closed-clause-goes t c = halted (halts (not_closed c.in-Err-closed.ensures.goes) (λ why rest g. by (type_rule kind.grouped) (unborne _ c.requires.0) (direct_is _ _ _ c.requires.1) (take c.in-Ok.ensures.goes (goes_on (answer c.in-Ok-declarator.ensures.goes) (passes (regiven c.deref.ensures c.if-not-is_given.ensures) (g _ _))))))
+
+pub declarators::grouped-returns-clause-goes : goal.declarators::grouped-returns-clause-goes
+declarators::grouped-returns-clause-goes t c = relayed c.tails.ensures.goes (λ x g. by (type_rule kind.grouped) (unborne _ c.requires.0) (direct_is _ _ _ c.requires.1) (take c.in-Ok.ensures.goes (goes_on (answer c.in-Ok-declarator.ensures.goes) (passes (regiven c.deref.ensures c.if-not-is_given.ensures) (behind_closed boxed_declarator c.in-Ok-closed.ensures.goes c.grouped_declarator-whole.ensures (λ e. here (tails_at e g) is_done)))))) (λ why rest g. by (type_rule kind.grouped) (unborne _ c.requires.0) (direct_is _ _ _ c.requires.1) (take c.in-Ok.ensures.goes (goes_on (answer c.in-Ok-declarator.ensures.goes) (passes (regiven c.deref.ensures c.if-not-is_given.ensures) (behind_closed boxed_declarator c.in-Ok-closed.ensures.goes c.grouped_declarator-whole.ensures (λ e. stops_here (tails_at e g)))))))
+
+pub declarators::named-returns-in-Err-clause-goes : goal.declarators::named-returns-in-Err-clause-goes
+declarators::named-returns-in-Err-clause-goes t c = halted (halts (stall (c.in-Err.ensures.goes (part.ADeclarator (part.Direct (role_view c.args.role))) (λ d. process.part 0 (scene_of c.args.context.now) (part.ADeclarator (part.Tails (role_view c.args.role) true d)) process.give))) (λ why rest g. by (type_rule (kind.declared_name (direct_is _ _ _ c.requires.1).0)) (unborne _ c.requires.0) (direct_is _ _ _ c.requires.1).1 g))
+
+pub declarators::named-returns-clause-goes : goal.declarators::named-returns-clause-goes
+declarators::named-returns-clause-goes t c = relayed c.tails.ensures.goes (λ x g. by (type_rule (kind.declared_name (direct_is _ _ _ c.requires.1).0)) (unborne _ c.requires.0) (direct_is _ _ _ c.requires.1).1 (step (c.in-Ok.ensures.goes (part.ADeclarator (part.Direct (role_view c.args.role))) (λ d. process.part 0 (scene_of c.args.context.now) (part.ADeclarator (part.Tails (role_view c.args.role) true d)) process.give)) _ (here g is_done))) (λ why rest g. by (type_rule (kind.declared_name (direct_is _ _ _ c.requires.1).0)) (unborne _ c.requires.0) (direct_is _ _ _ c.requires.1).1 (step (c.in-Ok.ensures.goes (part.ADeclarator (part.Direct (role_view c.args.role))) (λ d. process.part 0 (scene_of c.args.context.now) (part.ADeclarator (part.Tails (role_view c.args.role) true d)) process.give)) _ (stops_here g)))

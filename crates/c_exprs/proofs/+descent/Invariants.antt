@@ -1,5 +1,5 @@
-use Rattle.std.proofs.Common.{◌+◌, ◌*◌, ◌≤◌, length, ◌≡◌}
-use Rattle.c_written.specs.Written.{ExprTree, ExprTrees, exprs_from, exprs_then, DeclaratorTree, EnumeratorTrees, MemberDeclTree, MemberDeclTrees, SpecTrees, declarators_from, enumerators_from, enumerators_then, memberdecls_from, memberdecls_then, params_from, params_then, specs_from, specs_tree}
+use Rattle.std.proofs.Common.{◌+◌, ◌*◌, ◌<◌, ◌≤◌, length, ◌≡◌}
+use Rattle.c_written.specs.Written.{ExprTree, ExprTrees, exprs_from, exprs_then, DeclaratorTree, EnumeratorTrees, MemberDeclTree, MemberDeclTrees, SpecTrees, declarators_from, declarators_then, enumerators_from, enumerators_then, memberdecls_from, memberdecls_then, params_from, params_then, specs_from, specs_then, specs_tree}
 use Rattle.c_grammar.specs.Parts as part
 use Rattle.c_grammar.specs.Descent.{Outcome, Goes}
 use Rattle.c_descent.specs.Views.{boxed_declarator, boxed_expr, scene_of, level_view, role_view}
@@ -86,9 +86,6 @@ decreases-types::spec l = 64 * length l.tokens.now + 1
 abbrev pub decreases-types::specs : goal.decreases-types::specs
 decreases-types::specs l = 64 * length l.tokens.now + 2
 
-abbrev pub decreases-types::more_specs : goal.decreases-types::more_specs
-decreases-types::more_specs l = 64 * length l.tokens.now + 2
-
 abbrev pub decreases-types::structure : goal.decreases-types::structure
 decreases-types::structure l = 64 * length l.tokens.now + 0
 
@@ -106,9 +103,6 @@ decreases-types::members l = 64 * length l.tokens.now + 4
 
 abbrev pub decreases-types::member : goal.decreases-types::member
 decreases-types::member l = 64 * length l.tokens.now + 3
-
-abbrev pub decreases-types::more_declarators : goal.decreases-types::more_declarators
-decreases-types::more_declarators l = 64 * length l.tokens.now + 0
 
 abbrev pub decreases-types::enumerators : goal.decreases-types::enumerators
 decreases-types::enumerators l = 64 * length l.tokens.now + 1
@@ -182,20 +176,6 @@ invariant-exprs::suffixes-forms l =
 abbrev pub decreases-exprs::suffixes-forms : goal.decreases-exprs::suffixes-forms
 decreases-exprs::suffixes-forms l = length l.rest
 
-abbrev pub invariant-types::more_specs-words : goal.invariant-types::more_specs-words
-invariant-types::more_specs-words l =
-    ((o : Outcome SpecTrees) → Goes l.count (scene_of l.context) (part.MoreSpecs (specs_from l.items.items)) l.rest o → Goes l.count (scene_of l.context) (part.MoreSpecs (specs_from l.fn.before.items)) l.fn.tokens o) × (l.has_type ≡ has_type (specs_from l.items.items)) × (length l.rest ≤ length l.fn.tokens)
-
-abbrev pub decreases-types::more_specs-words : goal.decreases-types::more_specs-words
-decreases-types::more_specs-words l = length l.rest
-
-abbrev pub invariant-types::more_declarators-others : goal.invariant-types::more_declarators-others
-invariant-types::more_declarators-others l =
-    ((o : Outcome MemberDeclTree) → Goes l.count (scene_of l.context) (part.MoreDeclarators (specs_tree l.specs) (declarators_from l.declarators.items)) l.rest o → Goes l.count (scene_of l.context) (part.MoreDeclarators (specs_tree l.specs) (declarators_from l.fn.before.items)) l.fn.tokens o) × (length l.rest ≤ length l.fn.tokens)
-
-abbrev pub decreases-types::more_declarators-others : goal.decreases-types::more_declarators-others
-decreases-types::more_declarators-others l = length l.rest
-
 abbrev pub invariant-declarators::tails-forms : goal.invariant-declarators::tails-forms
 invariant-declarators::tails-forms l =
     ((o : Outcome DeclaratorTree) → Goes l.count (scene_of l.context) (part.ADeclarator (part.Tails (role_view l.role) l.is_plain (boxed_declarator l.inner))) l.rest o → Goes l.count (scene_of l.context) (part.ADeclarator (part.Tails (role_view l.role) l.fn.plain (boxed_declarator l.fn.first))) l.fn.tokens o) × (length l.rest ≤ length l.fn.tokens)
@@ -230,3 +210,17 @@ invariant-declarators::parameters-all l =
 
 abbrev pub decreases-declarators::parameters-all : goal.decreases-declarators::parameters-all
 decreases-declarators::parameters-all l = length l.rest
+
+abbrev pub invariant-types::specs-words : goal.invariant-types::specs-words
+invariant-types::specs-words l =
+    (Listing (part.ASpec part.Spec) (λ (o : Outcome SpecTrees). Goes l.count (scene_of l.context) part.Specs l.fn.tokens o) l.count (scene_of l.context) (λ v after o. Goes l.count (scene_of l.context) (part.MoreSpecs (specs_then (specs_from l.items.items) v)) after o) l.rest) × (l.has_type ≡ has_type (specs_from l.items.items)) × (length l.rest ≤ length l.fn.tokens)
+
+abbrev pub decreases-types::specs-words : goal.decreases-types::specs-words
+decreases-types::specs-words l = length l.rest
+
+abbrev pub invariant-types::member-all : goal.invariant-types::member-all
+invariant-types::member-all l =
+    (Listing (part.ADeclarator (part.Declarator part.OfMember)) (λ (o : Outcome MemberDeclTree). Goes l.count (scene_of l.context) part.AMember l.fn.tokens o) l.count (scene_of l.context) (λ v after o. Goes l.count (scene_of l.context) (part.MoreDeclarators (specs_tree l.words) (declarators_then (declarators_from l.declarators.items) v)) after o) l.rest) × (length l.rest < length l.fn.tokens)
+
+abbrev pub decreases-types::member-all : goal.decreases-types::member-all
+decreases-types::member-all l = length l.rest
