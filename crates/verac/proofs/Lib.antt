@@ -1,9 +1,3 @@
-pub mod Trees
 pub mod CommandLemmas
-pub mod RunLemmas
-pub mod SizeLemmas
-pub mod AlarmLemmas
-pub mod WalkLemmas
-pub mod FormLemmas
 pub mod VerdictLemmas
 pub mod HeadlineLemmas

@@ -11,11 +11,11 @@ use Rattle.c_grammar.specs.Refused.{IsFile, Why, Syntax, Unsupported, TooDeep}
 use Rattle.c_grammar.specs.Refused as grammar
 use Rattle.verac.specs.declared.refusal.Refusal.{Refusal}
 use Rattle.verac.specs.declared.refusal.Refusal.TheVariants as refusals
-use Rattle.verac.specs.Tree.{ProgramTree}
-use Rattle.verac.specs.Form.{IsForm}
+use Rattle.constant_form.specs.Tree.{ProgramTree}
+use Rattle.constant_form.specs.Form.{IsForm}
 use Rattle.verac.specs.Program.{IsSource, IsProgram}
 use Rattle.verac.specs.Verdict.{IsUnparsed, IsUnbuilt, IsRefused}
-use Rattle.verac.proofs.FormLemmas.{one_form}
+use Rattle.constant_form.proofs.FormLemmas.{one_form}
 
 abbrev pub OneCut : Type 0
 OneCut = (file : ℕ) (text : List ℕ) (v w : Tokens) → IsCut file text v → IsCut file text w → v ≡ w

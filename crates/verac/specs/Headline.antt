@@ -3,11 +3,12 @@ use Rattle.std.specs.Prelude.{◌≡◌, ◌≢◌, ℕ, List, [], All, AllPairs
 use Rattle.c_syntax.specs.declared.alarm.Alarm.{Alarm}
 use Rattle.verac.specs.declared.status.Status.{Status}
 use Rattle.verac.specs.declared.status.Status.TheVariants.{NoAlarm, Alarms, Refused, Usage, ReadFault, NoMemory}
-use Rattle.verac.specs.Tree.{ProgramTree}
+use Rattle.constant_form.specs.Tree.{ProgramTree}
 use Rattle.verac.specs.Program.{IsProgram}
-use Rattle.verac.specs.Sound.{IsSound}
-use Rattle.verac.specs.Admission.{IsAdmitted}
-use Rattle.verac.specs.Report.{text_of, Precedes, IsPrintable}
+use Rattle.constant_form.specs.Sound.{IsSound}
+use Rattle.constant_form.specs.Admission.{IsAdmitted}
+use Rattle.constant_form.specs.Order.{Precedes, IsPrintable}
+use Rattle.verac.specs.Report.{text_of}
 use Rattle.verac.specs.declared.refusal.Refusal.{Refusal}
 use Rattle.verac.specs.RefusalText.{line_of}
 use Rattle.verac.specs.Verdict.{IsRefused}

@@ -1,16 +1,8 @@
-pub mod Tree
-pub mod Form
 pub mod Program
-pub mod Operators
-pub mod Machine
-pub mod Sound
-pub mod Admission
 pub mod Report
 pub mod Command
 pub mod RefusalText
 pub mod Verdict
 pub mod Headline
-pub mod Outcome
-pub mod Walk
 pub mod Status
 pub mod Read

@@ -4,8 +4,8 @@ use Rattle.c_written.specs.declared.token.Tokens.{Tokens}
 use Rattle.c_written.specs.WrittenFile.{FileTree}
 use Rattle.c_lexer.specs.Cut.{IsCut}
 use Rattle.c_grammar.specs.Refused.{IsFile}
-use Rattle.verac.specs.Tree.{ProgramTree}
-use Rattle.verac.specs.Form.{IsForm}
+use Rattle.constant_form.specs.Tree.{ProgramTree}
+use Rattle.constant_form.specs.Form.{IsForm}
 
 -- the bytes are cut into the tokens of this file, of which none is refused
 abbrev pub IsSource : List ℕ → FileTree → Type 0

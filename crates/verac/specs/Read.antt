@@ -3,7 +3,7 @@ use Rattle.std.specs.Prelude.{◌≡◌, ℕ, List}
 use Rattle.verac.specs.declared.program.Read.{Read}
 use Rattle.verac.specs.declared.program.Read.TheVariants as reads
 use Rattle.verac.specs.declared.refusal.Refusal.{Refusal}
-use Rattle.verac.specs.Tree.{ProgramTree, expr_tree, returning, HasConstants}
+use Rattle.constant_form.specs.Tree.{ProgramTree, expr_tree, returning, HasConstants}
 use Rattle.verac.specs.Program.{IsProgram}
 use Rattle.verac.specs.Verdict.{IsRefused}
 

@@ -1,5 +1,5 @@
 -- Report text: the lines for a list of alarms. In this form each alarm stands in main, and shows a number.
-use Rattle.std.specs.Prelude.{◌<◌, ◌≡◌, ◌⊎◌, ℕ, ℤ, pos, int_le, Bool, true, false, List, [], ◌∷◌, ◌++◌, length, Option, Some, None, codes, decimal, if◌then◌else◌}
+use Rattle.std.specs.Prelude.{ℕ, ℤ, pos, int_le, Bool, true, false, List, [], ◌∷◌, ◌++◌, length, Option, Some, None, codes, decimal, if◌then◌else◌}
 use Rattle.std.specs.Fmt.{signed_decimal}
 use Rattle.std.specs.List.{flat_map}
 use Rattle.c_written.specs.declared.place.Pos.{Pos}
@@ -29,24 +29,6 @@ kind_text kinds.ReadOnly = codes "ReadOnly"
 kind_text kinds.Unrelated = codes "Unrelated"
 kind_text kinds.NoValue = codes "NoValue"
 kind_text kinds.AssertFailed = codes "AssertFailed"
-
-abbrev pub kind_number : WrongKind → ℕ
-kind_number kinds.Overflow = 1
-kind_number kinds.DivideByZero = 2
-kind_number kinds.Quotient = 3
-kind_number kinds.ShiftAmount = 4
-kind_number kinds.ShiftResult = 5
-kind_number kinds.Indeterminate = 6
-kind_number kinds.Fragment = 7
-kind_number kinds.NullUse = 8
-kind_number kinds.Dangling = 9
-kind_number kinds.Bounds = 10
-kind_number kinds.Access = 11
-kind_number kinds.Alignment = 12
-kind_number kinds.ReadOnly = 13
-kind_number kinds.Unrelated = 14
-kind_number kinds.NoValue = 15
-kind_number kinds.AssertFailed = 16
 
 -- a bound that is missing has no end
 abbrev pub low_text : Option ℤ → List ℕ
@@ -93,28 +75,3 @@ alarm_text name a = head_text name a.pos (kind_text a.kind) ++ (codes "\n  shown
 abbrev pub text_of : List ℕ → List Alarm → List ℕ
 text_of name [] = codes "no alarm\n"
 text_of name (a ∷ more) = flat_map (alarm_text name) (a ∷ more) ++ (codes "alarms " ++ (decimal (length (a ∷ more)) ++ codes "\n"))
-
--- the alarm is one whose text is given above: it stands in main, and shows a number
-abbrev pub IsNumeric : Shown → Example → Type 0
-IsNumeric (shows.Number lo hi modulus rem) (examples.Number n) = Unit {0}
-IsNumeric shown example = ⊥
-
-pub record IsPrintable (a : Alarm) : Type 0 where
-  pub in_main : a.chain ≡ []
-  pub numeric : IsNumeric a.shown a.example
-
-abbrev pub place_key : Pos → List ℕ
-place_key at = at.file ∷ at.line ∷ at.col ∷ []
-
--- alarms are ordered by position, kind number and chain
-abbrev pub order_key : Alarm → List ℕ
-order_key a = place_key a.pos ++ (kind_number a.kind ∷ flat_map place_key a.chain)
-
--- in the order of the first number in which they differ, a front before the whole
-abbrev pub IsBefore : List ℕ → List ℕ → Type 0
-IsBefore xs [] = ⊥
-IsBefore [] (y ∷ ys) = Unit {0}
-IsBefore (x ∷ xs) (y ∷ ys) = (x < y) ⊎ ((x ≡ y) × IsBefore xs ys)
-
-abbrev pub Precedes : Alarm → Alarm → Type 0
-Precedes a b = IsBefore (order_key a) (order_key b)

@@ -9,8 +9,8 @@ use Rattle.c_grammar.specs.Refused.{Why, Syntax, Unsupported, TooDeep}
 use Rattle.c_parser.specs.Refusals.{RefusedAt}
 use Rattle.verac.specs.declared.refusal.Refusal.{Refusal}
 use Rattle.verac.specs.declared.refusal.Refusal.TheVariants as refusals
-use Rattle.verac.specs.Tree.{ProgramTree}
-use Rattle.verac.specs.Form.{IsForm}
+use Rattle.constant_form.specs.Tree.{ProgramTree}
+use Rattle.constant_form.specs.Form.{IsForm}
 use Rattle.verac.specs.Program.{IsSource}
 
 -- the bytes are cut into tokens, of which the first that is refused stands at this place, for this reason; or it is their end

@@ -2,7 +2,6 @@
 #![tactic(auto)]
 
 mod command;
-mod form;
 mod program;
 mod refusal;
 mod report;
@@ -10,9 +9,7 @@ mod runs;
 mod status;
 #[cfg(test)]
 mod tests;
-mod tree;
 mod verdict;
-mod walk;
 
 use outside_io::{HostFiles, HostOut};
 use runs::run;

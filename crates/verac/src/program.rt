@@ -2,12 +2,11 @@
 ghost use Rattle.std.specs.Prelude.{◌≤◌, length, IfOk};
 ghost use Rattle.verac.specs.Read.{Tells};
 
-use crate::form::form_of;
 use crate::refusal::Refusal;
-use crate::tree::Expr;
 use crate::verdict::{one_program, program_nor_refused};
 use c_lexer::{LexError, Reason, lex};
 use c_parser::{ParseError, parse};
+use constant_form::{Expr, form_of};
 use std::alloc::{AllocError, Global};
 
 /// What a file's bytes are.

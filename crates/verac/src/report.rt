@@ -1,6 +1,7 @@
 // The text of a report.
 ghost use Rattle.std.specs.Prelude.{◌≡◌, All, IfOk, string_bytes};
-ghost use Rattle.verac.specs.Report.{kind_text, low_text, high_text, class_text, forbids_zero, allowed_text, shown_text, example_text, head_text, alarm_text, text_of, IsPrintable};
+ghost use Rattle.constant_form.specs.Order.{IsPrintable};
+ghost use Rattle.verac.specs.Report.{kind_text, low_text, high_text, class_text, forbids_zero, allowed_text, shown_text, example_text, head_text, alarm_text, text_of};
 
 use c_syntax::{Alarm, Check, Example, Pos, Shown, WrongKind};
 use std::alloc::{AllocError, Global};

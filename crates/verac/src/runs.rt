@@ -9,7 +9,7 @@ use crate::program::{Read, program_of};
 use crate::refusal::{Refusal, refusal_line};
 use crate::report::report_text;
 use crate::status::Status;
-use crate::walk::alarms_of;
+use constant_form::alarms_of;
 use outside_io::{Files, ReadError, Sink, read_all, write_all};
 use std::alloc::{AllocError, Global};
 

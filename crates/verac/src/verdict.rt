@@ -1,7 +1,7 @@
 // Laws of the verdict: bytes are one program, or are refused once.
 ghost use Rattle.std.specs.Prelude.{◌≡◌, ◌≤◌, ℕ, List, length};
 ghost use Rattle.verac.specs.declared.refusal.Refusal.{Refusal};
-ghost use Rattle.verac.specs.Tree.{ProgramTree};
+ghost use Rattle.constant_form.specs.Tree.{ProgramTree};
 ghost use Rattle.verac.specs.Program.{IsProgram};
 ghost use Rattle.verac.specs.Verdict.{IsRefused};
 

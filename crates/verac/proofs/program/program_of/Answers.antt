@@ -1,5 +1,5 @@
 use Rattle.c_written.specs.WrittenFile.{file_tree}
-use Rattle.verac.specs.Tree.{ProgramTree, expr_tree, returning}
+use Rattle.constant_form.specs.Tree.{ProgramTree, expr_tree, returning}
 use Rattle.verac.specs.Program.{IsProgram}
 use Rattle.verac.proofs.program.program_of.Goals as goal
 

@@ -1,6 +1,6 @@
 use Rattle.std.proofs.Common.{rules, ◌≡◌, ◌≢◌, List, [], string_bytes, subst}
 use Rattle.c_syntax.specs.declared.alarm.Alarm.{Alarm}
-use Rattle.verac.specs.Tree.{expr_tree, returning}
+use Rattle.constant_form.specs.Tree.{expr_tree, returning}
 use Rattle.verac.specs.Read.{IsOneProgram}
 use Rattle.verac.specs.Report.{text_of}
 use Rattle.verac.specs.Headline.{IsReport}

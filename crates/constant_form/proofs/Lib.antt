@@ -1,0 +1,7 @@
+pub mod Trees
+pub mod RunLemmas
+pub mod SizeLemmas
+pub mod AlarmLemmas
+pub mod WalkLemmas
+pub mod FormLemmas
+pub mod FoundLemmas

@@ -1,0 +1,9 @@
+pub mod Tree
+pub mod Form
+pub mod Operators
+pub mod Machine
+pub mod Sound
+pub mod Admission
+pub mod Order
+pub mod Outcome
+pub mod Walk

@@ -1,0 +1,39 @@
+-- The trees of this form without pointers, so that a text has one.
+use Rattle.std.specs.Prelude.{ℤ, pos, ◌≤ℤ◌, List, [], ◌∷◌}
+use Rattle.c_written.specs.declared.place.Pos.{Pos}
+use Rattle.c_syntax.specs.Types.{ObjectTree}
+use Rattle.constant_form.specs.declared.tree.Operator.{Operator}
+use Rattle.constant_form.specs.declared.tree.Expr.{Expr}
+use Rattle.constant_form.specs.declared.tree.Expr.TheVariants as code
+
+-- an expression, each node with its place
+pub data ExprTree : Type 0 where
+  Constant : Pos → ℤ → ExprTree
+  Negate : Pos → ExprTree → ExprTree
+  Binary : Pos → Operator → ExprTree → ExprTree → ExprTree
+
+-- the tree that a value of the code stands for
+abbrev pub expr_tree : Expr → ExprTree
+expr_tree (code.Constant at n) = Constant at n
+expr_tree (code.Negate' at p a) = Negate at (expr_tree a)
+expr_tree (code.Binary' at op p a q b) = Binary at op (expr_tree a) (expr_tree b)
+
+pub data Statement : Type 0 where
+  Return : ExprTree → Statement
+
+-- a program: the statements of main, whose result is int
+pub record ProgramTree : Type 0 where
+  pub body : List Statement
+
+abbrev pub returning : ExprTree → ProgramTree
+returning e = record { body = Return e ∷ [] }
+
+-- this form has no objects
+abbrev pub objects_of : ProgramTree → List ObjectTree
+objects_of program = []
+
+-- each constant is an int that is not negative
+abbrev pub HasConstants : ExprTree → Type 0
+HasConstants (Constant at n) = (pos 0 ≤ℤ n) × (n ≤ℤ pos 2147483647)
+HasConstants (Negate at a) = HasConstants a
+HasConstants (Binary at op a b) = HasConstants a × HasConstants b
