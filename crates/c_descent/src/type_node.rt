@@ -202,15 +202,18 @@ pub fn specs_pos(specs: &Specs) -> Pos
 pub fn declared_word(declarator: &Declarator) -> Option<&Name>
     ensures { option_map (λ n. n.now) result ≡ declared_word (declarator_tree declarator.now) }
 {
-    match declarator {
-        Declarator::Absent => None,
-        Declarator::Name { name, .. } => Some(name),
-        Declarator::Grouped { inner, .. }
-        | Declarator::Pointer { inner, .. }
-        | Declarator::Array { inner, .. }
-        | Declarator::OpenArray { inner, .. }
-        | Declarator::Function { inner, .. }
-        | Declarator::VoidFunction { inner, .. } => declared_word(inner),
+    let mut rest = declarator;
+    loop {
+        match rest {
+            Declarator::Absent => return None,
+            Declarator::Name { name, .. } => return Some(name),
+            Declarator::Grouped { inner, .. }
+            | Declarator::Pointer { inner, .. }
+            | Declarator::Array { inner, .. }
+            | Declarator::OpenArray { inner, .. }
+            | Declarator::Function { inner, .. }
+            | Declarator::VoidFunction { inner, .. } => rest = inner,
+        }
     }
 }
 

@@ -1,3 +1,4 @@
+pub mod Chains
 pub mod Wrapping
 pub mod Keeping
 pub mod Spaces

@@ -177,22 +177,24 @@ fn entry_room(def: &StructDef) -> Room
 fn element_of(ty: &CType) -> &CType
     ensures { ctype_tree result.now ≡ element (ctype_tree ty.now) }
 {
-    match ty {
-        CType::Array(of, _) => element_of(&of.ty),
-        CType::Void | CType::Int(_) | CType::Pointer(_) | CType::Struct(_) | CType::Function(_) =>
-            ty,
+    let mut ty = ty;
+    while let CType::Array(of, _) = ty {
+        ty = &of.ty;
     }
+    ty
 }
 
 // How many of these elements it has.
 fn count_of(ty: &CType) -> u64
     ensures { result ≡ kept (element_count (ctype_tree ty.now)) }
 {
-    match ty {
-        CType::Array(of, n) => product(*n, count_of(&of.ty)),
-        CType::Void | CType::Int(_) | CType::Pointer(_) | CType::Struct(_) | CType::Function(_) =>
-            1,
+    let mut count = 1;
+    let mut ty = ty;
+    while let CType::Array(of, n) = ty {
+        count = product(count, *n);
+        ty = &of.ty;
     }
+    count
 }
 
 fn product(a: u64, b: u64) -> u64

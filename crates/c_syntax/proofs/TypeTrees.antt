@@ -1,6 +1,6 @@
 -- The tree of a type, by the constructors that the code has.
 use Rattle.std.proofs.Common.{◌≡◌, ℕ, Bool, refl}
-use Rattle.std.specs.declared.boxed.Box.{Box}
+use Rattle.std.specs.declared.rc.Rc.{Rc}
 use Rattle.std.specs.declared.alloc.Global.{Global}
 use Rattle.c_written.specs.declared.int_type.IntType.{IntType}
 use Rattle.c_syntax.specs.declared.types.Target.{Target}
@@ -16,11 +16,11 @@ pub ctype_int : (t : IntType) → ctype_tree (types.Int t) ≡ Int t
 unfolding ctype_tree
 ctype_int t = refl
 
-pub ctype_pointer : (to : Box Target Global) → ctype_tree (types.Pointer to) ≡ Pointer (ctype_tree to.value.ty) to.value.is_const
+pub ctype_pointer : (to : Rc Target Global) → ctype_tree (types.Pointer to) ≡ Pointer (ctype_tree to.value.ty) to.value.is_const
 unfolding ctype_tree
 ctype_pointer to = refl
 
-pub ctype_array : (of : Box Target Global) (n : ℕ) → ctype_tree (types.Array of n) ≡ Array (ctype_tree of.value.ty) of.value.is_const n
+pub ctype_array : (of : Rc Target Global) (n : ℕ) → ctype_tree (types.Array of n) ≡ Array (ctype_tree of.value.ty) of.value.is_const n
 unfolding ctype_tree
 ctype_array of n = refl
 
@@ -53,22 +53,22 @@ not_int (types.Struct n) other u e = cc
 not_int (types.Function n) other u e = cc
 
 -- a type that is not of this form has no such tree
-pub not_pointer : (b : CType) → ((box : Box Target Global) → b ≡ types.Pointer box → ⊥) → (to : CTypeTree) (c : Bool) → ctype_tree b ≡ Pointer to c → ⊥
+pub not_pointer : (b : CType) → ((box : Rc Target Global) → b ≡ types.Pointer box → ⊥) → (to : CTypeTree) (c : Bool) → ctype_tree b ≡ Pointer to c → ⊥
 unfolding ctype_tree
 not_pointer types.Void other to c e = cc
 not_pointer (types.Int t) other to c e = cc
-not_pointer (types.Pointer' place ty is_const) other to c e = other (record { ptr = place.ptr; alloc = place.alloc; value = record { ty = ty; is_const = is_const } }) refl
+not_pointer (types.Pointer' place ty is_const) other to c e = other (record { ptr = place.ptr; value = record { ty = ty; is_const = is_const } }) refl
 not_pointer (types.Array' place ty is_const n) other to c e = cc
 not_pointer (types.Struct n) other to c e = cc
 not_pointer (types.Function n) other to c e = cc
 
 -- a type that is not of this form has no such tree
-pub not_array : (b : CType) → ((box : Box Target Global) (n : ℕ) → b ≡ types.Array box n → ⊥) → (of : CTypeTree) (c : Bool) (m : ℕ) → ctype_tree b ≡ Array of c m → ⊥
+pub not_array : (b : CType) → ((box : Rc Target Global) (n : ℕ) → b ≡ types.Array box n → ⊥) → (of : CTypeTree) (c : Bool) (m : ℕ) → ctype_tree b ≡ Array of c m → ⊥
 unfolding ctype_tree
 not_array types.Void other of c m e = cc
 not_array (types.Int t) other of c m e = cc
 not_array (types.Pointer' place ty is_const) other of c m e = cc
-not_array (types.Array' place ty is_const n) other of c m e = other (record { ptr = place.ptr; alloc = place.alloc; value = record { ty = ty; is_const = is_const } }) n refl
+not_array (types.Array' place ty is_const n) other of c m e = other (record { ptr = place.ptr; value = record { ty = ty; is_const = is_const } }) n refl
 not_array (types.Struct n) other of c m e = cc
 not_array (types.Function n) other of c m e = cc
 

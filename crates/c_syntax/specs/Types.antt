@@ -24,6 +24,12 @@ pub record ObjectTree : Type 0 where
   pub read_only : Bool
   pub is_static : Bool
 
+-- a type that is no pointer and no array
+abbrev pub HasNoTarget : CTypeTree → Type 0
+HasNoTarget (Pointer to is_const) = ⊥
+HasNoTarget (Array of is_const n) = ⊥
+HasNoTarget ty = Unit {0}
+
 -- the tree of a type
 unfoldable pub ctype_tree : CType → CTypeTree
 ctype_tree types.Void = Void

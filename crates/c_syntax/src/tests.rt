@@ -25,6 +25,7 @@ use crate::{
     TFunctions, TInit, TInits, TLvalue, TProgram, TStmt, TStmts, Target, TypeWord, same_type,
 };
 use std::alloc::{AllocError as NoMemory, Global};
+use std::rc::Rc;
 use std::test::Fail;
 
 /// The object of this number, of type int.
@@ -129,7 +130,7 @@ fn pointer(alloc: Global, ty: CType, is_const: bool) -> Result<CType, NoMemory>
     ensures { IfOk result (λ p. ctype_tree p ≡ Pointer (ctype_tree ty) is_const) }
 {
     let target = Target { ty, is_const };
-    Ok(CType::Pointer(Box::new(alloc, target)?))
+    Ok(CType::Pointer(Rc::new(alloc, target)?))
 }
 
 #[test]
@@ -138,7 +139,7 @@ fn types_are_compared_whole(rt: HostRuntime) -> Result<(), Fail> {
     let int = pointer(alloc, CType::Int(IntType::Int), false)?;
     let constant = pointer(alloc, CType::Int(IntType::Int), true)?;
     let long = pointer(alloc, CType::Int(IntType::Long), false)?;
-    let copy = int.copy(alloc)?;
+    let copy = int.copy()?;
     assert!(rt; same_type(&int, &copy));
     assert!(rt; !same_type(&int, &constant));
     assert!(rt; !same_type(&int, &long));

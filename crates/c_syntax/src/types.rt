@@ -2,19 +2,20 @@
 #![tactic(auto, using(crate::proofs::Trees::the_trees))]
 
 ghost use Rattle.std.specs.Prelude.{◌≡◌, ◌↔◌, IfOk, IsTrue};
-ghost use Rattle.c_syntax.specs.Types.{ctype_tree};
+ghost use Rattle.c_syntax.specs.Types.{HasNoTarget, ctype_tree};
 
 use crate::{IntType, Name, Pos};
-use std::alloc::{AllocError as NoMemory, Global};
+use std::alloc::AllocError as NoMemory;
+use std::rc::Rc;
 
 /// A type. A struct and a function go by their numbers in the program.
 #[cycle(types)]
-#[derive(Debug, Drop)]
+#[derive(Debug)]
 pub enum CType {
     Void,
     Int(IntType),
-    Pointer(Box<Target>),
-    Array(Box<Target>, u64),
+    Pointer(Rc<Target>),
+    Array(Rc<Target>, u64),
     Struct(u64),
     Function(u64),
 }
@@ -25,6 +26,31 @@ pub enum CType {
 pub struct Target {
     pub ty: CType,
     pub is_const: bool,
+}
+
+// By a loop, so that a long chain takes no stack. What others share stays.
+impl Drop for CType {
+    fn drop(mut self) {
+        loop {
+            match self {
+                CType::Void | CType::Int(_) | CType::Struct(_) | CType::Function(_) => return,
+                CType::Pointer(to) => match Rc::into_inner(to) {
+                    None => return,
+                    Some(target) => {
+                        let Target { ty, is_const: _ } = target;
+                        self = ty;
+                    }
+                },
+                CType::Array(of, _) => match Rc::into_inner(of) {
+                    None => return,
+                    Some(target) => {
+                        let Target { ty, is_const: _ } = target;
+                        self = ty;
+                    }
+                },
+            }
+        }
+    }
 }
 
 /// A variable or a string literal, whose name is then `string`. Its size is in bytes.
@@ -39,31 +65,15 @@ pub struct Object {
 }
 
 impl CType {
-    /// A copy of the type.
-    pub fn copy(&self, alloc: Global) -> Result<CType, NoMemory>
+    /// A copy of the type, which shares what it is made of.
+    pub fn copy(&self) -> Result<CType, NoMemory>
         ensures { IfOk result (λ copy. ctype_tree copy ≡ ctype_tree self.now) }
     {
         match self {
             CType::Void => Ok(CType::Void),
             CType::Int(t) => Ok(CType::Int(*t)),
-            CType::Pointer(to) => {
-                let ty = to.ty.copy(alloc)?;
-                let target = Target {
-                    ty,
-                    is_const: to.is_const,
-                };
-                let boxed = Box::new(alloc, target)?;
-                Ok(CType::Pointer(boxed))
-            }
-            CType::Array(of, n) => {
-                let ty = of.ty.copy(alloc)?;
-                let target = Target {
-                    ty,
-                    is_const: of.is_const,
-                };
-                let boxed = Box::new(alloc, target)?;
-                Ok(CType::Array(boxed, *n))
-            }
+            CType::Pointer(to) => Ok(CType::Pointer(to.clone()?)),
+            CType::Array(of, n) => Ok(CType::Array(of.clone()?, *n)),
             CType::Struct(n) => Ok(CType::Struct(*n)),
             CType::Function(n) => Ok(CType::Function(*n)),
         }
@@ -74,21 +84,50 @@ impl CType {
 pub fn same_type(a: &CType, b: &CType) -> bool
     ensures { IsTrue result ↔ (ctype_tree a.now ≡ ctype_tree b.now) }
 {
+    let mut a = a;
+    let mut b = b;
+    loop {
+        match a {
+            CType::Pointer(s) => match b {
+                CType::Pointer(t) => {
+                    if s.is_const != t.is_const {
+                        return false;
+                    }
+                    a = &s.ty;
+                    b = &t.ty;
+                }
+                _ => return false,
+            },
+            CType::Array(s, m) => match b {
+                CType::Array(t, n) => {
+                    if m != n || s.is_const != t.is_const {
+                        return false;
+                    }
+                    a = &s.ty;
+                    b = &t.ty;
+                }
+                _ => return false,
+            },
+            CType::Void | CType::Int(_) | CType::Struct(_) | CType::Function(_) => {
+                return same_core(a, b);
+            }
+        }
+    }
+}
+
+// The same, where the first is no pointer and no array.
+fn same_core(a: &CType, b: &CType) -> bool
+    requires { HasNoTarget (ctype_tree a.now) }
+    ensures { IsTrue result ↔ (ctype_tree a.now ≡ ctype_tree b.now) }
+{
     match a {
         CType::Void => match b {
             CType::Void => true,
             _ => false,
         },
+        CType::Pointer(_) | CType::Array(_, _) => false,
         CType::Int(s) => match b {
             CType::Int(t) => s == t,
-            _ => false,
-        },
-        CType::Pointer(s) => match b {
-            CType::Pointer(t) => s.is_const == t.is_const && same_type(&s.ty, &t.ty),
-            _ => false,
-        },
-        CType::Array(s, m) => match b {
-            CType::Array(t, n) => { m == n && s.is_const == t.is_const && same_type(&s.ty, &t.ty) }
             _ => false,
         },
         CType::Struct(m) => match b {

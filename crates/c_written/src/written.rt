@@ -265,7 +265,6 @@ pub enum Enumerator {
 
 /// A declarator, or an abstract one, which has no word in it.
 #[cycle(written)]
-#[derive(Drop)]
 pub enum Declarator {
     /// An abstract declarator of no tokens.
     Absent,
@@ -305,6 +304,41 @@ pub enum Declarator {
         pos: Pos,
         inner: Box<Declarator>,
     },
+}
+
+// By a loop over the declarator inside, so that a long chain of forms takes no stack. What else a form holds,
+// as the size of an array, is bounded by the nesting.
+impl Drop for Declarator {
+    #[cycle(written)]
+    fn drop(mut self) {
+        loop {
+            match self {
+                Declarator::Absent => return,
+                Declarator::Name {
+                    pos: _,
+                    name: _name,
+                } => return,
+                Declarator::Grouped { pos: _, inner } => self = Box::into_inner(inner),
+                Declarator::Pointer {
+                    pos: _,
+                    is_const: _,
+                    inner,
+                } => self = Box::into_inner(inner),
+                Declarator::Array {
+                    pos: _,
+                    inner,
+                    size: _size,
+                } => self = Box::into_inner(inner),
+                Declarator::OpenArray { pos: _, inner } => self = Box::into_inner(inner),
+                Declarator::Function {
+                    pos: _,
+                    inner,
+                    params: _params,
+                } => self = Box::into_inner(inner),
+                Declarator::VoidFunction { pos: _, inner } => self = Box::into_inner(inner),
+            }
+        }
+    }
 }
 
 /// A parameter, with a name or without. The place is that of the first of its specs.
