@@ -16,13 +16,13 @@ use Rattle.c_grammar.specs.Grammar.{at_start, file_rule}
 use Rattle.c_grammar.specs.Refused.{Why, Syntax, Unsupported, TooDeep, IsFile, IsRefused}
 use Rattle.c_grammar.specs.Descent.{Outcome, Done, Stop, Goes, Follows, by_rule, is_done, passes}
 use Rattle.c_grammar.proofs.Laws.{found, file_only, refusal_only}
-use Rattle.c_descent.specs.declared.fault.Fault.{Fault}
-use Rattle.c_descent.specs.declared.fault.Fault.TheVariants as faults
-use Rattle.c_descent.specs.Answers.{Gives, Halts, syntax, unsupported, too_deep}
+use Rattle.c_parse_steps.specs.declared.fault.Fault.{Fault}
+use Rattle.c_parse_steps.specs.declared.fault.Fault.TheVariants as faults
+use Rattle.c_parse_steps.specs.Answers.{Gives, Halts, syntax, unsupported, too_deep}
 use Rattle.c_parser.specs.declared.parsing.ParseError.{ParseError}
 use Rattle.c_parser.specs.declared.parsing.ParseError.TheVariants as errors
-use Rattle.c_descent.proofs.Steps.{halt, halts, here, stops_here}
-use Rattle.c_descent.proofs.Paths.{Path, begin, behind, goes_so}
+use Rattle.c_parse_steps.proofs.Steps.{halt, halts, here, stops_here}
+use Rattle.c_parse_steps.proofs.Paths.{Path, begin, behind, goes_so}
 use Rattle.c_parser.specs.Refusals.{IsError, IsErrorOf, TellsRefused}
 
 -- the descent through the file ends so

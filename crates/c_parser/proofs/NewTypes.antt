@@ -16,7 +16,7 @@ use Rattle.c_written.specs.WrittenDecl.{initdeclarator_tree}
 use Rattle.c_written.specs.WrittenFile.{outer_tree}
 use Rattle.c_written.proofs.WrittenFileTrees.{outer_declared, outer_function}
 use Rattle.c_grammar.specs.Made.{declared_word, declared_words, has_typedef, is_typedef, new_types, with_word}
-use Rattle.c_descent.proofs.Steps.{if_false}
+use Rattle.c_parse_steps.proofs.Steps.{if_false}
 
 abbrev pub typedef_among : List Spec → Bool
 typedef_among specs = has_typedef (specs_from specs)

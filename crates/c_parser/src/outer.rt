@@ -8,13 +8,13 @@ ghost use Rattle.c_written.specs.WrittenFile.{Function, blockitems_tree, outer_t
 ghost use Rattle.c_grammar.specs.Made.{declared_word, declared_words, has_typedef, is_typedef, new_types, specs_pos, with_word};
 ghost use Rattle.c_grammar.specs.Parts as part;
 ghost use Rattle.c_grammar.specs.Refused.{first_is, is_brace};
-ghost use Rattle.c_descent.specs.Answers.{Answers};
-ghost use Rattle.c_descent.specs.Views.{boxed_declarator, scene_of};
+ghost use Rattle.c_parse_steps.specs.Answers.{Answers};
+ghost use Rattle.c_parse_steps.specs.Views.{boxed_declarator, scene_of};
 
-use c_decls::{initial, no_declarators};
-use c_descent::{Class, Context, Fault, Mark, Role, comes, declared_word, specs_pos, taken};
-use c_exprs::{declarator, specs};
-use c_stmts::block_items;
+use c_parse_decls::{initial, no_declarators};
+use c_parse_exprs::{declarator, specs};
+use c_parse_steps::{Class, Context, Fault, Mark, Role, comes, declared_word, specs_pos, taken};
+use c_parse_stmts::block_items;
 use c_written::{
     BlockItems, Declarator, InitDeclarator, Name, Outer, Placed, Pos, Punctuator, Spec, Specs,
     StorageWord,

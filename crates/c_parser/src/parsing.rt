@@ -7,13 +7,13 @@ ghost use Rattle.c_written.specs.declared.token.Placed.{Placed};
 ghost use Rattle.c_grammar.specs.Refused.{IsFile, IsRefused, Why};
 ghost use Rattle.c_parser.specs.Refusals.{IsError, IsErrorOf, TellsRefused, place_of};
 ghost use Rattle.c_grammar.specs.Parts as part;
-ghost use Rattle.c_descent.specs.Answers.{Answers, Halts};
+ghost use Rattle.c_parse_steps.specs.Answers.{Answers, Halts};
 ghost use Rattle.c_grammar.specs.Grammar.{at_start};
 ghost use Rattle.c_grammar.specs.Descent.{Done, Goes, Stop};
 ghost use Rattle.c_parser.specs.declared.parsing.ParseError.TheVariants.{NoMemory};
 
 use crate::outer::{outer, push_types};
-use c_descent::{Context, Fault, Setting};
+use c_parse_steps::{Context, Fault, Setting};
 use c_written::{Construct, File, Name, Outer, Outers, Placed, Pos, Tokens};
 use std::alloc::Global;
 use thiserror::Error;

@@ -1,7 +1,7 @@
 use Rattle.std.proofs.Common.{sym, ap, ◌∙◌}
 use Rattle.std.specs.Result.{is_ok}
-use Rattle.c_descent.proofs.Steps.{if_true}
-use Rattle.c_descent.specs.Answers.{no_memory}
+use Rattle.c_parse_steps.proofs.Steps.{if_true}
+use Rattle.c_parse_steps.specs.Answers.{no_memory}
 use Rattle.c_parser.proofs.Answered.{fault_passed, outers_begin, outers_end, outers_more, outer_added, outer_refused, read_with}
 use Rattle.c_parser.proofs.parsing.outers.Goals as goal
 

@@ -1,0 +1,44 @@
+// What was made of a form, handed on.
+#![tactic(auto)]
+
+ghost use Rattle.std.specs.Prelude.{◌<◌, ◌≤◌, length, IfOk};
+ghost use Rattle.c_grammar.specs.Classes.{sign};
+ghost use Rattle.c_parse_steps.specs.Views.{scene_of};
+ghost use Rattle.c_parse_leaves.specs.Ends.{Closes, Hands};
+
+use c_parse_steps::{Class, Context, Fault, taken};
+use c_written::{Placed, Punctuator};
+use std::alloc::AllocError;
+
+/// What was made, with the tokens behind it.
+pub fn handed<'a, T>(
+    made: Result<T, AllocError>,
+    tokens: &'a [Placed],
+) -> Result<(T, &'a [Placed]), Fault<'a>>
+    ensures goes { Hands tokens.now made result }
+    ensures shorter { IfOk result (λ x. length x.1.now ≤ length tokens.now) }
+{
+    match made {
+        Ok(whole) => Ok((whole, tokens)),
+        Err(_) => Err(Fault::NoMemory),
+    }
+}
+
+/// The sign that ends a form and is counted as so many forms, and what was made of the form.
+pub fn closed<'a, T: Drop>(
+    context: &Context<'_>,
+    count: u32,
+    forms: u32,
+    closes: Punctuator,
+    made: Result<T, AllocError>,
+    tokens: &'a [Placed],
+) -> Result<(T, &'a [Placed]), Fault<'a>>
+    requires { forms ≤ 200 }
+    ensures goes { Closes count (scene_of context.now) forms (sign closes) tokens.now made result }
+    ensures shorter { IfOk result (λ x. length x.1.now < length tokens.now) }
+{
+    match taken(context, count, forms, Class::Sign(closes), tokens) {
+        Ok((_, rest)) => handed(made, rest),
+        Err(fault) => Err(fault),
+    }
+}

@@ -1,0 +1,116 @@
+// The name that is declared, and what may follow it and holds no expression.
+#![tactic(auto, using(c_written::proofs::Trees::the_written_trees))]
+
+ghost use Rattle.std.specs.Prelude.{◌≡◌, ◌<◌, ◌≤◌, true, false, not, ◌&&◌, length, IfOk};
+ghost use Rattle.c_written.specs.Written.{declarator_tree};
+ghost use Rattle.c_grammar.specs.Ahead.{is_close, is_open, params_ahead};
+ghost use Rattle.c_grammar.specs.Parts as part;
+ghost use Rattle.c_grammar.specs.Made.{is_given};
+ghost use Rattle.c_grammar.specs.Choice.{is_const_word};
+ghost use Rattle.c_grammar.specs.Refused.{first_is, may_omit};
+ghost use Rattle.c_parse_steps.specs.Answers.{Answers, Consts, SizeIsMissing};
+ghost use Rattle.c_parse_steps.specs.Kinds.{is_no_tail};
+ghost use Rattle.c_parse_steps.specs.Views.{boxed_declarator, role_view, scene_of};
+ghost use Rattle.c_parse_leaves.specs.Readers.{ReadsName};
+
+use c_parse_steps::{
+    Class, Context, Fault, Mark, Role, TailKind, comes, empty_declarator, is_given, name_of,
+    open_array_declarator, params_ahead, taken,
+};
+use c_written::{Declarator, Keyword, Placed, Pos, Punctuator};
+
+/// The word that a declarator declares.
+pub fn declared_name<'a>(
+    context: &Context<'_>,
+    count: u32,
+    tokens: &'a [Placed],
+) -> Result<(Box<Declarator>, &'a [Placed]), Fault<'a>>
+    ensures goes { ReadsName count (scene_of context.now) tokens.now result }
+    ensures shorter { IfOk result (λ x. length x.1.now < length tokens.now) }
+{
+    let (word, rest) = taken(context, count, 0, Class::Word, tokens)?;
+    let name = name_of(context.alloc, &word.token)?;
+    let pos = word.pos;
+    let whole = Box::new(context.alloc, Declarator::Name { pos, name })?;
+    Ok((whole, rest))
+}
+
+/// The words `const` behind a `*`, and whether there is one.
+pub fn consts<'a>(
+    context: &Context<'_>,
+    role: Role,
+    count: u32,
+    at: Pos,
+    tokens: &'a [Placed],
+) -> Result<(bool, &'a [Placed]), Fault<'a>>
+    ensures goes { Consts count (scene_of context.now) (role_view role) at tokens.now result }
+    ensures ended { IfOk result (λ x. first_is is_const_word x.1.now ≡ false) }
+    ensures shorter { IfOk result (λ x. length x.1.now ≤ length tokens.now) }
+{
+    let mut is_const = false;
+    let mut rest = tokens;
+    'words: while comes(Mark::Const, rest) {
+        let (_word, after) = taken(context, count, 0, Class::Keyword(Keyword::Const), rest)?;
+        is_const = true;
+        rest = after;
+    }
+    Ok((is_const, rest))
+}
+
+/// The bracket that closes, where there is no size.
+pub fn no_size<'a>(
+    context: &Context<'_>,
+    role: Role,
+    count: u32,
+    at: Pos,
+    inner: Box<Declarator>,
+    tokens: &'a [Placed],
+) -> Result<(Box<Declarator>, &'a [Placed]), Fault<'a>>
+    requires { SizeIsMissing (role_view role) tokens.now }
+    ensures goes { Answers count (scene_of context.now) (part.ADeclarator (part.Size (role_view role) at (boxed_declarator inner))) tokens.now (λ d. boxed_declarator d) result }
+    ensures shorter { IfOk result (λ x. length x.1.now < length tokens.now) }
+{
+    let closes = Class::Sign(Punctuator::RightBracket);
+    let (_close, rest) = taken(context, count, 0, closes, tokens)?;
+    let whole = open_array_declarator(context.alloc, at, inner)?;
+    Ok((whole, rest))
+}
+
+/// The parenthesis that closes, where there are no parameters.
+pub fn no_parameters<'a>(
+    context: &Context<'_>,
+    count: u32,
+    at: Pos,
+    inner: Box<Declarator>,
+    tokens: &'a [Placed],
+) -> Result<(Box<Declarator>, &'a [Placed]), Fault<'a>>
+    requires { first_is is_close tokens.now ≡ true }
+    ensures goes { Answers count (scene_of context.now) (part.ADeclarator (part.Parameters at (boxed_declarator inner))) tokens.now (λ d. boxed_declarator d) result }
+    ensures shorter { IfOk result (λ x. length x.1.now < length tokens.now) }
+{
+    let closes = Class::Sign(Punctuator::RightParenthesis);
+    let (_close, rest) = taken(context, count, 0, closes, tokens)?;
+    let whole = empty_declarator(context.alloc, at, inner)?;
+    Ok((whole, rest))
+}
+
+/// Parameters come where a name is missing.
+pub fn params_come(context: &Context<'_>, role: Role, tokens: &[Placed]) -> bool
+    ensures { result ≡ (may_omit (role_view role) && params_ahead (scene_of context.now) tokens.now) }
+{
+    role.may_omit() && params_ahead(context, tokens)
+}
+
+/// The parenthesis of parameters comes, and no plain word stands before it.
+pub fn calls_no_name(is_plain: bool, inner: &Declarator, tokens: &[Placed]) -> bool
+    ensures { result ≡ (first_is is_open tokens.now && (not is_plain && is_given (declarator_tree inner.now))) }
+{
+    comes(Mark::Open, tokens) && !is_plain && is_given(inner)
+}
+
+/// Whether neither brackets nor parameters come.
+pub fn is_no_tail(kind: TailKind) -> bool
+    ensures { result ≡ is_no_tail kind }
+{
+    matches!(kind, TailKind::Nothing)
+}

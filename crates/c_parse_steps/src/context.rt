@@ -1,0 +1,37 @@
+// What the descent knows besides the tokens.
+
+ghost use Rattle.std.specs.Prelude.{◌≡◌};
+ghost use Rattle.c_grammar.specs.Classes.{names_type};
+ghost use Rattle.c_parse_steps.specs.Views.{scene_of};
+
+use c_written::Name;
+use std::alloc::Global;
+
+/// Where tokens stand.
+#[derive(Clone, Copy, Debug, PartialEq, Eq)]
+pub enum Setting {
+    /// Outside of functions.
+    AtFile,
+    /// In a block, but not directly in that of a switch.
+    InBlock,
+    /// Directly in the block of a switch.
+    InSwitch,
+}
+
+/// The memory that trees are made in, the typedef names in force, and where the tokens stand.
+#[derive(Drop)]
+pub struct Context<'a> {
+    pub alloc: Global,
+    pub types: &'a [Name],
+    pub setting: Setting,
+}
+
+impl Context<'_> {
+    /// Whether the name is a typedef name in force.
+    #[tactic(auto, unfolding(c_grammar::specs::Classes::names_type))]
+    pub fn names_type(&self, name: &[u8]) -> bool
+        ensures { result ≡ names_type (scene_of self.now) name.now }
+    {
+        self.types.iter().any(|known| name == known.as_slice())
+    }
+}

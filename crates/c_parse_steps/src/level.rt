@@ -1,0 +1,232 @@
+// Levels of operators.
+
+ghost use Rattle.std.specs.Prelude.{◌≡◌, option_map};
+ghost use Rattle.c_parse_steps.specs.Views.{joint_view, level_view};
+ghost use Rattle.c_parse_steps.specs.Kinds.{joint_here, joint_for, operand_of};
+ghost use Rattle.c_grammar.specs.Choice.{joint_of_sign};
+ghost use Rattle.c_grammar.specs.Classes.{joint_sign};
+ghost use Rattle.c_grammar.specs.Parts as part;
+
+use crate::token::sign_at;
+use c_written::{BinaryOp, Placed, Punctuator};
+
+/// The operators of one rank, which lean to the left.
+#[derive(Clone, Copy, Debug, PartialEq, Eq)]
+pub enum Level {
+    Commas,
+    Ors,
+    Ands,
+    BitOrs,
+    BitXors,
+    BitAnds,
+    Equalities,
+    Relations,
+    Shifts,
+    Sums,
+    Products,
+}
+
+/// What stands on either side of a joint of a level.
+#[derive(Clone, Copy, Debug, PartialEq, Eq)]
+pub enum Operand {
+    Assignment,
+    /// The operands of the next level, and joints between them.
+    Run(Level),
+    Cast,
+}
+
+/// The operands of a level.
+pub fn operand_of(level: Level) -> Operand
+    ensures { result ≡ operand_of level }
+{
+    match level {
+        Level::Commas => Operand::Assignment,
+        Level::Ors => Operand::Run(Level::Ands),
+        Level::Ands => Operand::Run(Level::BitOrs),
+        Level::BitOrs => Operand::Run(Level::BitXors),
+        Level::BitXors => Operand::Run(Level::BitAnds),
+        Level::BitAnds => Operand::Run(Level::Equalities),
+        Level::Equalities => Operand::Run(Level::Relations),
+        Level::Relations => Operand::Run(Level::Shifts),
+        Level::Shifts => Operand::Run(Level::Sums),
+        Level::Sums => Operand::Run(Level::Products),
+        Level::Products => Operand::Cast,
+    }
+}
+
+/// What stands between two operands.
+#[derive(Clone, Copy, Debug, PartialEq, Eq)]
+pub enum Joint {
+    Comma,
+    Binary(BinaryOp),
+}
+
+/// The joint of the level that comes, where one does.
+pub fn joint_at(level: Level, tokens: &[Placed]) -> Option<Joint>
+    ensures { option_map joint_view result ≡ joint_here (level_view level) tokens.now }
+{
+    match sign_at(tokens) {
+        Some(sign) => joint_of(level, sign),
+        None => None,
+    }
+}
+
+fn joint_of(level: Level, sign: Punctuator) -> Option<Joint>
+    ensures { option_map joint_view result ≡ joint_for (level_view level) (joint_of_sign sign) }
+{
+    match level {
+        Level::Commas => comma_of(sign),
+        Level::Ors => or_of(sign),
+        Level::Ands => and_of(sign),
+        Level::BitOrs => bit_or_of(sign),
+        Level::BitXors => bit_xor_of(sign),
+        Level::BitAnds => bit_and_of(sign),
+        Level::Equalities => equality_of(sign),
+        Level::Relations => relation_of(sign),
+        Level::Shifts => shift_of(sign),
+        Level::Sums => sum_of(sign),
+        Level::Products => product_of(sign),
+    }
+}
+
+fn comma_of(sign: Punctuator) -> Option<Joint>
+    ensures { option_map joint_view result ≡ joint_for (level_view Level.Commas) (joint_of_sign sign) }
+{
+    match sign {
+        Punctuator::Comma => Some(Joint::Comma),
+        _ => None,
+    }
+}
+
+fn or_of(sign: Punctuator) -> Option<Joint>
+    ensures { option_map joint_view result ≡ joint_for (level_view Level.Ors) (joint_of_sign sign) }
+{
+    match sign {
+        Punctuator::Or => Some(Joint::Binary(BinaryOp::Or)),
+        _ => None,
+    }
+}
+
+fn and_of(sign: Punctuator) -> Option<Joint>
+    ensures { option_map joint_view result ≡ joint_for (level_view Level.Ands) (joint_of_sign sign) }
+{
+    match sign {
+        Punctuator::And => Some(Joint::Binary(BinaryOp::And)),
+        _ => None,
+    }
+}
+
+fn bit_or_of(sign: Punctuator) -> Option<Joint>
+    ensures { option_map joint_view result ≡ joint_for (level_view Level.BitOrs) (joint_of_sign sign) }
+{
+    match sign {
+        Punctuator::Bar => Some(Joint::Binary(BinaryOp::BitOr)),
+        _ => None,
+    }
+}
+
+fn bit_xor_of(sign: Punctuator) -> Option<Joint>
+    ensures { option_map joint_view result ≡ joint_for (level_view Level.BitXors) (joint_of_sign sign) }
+{
+    match sign {
+        Punctuator::Caret => Some(Joint::Binary(BinaryOp::BitXor)),
+        _ => None,
+    }
+}
+
+fn bit_and_of(sign: Punctuator) -> Option<Joint>
+    ensures { option_map joint_view result ≡ joint_for (level_view Level.BitAnds) (joint_of_sign sign) }
+{
+    match sign {
+        Punctuator::Ampersand => Some(Joint::Binary(BinaryOp::BitAnd)),
+        _ => None,
+    }
+}
+
+fn equality_of(sign: Punctuator) -> Option<Joint>
+    ensures { option_map joint_view result ≡ joint_for (level_view Level.Equalities) (joint_of_sign sign) }
+{
+    match sign {
+        Punctuator::Equal => Some(Joint::Binary(BinaryOp::Equal)),
+        Punctuator::NotEqual => Some(Joint::Binary(BinaryOp::Unequal)),
+        _ => None,
+    }
+}
+
+fn relation_of(sign: Punctuator) -> Option<Joint>
+    ensures { option_map joint_view result ≡ joint_for (level_view Level.Relations) (joint_of_sign sign) }
+{
+    match sign {
+        Punctuator::Less => Some(Joint::Binary(BinaryOp::Less)),
+        Punctuator::Greater => Some(Joint::Binary(BinaryOp::Greater)),
+        Punctuator::LessEqual => Some(Joint::Binary(BinaryOp::AtMost)),
+        Punctuator::GreaterEqual => Some(Joint::Binary(BinaryOp::AtLeast)),
+        _ => None,
+    }
+}
+
+fn shift_of(sign: Punctuator) -> Option<Joint>
+    ensures { option_map joint_view result ≡ joint_for (level_view Level.Shifts) (joint_of_sign sign) }
+{
+    match sign {
+        Punctuator::ShiftLeft => Some(Joint::Binary(BinaryOp::ShiftLeft)),
+        Punctuator::ShiftRight => Some(Joint::Binary(BinaryOp::ShiftRight)),
+        _ => None,
+    }
+}
+
+fn sum_of(sign: Punctuator) -> Option<Joint>
+    ensures { option_map joint_view result ≡ joint_for (level_view Level.Sums) (joint_of_sign sign) }
+{
+    match sign {
+        Punctuator::Plus => Some(Joint::Binary(BinaryOp::Plus)),
+        Punctuator::Minus => Some(Joint::Binary(BinaryOp::Minus)),
+        _ => None,
+    }
+}
+
+fn product_of(sign: Punctuator) -> Option<Joint>
+    ensures { option_map joint_view result ≡ joint_for (level_view Level.Products) (joint_of_sign sign) }
+{
+    match sign {
+        Punctuator::Star => Some(Joint::Binary(BinaryOp::Multiply)),
+        Punctuator::Slash => Some(Joint::Binary(BinaryOp::Divide)),
+        Punctuator::Percent => Some(Joint::Binary(BinaryOp::Remainder)),
+        _ => None,
+    }
+}
+
+/// How a joint is written.
+pub fn joint_sign(joint: Joint) -> Punctuator
+    ensures { result ≡ joint_sign (joint_view joint) }
+{
+    match joint {
+        Joint::Comma => Punctuator::Comma,
+        Joint::Binary(op) => binary_sign(op),
+    }
+}
+
+fn binary_sign(op: BinaryOp) -> Punctuator
+    ensures { result ≡ joint_sign (part.binary op) }
+{
+    match op {
+        BinaryOp::Multiply => Punctuator::Star,
+        BinaryOp::Divide => Punctuator::Slash,
+        BinaryOp::Remainder => Punctuator::Percent,
+        BinaryOp::Plus => Punctuator::Plus,
+        BinaryOp::Minus => Punctuator::Minus,
+        BinaryOp::ShiftLeft => Punctuator::ShiftLeft,
+        BinaryOp::ShiftRight => Punctuator::ShiftRight,
+        BinaryOp::Less => Punctuator::Less,
+        BinaryOp::Greater => Punctuator::Greater,
+        BinaryOp::AtMost => Punctuator::LessEqual,
+        BinaryOp::AtLeast => Punctuator::GreaterEqual,
+        BinaryOp::Equal => Punctuator::Equal,
+        BinaryOp::Unequal => Punctuator::NotEqual,
+        BinaryOp::BitAnd => Punctuator::Ampersand,
+        BinaryOp::BitXor => Punctuator::Caret,
+        BinaryOp::BitOr => Punctuator::Bar,
+        BinaryOp::And => Punctuator::And,
+        BinaryOp::Or => Punctuator::Or,
+    }
+}

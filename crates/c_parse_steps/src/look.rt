@@ -1,0 +1,225 @@
+// Tests of the tokens that come.
+
+ghost use Rattle.std.specs.Prelude.{◌≡◌};
+ghost use Rattle.c_grammar.specs.Ahead.{begins_spec, close_ahead, is_plain_word, is_spec_word, label_ahead, params_ahead, spec_ahead, type_ahead};
+ghost use Rattle.c_grammar.specs.Refused.{begins_designator, first_is, is_type_name};
+ghost use Rattle.c_parse_steps.specs.Views.{mark_test, scene_of};
+
+use crate::context::Context;
+use crate::token::first;
+use c_written::{Keyword, Placed, Punctuator, Token};
+
+/// Tokens that tell which production goes on.
+#[derive(Clone, Copy, Debug, PartialEq, Eq)]
+pub enum Mark {
+    Open,
+    Close,
+    RightBracket,
+    Brace,
+    RightBrace,
+    Semicolon,
+    Colon,
+    Assign,
+    Star,
+    Question,
+    Const,
+    Else,
+    Text,
+}
+
+/// Whether this token comes.
+pub fn comes(mark: Mark, tokens: &[Placed]) -> bool
+    ensures { result ≡ first_is (mark_test mark) tokens.now }
+{
+    match first(tokens) {
+        Some((placed, _)) => is_mark(mark, &placed.token),
+        None => false,
+    }
+}
+
+fn is_mark(mark: Mark, token: &Token) -> bool
+    ensures { result ≡ mark_test mark token.now }
+{
+    match token {
+        Token::Punctuator(sign) => is_mark_sign(mark, *sign),
+        Token::Keyword(keyword) => is_mark_word(mark, *keyword),
+        Token::Text(_) => matches!(mark, Mark::Text),
+        Token::Word(_) | Token::Number(_) | Token::Character(_) => false,
+    }
+}
+
+fn is_mark_sign(mark: Mark, sign: Punctuator) -> bool
+    ensures { result ≡ mark_test mark (Token.Punctuator sign) }
+{
+    match mark {
+        Mark::Open => matches!(sign, Punctuator::LeftParenthesis),
+        Mark::Close => matches!(sign, Punctuator::RightParenthesis),
+        Mark::RightBracket => matches!(sign, Punctuator::RightBracket),
+        Mark::Brace => matches!(sign, Punctuator::LeftBrace),
+        Mark::RightBrace => matches!(sign, Punctuator::RightBrace),
+        Mark::Semicolon => matches!(sign, Punctuator::Semicolon),
+        Mark::Colon => matches!(sign, Punctuator::Colon),
+        Mark::Assign => matches!(sign, Punctuator::Assign),
+        Mark::Star => matches!(sign, Punctuator::Star),
+        Mark::Question => matches!(sign, Punctuator::Question),
+        Mark::Const | Mark::Else | Mark::Text => false,
+    }
+}
+
+fn is_mark_word(mark: Mark, keyword: Keyword) -> bool
+    ensures { result ≡ mark_test mark (Token.Keyword keyword) }
+{
+    match mark {
+        Mark::Const => matches!(keyword, Keyword::Const),
+        Mark::Else => matches!(keyword, Keyword::Else),
+        _ => false,
+    }
+}
+
+/// Whether specs come.
+pub fn spec_ahead(context: &Context<'_>, tokens: &[Placed]) -> bool
+    ensures { result ≡ spec_ahead (scene_of context.now) tokens.now }
+{
+    match first(tokens) {
+        Some((placed, _)) => begins_spec(context, &placed.token),
+        None => false,
+    }
+}
+
+fn begins_spec(context: &Context<'_>, token: &Token) -> bool
+    ensures { result ≡ begins_spec (scene_of context.now) token.now }
+{
+    match token {
+        Token::Word(name) => context.names_type(name.as_slice()),
+        Token::Keyword(keyword) => is_spec_word(*keyword),
+        Token::Number(_) | Token::Character(_) | Token::Text(_) | Token::Punctuator(_) => false,
+    }
+}
+
+#[tactic(auto, unfolding(c_grammar::specs::Ahead::is_spec_word))]
+fn is_spec_word(keyword: Keyword) -> bool
+    ensures { result ≡ is_spec_word keyword }
+{
+    matches!(
+        keyword,
+        Keyword::Typedef
+            | Keyword::Extern
+            | Keyword::Static
+            | Keyword::Auto
+            | Keyword::Register
+            | Keyword::Const
+            | Keyword::Void
+            | Keyword::Char
+            | Keyword::Short
+            | Keyword::Int
+            | Keyword::Long
+            | Keyword::Signed
+            | Keyword::Unsigned
+            | Keyword::Struct
+            | Keyword::Enum
+    )
+}
+
+/// Whether a parenthesis before a type comes.
+pub fn type_ahead(context: &Context<'_>, tokens: &[Placed]) -> bool
+    ensures { result ≡ type_ahead (scene_of context.now) tokens.now }
+{
+    match first(tokens) {
+        Some((placed, rest)) => { is_mark(Mark::Open, &placed.token) && spec_ahead(context, rest) }
+        None => false,
+    }
+}
+
+/// Whether a word before a colon comes.
+pub fn label_ahead(context: &Context<'_>, tokens: &[Placed]) -> bool
+    ensures { result ≡ label_ahead (scene_of context.now) tokens.now }
+{
+    match first(tokens) {
+        Some((placed, rest)) => {
+            is_plain_word(context, &placed.token) && comes(Mark::Colon, rest)
+        }
+        None => false,
+    }
+}
+
+/// Whether a parenthesis that opens parameters comes, where no word is declared before it.
+pub fn params_ahead(context: &Context<'_>, tokens: &[Placed]) -> bool
+    ensures { result ≡ params_ahead (scene_of context.now) tokens.now }
+{
+    match first(tokens) {
+        Some((placed, rest)) => {
+            is_mark(Mark::Open, &placed.token)
+                && (spec_ahead(context, rest) || comes(Mark::Close, rest))
+        }
+        None => false,
+    }
+}
+
+/// Whether a word comes that is no typedef name.
+pub fn plain_word_ahead(context: &Context<'_>, tokens: &[Placed]) -> bool
+    ensures { result ≡ first_is (is_plain_word (scene_of context.now)) tokens.now }
+{
+    match first(tokens) {
+        Some((placed, _)) => is_plain_word(context, &placed.token),
+        None => false,
+    }
+}
+
+fn is_plain_word(context: &Context<'_>, token: &Token) -> bool
+    ensures { result ≡ is_plain_word (scene_of context.now) token.now }
+{
+    match token {
+        Token::Word(name) => !context.names_type(name.as_slice()),
+        Token::Keyword(_)
+        | Token::Number(_)
+        | Token::Character(_)
+        | Token::Text(_)
+        | Token::Punctuator(_) => false,
+    }
+}
+
+/// Whether a typedef name comes.
+pub fn type_name_ahead(context: &Context<'_>, tokens: &[Placed]) -> bool
+    ensures { result ≡ first_is (is_type_name (scene_of context.now)) tokens.now }
+{
+    match first(tokens) {
+        Some((placed, _)) => is_type_name(context, &placed.token),
+        None => false,
+    }
+}
+
+fn is_type_name(context: &Context<'_>, token: &Token) -> bool
+    ensures { result ≡ is_type_name (scene_of context.now) token.now }
+{
+    match token {
+        Token::Word(name) => context.names_type(name.as_slice()),
+        Token::Keyword(_)
+        | Token::Number(_)
+        | Token::Character(_)
+        | Token::Text(_)
+        | Token::Punctuator(_) => false,
+    }
+}
+
+/// Whether a designator comes.
+pub fn designator_ahead(tokens: &[Placed]) -> bool
+    ensures { result ≡ first_is begins_designator tokens.now }
+{
+    match first(tokens) {
+        Some((placed, _)) => begins_designator(&placed.token),
+        None => false,
+    }
+}
+
+fn begins_designator(token: &Token) -> bool
+    ensures { result ≡ begins_designator token.now }
+{
+    match token {
+        Token::Punctuator(sign) => matches!(sign, Punctuator::LeftBracket | Punctuator::Dot),
+        Token::Word(_)
+        | Token::Keyword(_)
+        | Token::Number(_)
+        | Token::Character(_)
+        | Token::Text(_) => false,
+    }
+}

@@ -1,0 +1,195 @@
+use Rattle.c_grammar.specs.Parts.{AStmt, Statement, Else, Item, Items}
+use Rattle.std.proofs.Common.{refl, sym, ap, ◌∙◌, arith}
+use Rattle.std.specs.Prelude.{not, ◌&&◌}
+use Rattle.c_written.specs.declared.file.Stmt.{Stmt}
+use Rattle.c_grammar.specs.Choice.{is_else_word}
+use Rattle.c_grammar.specs.Made.{ends_open}
+use Rattle.c_grammar.specs.Refused.{first_is}
+use Rattle.c_written.specs.WrittenFile as trees
+use Rattle.c_written.specs.WrittenFile.{stmt_tree, blockitems_from}
+use Rattle.c_grammar.proofs.Sweep.{and_right}
+use Rattle.c_parse_steps.specs.Views.{boxed_expr, scene_of}
+use Rattle.c_written.proofs.WrittenFileTrees.{blockitem_declaration, blockitem_statement, blockitems_nil, stmt_block, stmt_default, stmt_label}
+use Rattle.c_parse_heads.specs.Kinds.{boxed_tree}
+use Rattle.c_parse_simple.specs.declared.stmt_kind.StatementKind.TheVariants as statements
+use Rattle.c_parse_steps.proofs.Steps.{failed, halt, halts, if_false, if_true, starved}
+use Rattle.c_parse_simple.proofs.Starts.{statement_begins}
+use Rattle.c_parse_stmts.proofs.Starts.{label_rule}
+use Rattle.c_parse_steps.proofs.Paths.{after, begin, behind, decides, ends, goes_so, inside, lasts, not_after, not_behind, not_inside, same_value, where_so}
+use Rattle.c_parse_simple.proofs.Steps.{not_tried, tried}
+use Rattle.c_parse_stmts.proofs.Steps.{for_led, in_scene, last_items, not_led, same_items}
+use Rattle.c_parse_stmts.proofs.stmt.+statements.Goals as goal
+
+pub label-returns-in_err-at-clause-goes : goal.label-returns-in_err-at-clause-goes
+label-returns-in_err-at-clause-goes t c = not_after c.from_residual.ensures.1 (where_so (begin {p = AStmt (Statement c.args.switched)} (λ o g. g) refl (label_rule _ _ _ c.requires)) c.requires) c.in_err-at.ensures.goes
+
+pub label-returns-in_err-_colon-clause-goes : goal.label-returns-in_err-_colon-clause-goes
+label-returns-in_err-_colon-clause-goes t c = not_after c.from_residual-in_err-_colon.ensures.1 (after (where_so (begin {p = AStmt (Statement c.args.switched)} (λ o g. g) refl (label_rule _ _ _ c.requires)) c.requires) c.in_ok-at.ensures.goes) c.in_err-_colon.ensures.goes
+
+pub label-returns-in_err-body-clause-goes : goal.label-returns-in_err-body-clause-goes
+label-returns-in_err-body-clause-goes t c = not_inside c.from_residual-in_err-body.ensures.1 (after (after (where_so (begin {p = AStmt (Statement c.args.switched)} (λ o g. g) refl (label_rule _ _ _ c.requires)) c.requires) c.in_ok-at.ensures.goes) c.in_ok-_colon.ensures.goes) c.in_err-body.ensures.goes
+
+pub label-returns-in_err-name-clause-goes : goal.label-returns-in_err-name-clause-goes
+label-returns-in_err-name-clause-goes t c = starved c.from_residual-in_err-name.ensures.1
+
+pub label-returns-clause-goes : goal.label-returns-clause-goes
+label-returns-clause-goes t c = ends (inside (after (after (where_so (begin {p = AStmt (Statement c.args.switched)} (λ o g. g) refl (label_rule _ _ _ c.requires)) c.requires) c.in_ok-at.ensures.goes) c.in_ok-_colon.ensures.goes) c.in_ok-body.ensures.goes) (stmt_label _ _ _ ∙ ap (λ n. trees.Label c.in_ok-at.at.now.pos n (boxed_tree c.in_ok-body.body)) c.in_ok-name.ensures)
+
+pub case-returns-in_err-at-clause-goes : goal.case-returns-in_err-at-clause-goes
+case-returns-in_err-at-clause-goes t c = not_after c.from_residual.ensures.1 (statement_begins statements.Case c.requires refl) c.in_err-at.ensures.goes
+
+pub case-returns-in_err-value-clause-goes : goal.case-returns-in_err-value-clause-goes
+case-returns-in_err-value-clause-goes t c = not_behind c.from_residual-in_err-value.ensures.1 (after (statement_begins statements.Case c.requires refl) c.in_ok-at.ensures.goes) c.in_err-value.ensures.goes
+
+pub case-returns-in_err-_colon-clause-goes : goal.case-returns-in_err-_colon-clause-goes
+case-returns-in_err-_colon-clause-goes t c = not_after c.from_residual-in_err-_colon.ensures.1 (behind (after (statement_begins statements.Case c.requires refl) c.in_ok-at.ensures.goes) c.in_ok-value.ensures.goes) c.in_err-_colon.ensures.goes
+
+pub case-returns-in_err-body-clause-goes : goal.case-returns-in_err-body-clause-goes
+case-returns-in_err-body-clause-goes t c = not_inside c.from_residual-in_err-body.ensures.1 (after (behind (after (statement_begins statements.Case c.requires refl) c.in_ok-at.ensures.goes) c.in_ok-value.ensures.goes) c.in_ok-_colon.ensures.goes) c.in_err-body.ensures.goes
+
+pub case-returns-clause-goes : goal.case-returns-clause-goes
+case-returns-clause-goes t c = ends (inside (after (behind (after (statement_begins statements.Case c.requires refl) c.in_ok-at.ensures.goes) c.in_ok-value.ensures.goes) c.in_ok-_colon.ensures.goes) c.in_ok-body.ensures.goes) c.case_stmt.ensures
+
+pub otherwise-returns-in_err-at-clause-goes : goal.otherwise-returns-in_err-at-clause-goes
+otherwise-returns-in_err-at-clause-goes t c = not_after c.from_residual.ensures.1 (statement_begins statements.Default c.requires refl) c.in_err-at.ensures.goes
+
+pub otherwise-returns-in_err-_colon-clause-goes : goal.otherwise-returns-in_err-_colon-clause-goes
+otherwise-returns-in_err-_colon-clause-goes t c = not_after c.from_residual-in_err-_colon.ensures.1 (after (statement_begins statements.Default c.requires refl) c.in_ok-at.ensures.goes) c.in_err-_colon.ensures.goes
+
+pub otherwise-returns-in_err-body-clause-goes : goal.otherwise-returns-in_err-body-clause-goes
+otherwise-returns-in_err-body-clause-goes t c = not_inside c.from_residual-in_err-body.ensures.1 (after (after (statement_begins statements.Default c.requires refl) c.in_ok-at.ensures.goes) c.in_ok-_colon.ensures.goes) c.in_err-body.ensures.goes
+
+pub otherwise-returns-clause-goes : goal.otherwise-returns-clause-goes
+otherwise-returns-clause-goes t c = ends (inside (after (after (statement_begins statements.Default c.requires refl) c.in_ok-at.ensures.goes) c.in_ok-_colon.ensures.goes) c.in_ok-body.ensures.goes) (stmt_default _ _)
+
+pub block-returns-in_err-at-clause-goes : goal.block-returns-in_err-at-clause-goes
+block-returns-in_err-at-clause-goes t c = not_after c.from_residual.ensures.1 (statement_begins statements.Block c.requires refl) c.in_err-at.ensures.goes
+
+pub block-returns-in_err-items-clause-goes : goal.block-returns-in_err-items-clause-goes
+block-returns-in_err-items-clause-goes t c = not_inside c.from_residual-in_err-items.ensures.1 (after (statement_begins statements.Block c.requires refl) c.in_ok-at.ensures.goes) c.in_err-items.ensures.goes
+
+pub block-returns-clause-goes : goal.block-returns-clause-goes
+block-returns-clause-goes t c = ends (inside (after (statement_begins statements.Block c.requires refl) c.in_ok-at.ensures.goes) c.in_ok-items.ensures.goes) (stmt_block _ _)
+
+pub conditional_statement-returns-in_err-at-clause-goes : goal.conditional_statement-returns-in_err-at-clause-goes
+conditional_statement-returns-in_err-at-clause-goes t c = not_after c.from_residual.ensures.1 (statement_begins statements.If c.requires refl) c.in_err-at.ensures.goes
+
+pub conditional_statement-returns-in_err-value-clause-goes : goal.conditional_statement-returns-in_err-value-clause-goes
+conditional_statement-returns-in_err-value-clause-goes t c = not_tried c.from_residual-in_err-value.ensures.1 (after (statement_begins statements.If c.requires refl) c.in_ok-at.ensures.goes) c.in_err-value.ensures.goes
+
+pub conditional_statement-returns-in_err-then-clause-goes : goal.conditional_statement-returns-in_err-then-clause-goes
+conditional_statement-returns-in_err-then-clause-goes t c = not_inside c.from_residual-in_err-then.ensures.1 (tried (after (statement_begins statements.If c.requires refl) c.in_ok-at.ensures.goes) c.in_ok-value.ensures.goes) c.in_err-then.ensures.goes
+
+pub conditional_statement-returns-clause-goes : goal.conditional_statement-returns-clause-goes
+conditional_statement-returns-clause-goes t c = lasts (inside (tried (after (statement_begins statements.If c.requires refl) c.in_ok-at.ensures.goes) c.in_ok-value.ensures.goes) c.in_ok-then.ensures.goes) c.else_part.ensures.goes (λ s. refl)
+
+pub choice-returns-in_err-at-clause-goes : goal.choice-returns-in_err-at-clause-goes
+choice-returns-in_err-at-clause-goes t c = not_after c.from_residual.ensures.1 (statement_begins statements.Switch c.requires refl) c.in_err-at.ensures.goes
+
+pub choice-returns-in_err-value-clause-goes : goal.choice-returns-in_err-value-clause-goes
+choice-returns-in_err-value-clause-goes t c = not_tried c.from_residual-in_err-value.ensures.1 (after (statement_begins statements.Switch c.requires refl) c.in_ok-at.ensures.goes) c.in_err-value.ensures.goes
+
+pub choice-returns-in_err-body-clause-goes : goal.choice-returns-in_err-body-clause-goes
+choice-returns-in_err-body-clause-goes t c = not_inside c.from_residual-in_err-body.ensures.1 (tried (after (statement_begins statements.Switch c.requires refl) c.in_ok-at.ensures.goes) c.in_ok-value.ensures.goes) c.in_err-body.ensures.goes
+
+pub choice-returns-clause-goes : goal.choice-returns-clause-goes
+choice-returns-clause-goes t c = ends (inside (tried (after (statement_begins statements.Switch c.requires refl) c.in_ok-at.ensures.goes) c.in_ok-value.ensures.goes) c.in_ok-body.ensures.goes) c.switch_stmt.ensures
+
+pub while_loop-returns-in_err-at-clause-goes : goal.while_loop-returns-in_err-at-clause-goes
+while_loop-returns-in_err-at-clause-goes t c = not_after c.from_residual.ensures.1 (statement_begins statements.While c.requires refl) c.in_err-at.ensures.goes
+
+pub while_loop-returns-in_err-condition-clause-goes : goal.while_loop-returns-in_err-condition-clause-goes
+while_loop-returns-in_err-condition-clause-goes t c = not_tried c.from_residual-in_err-condition.ensures.1 (after (statement_begins statements.While c.requires refl) c.in_ok-at.ensures.goes) c.in_err-condition.ensures.goes
+
+pub while_loop-returns-in_err-body-clause-goes : goal.while_loop-returns-in_err-body-clause-goes
+while_loop-returns-in_err-body-clause-goes t c = not_inside c.from_residual-in_err-body.ensures.1 (tried (after (statement_begins statements.While c.requires refl) c.in_ok-at.ensures.goes) c.in_ok-condition.ensures.goes) c.in_err-body.ensures.goes
+
+pub while_loop-returns-clause-goes : goal.while_loop-returns-clause-goes
+while_loop-returns-clause-goes t c = ends (inside (tried (after (statement_begins statements.While c.requires refl) c.in_ok-at.ensures.goes) c.in_ok-condition.ensures.goes) c.in_ok-body.ensures.goes) c.while_stmt.ensures
+
+pub do_loop-returns-in_err-at-clause-goes : goal.do_loop-returns-in_err-at-clause-goes
+do_loop-returns-in_err-at-clause-goes t c = not_after c.from_residual.ensures.1 (statement_begins statements.Do c.requires refl) c.in_err-at.ensures.goes
+
+pub do_loop-returns-in_err-body-clause-goes : goal.do_loop-returns-in_err-body-clause-goes
+do_loop-returns-in_err-body-clause-goes t c = not_inside c.from_residual-in_err-body.ensures.1 (after (statement_begins statements.Do c.requires refl) c.in_ok-at.ensures.goes) c.in_err-body.ensures.goes
+
+pub do_loop-returns-in_err-_word-clause-goes : goal.do_loop-returns-in_err-_word-clause-goes
+do_loop-returns-in_err-_word-clause-goes t c = not_after c.from_residual-in_err-_word.ensures.1 (inside (after (statement_begins statements.Do c.requires refl) c.in_ok-at.ensures.goes) c.in_ok-body.ensures.goes) c.in_err-_word.ensures.goes
+
+pub do_loop-returns-in_err-condition-clause-goes : goal.do_loop-returns-in_err-condition-clause-goes
+do_loop-returns-in_err-condition-clause-goes t c = not_tried c.from_residual-in_err-condition.ensures.1 (after (inside (after (statement_begins statements.Do c.requires refl) c.in_ok-at.ensures.goes) c.in_ok-body.ensures.goes) c.in_ok-_word.ensures.goes) c.in_err-condition.ensures.goes
+
+pub do_loop-returns-in_err-_end-clause-goes : goal.do_loop-returns-in_err-_end-clause-goes
+do_loop-returns-in_err-_end-clause-goes t c = not_after c.from_residual-in_err-_end.ensures.1 (tried (after (inside (after (statement_begins statements.Do c.requires refl) c.in_ok-at.ensures.goes) c.in_ok-body.ensures.goes) c.in_ok-_word.ensures.goes) c.in_ok-condition.ensures.goes) c.in_err-_end.ensures.goes
+
+pub do_loop-returns-clause-goes : goal.do_loop-returns-clause-goes
+do_loop-returns-clause-goes t c = ends (after (tried (after (inside (after (statement_begins statements.Do c.requires refl) c.in_ok-at.ensures.goes) c.in_ok-body.ensures.goes) c.in_ok-_word.ensures.goes) c.in_ok-condition.ensures.goes) c.in_ok-_end.ensures.goes) c.do_stmt.ensures
+
+pub for_loop-returns-in_err-head-clause-goes : goal.for_loop-returns-in_err-head-clause-goes
+for_loop-returns-in_err-head-clause-goes t c = not_led c.from_residual.ensures.1 (c.in_err-head.ensures.goes c.args.switched)
+
+pub for_loop-returns-in_err-body-clause-goes : goal.for_loop-returns-in_err-body-clause-goes
+for_loop-returns-in_err-body-clause-goes t c = not_inside c.from_residual-in_err-body.ensures.1 (for_led {b = c.args.switched} c.in_ok-head.ensures.goes) c.in_err-body.ensures.goes
+
+pub for_loop-returns-clause-goes : goal.for_loop-returns-clause-goes
+for_loop-returns-clause-goes t c = ends (inside (for_led {b = c.args.switched} c.in_ok-head.ensures.goes) c.in_ok-body.ensures.goes) c.for_stmt.ensures
+
+pub boxed-returns-in_err-whole-clause-goes : goal.boxed-returns-in_err-whole-clause-goes
+boxed-returns-in_err-whole-clause-goes t c = failed c.from_residual.ensures.1 (halt c.in_err-whole.ensures.goes)
+
+pub boxed-returns-in_err-new-clause-goes : goal.boxed-returns-in_err-new-clause-goes
+boxed-returns-in_err-new-clause-goes t c = starved c.from_residual-in_err-new.ensures.1
+
+pub boxed-returns-clause-goes : goal.boxed-returns-clause-goes
+boxed-returns-clause-goes t c = same_value c.in_ok-whole.ensures.goes (ap stmt_tree c.in_ok-new.ensures.ok)
+
+pub substatement-returns-clause-goes : goal.substatement-returns-clause-goes
+substatement-returns-clause-goes t c = c.boxed.ensures.goes
+
+pub block_items-returns-clause-goes : goal.block_items-returns-clause-goes
+block_items-returns-clause-goes t c = decides _ (λ o g. in_scene (sym (c.block_setting.ensures (scene_of c.args.context.now))) g) c.items.ensures.goes
+
+pub item-returns-in_err-decl-clause-goes : goal.item-returns-in_err-decl-clause-goes
+item-returns-in_err-decl-clause-goes t c = not_behind c.from_residual.ensures.1 (where_so (begin {p = Item} (λ o g. g) refl (if_true _ (sym c.spec_ahead.ensures ∙ c.if-spec_ahead.true))) (sym c.spec_ahead.ensures ∙ c.if-spec_ahead.true)) c.in_err-decl.ensures.goes
+
+pub item-returns-then-spec_ahead-clause-goes : goal.item-returns-then-spec_ahead-clause-goes
+item-returns-then-spec_ahead-clause-goes t c = ends (behind (where_so (begin {p = Item} (λ o g. g) refl (if_true _ (sym c.spec_ahead.ensures ∙ c.if-spec_ahead.true))) (sym c.spec_ahead.ensures ∙ c.if-spec_ahead.true)) c.in_ok-decl.ensures.goes) (blockitem_declaration _)
+
+pub item-returns-in_err-stmt-clause-goes : goal.item-returns-in_err-stmt-clause-goes
+item-returns-in_err-stmt-clause-goes t c = not_behind c.from_residual-in_err-stmt.ensures.1 (where_so (begin {p = Item} (λ o g. g) refl (if_false _ (sym c.spec_ahead.ensures ∙ c.if-spec_ahead.false))) (ap not (sym c.spec_ahead.ensures ∙ c.if-spec_ahead.false))) c.in_err-stmt.ensures.goes
+
+pub item-returns-clause-goes : goal.item-returns-clause-goes
+item-returns-clause-goes t c = ends (behind (where_so (begin {p = Item} (λ o g. g) refl (if_false _ (sym c.spec_ahead.ensures ∙ c.if-spec_ahead.false))) (ap not (sym c.spec_ahead.ensures ∙ c.if-spec_ahead.false))) c.in_ok-stmt.ensures.goes) (blockitem_statement _)
+
+pub items-loop-rest-init : goal.items-loop-rest-init
+items-loop-rest-init t c = ((λ o g. same_items (ap blockitems_from c.new-items.ensures.items ∙ blockitems_nil) g), omega arith)
+
+pub items-returns-in_err-next-clause-goes : goal.items-returns-in_err-next-clause-goes
+items-returns-in_err-next-clause-goes t c = not_behind c.from_residual.ensures.1 (begin {p = Items (blockitems_from c.loop-rest.items.items)} c.loop-rest.invariant.0 refl (if_false _ (sym c.comes.ensures ∙ c.loop-rest-test.true))) c.in_err-next.ensures.goes
+
+pub items-returns-in_err-push_item-clause-goes : goal.items-returns-in_err-push_item-clause-goes
+items-returns-in_err-push_item-clause-goes t c = starved c.from_residual-in_err-push_item.ensures.1
+
+pub items-loop-rest-preserved : goal.items-loop-rest-preserved
+items-loop-rest-preserved t c = ((λ o g. goes_so (behind (begin {p = Items (blockitems_from c.loop-rest.items.items)} c.loop-rest.invariant.0 refl (if_false _ (sym c.comes.ensures ∙ c.loop-rest-test.true))) c.in_ok-next.ensures.goes) o (last_items o (same_items c.in_ok-push_item.ensures g))), omega (arith, c.in_ok-next.ensures.shorter))
+
+pub items-returns-in_err-_close-clause-goes : goal.items-returns-in_err-_close-clause-goes
+items-returns-in_err-_close-clause-goes t c = not_after c.from_residual-in_err-_close.ensures.1 (begin {p = Items (blockitems_from c.loop-rest.items.items)} c.loop-rest.invariant.0 refl (if_true _ (sym c.comes.ensures ∙ c.loop-rest-test.false))) c.in_err-_close.ensures.goes
+
+pub items-returns-clause-goes : goal.items-returns-clause-goes
+items-returns-clause-goes t c = ends (after (begin {p = Items (blockitems_from c.loop-rest.items.items)} c.loop-rest.invariant.0 refl (if_true _ (sym c.comes.ensures ∙ c.loop-rest-test.false))) c.in_ok-_close.ensures.goes) c.from_vec.ensures
+
+pub else_part-returns-then-else_comes-clause-goes : goal.else_part-returns-then-else_comes-clause-goes
+else_part-returns-then-else_comes-clause-goes t c = c.else_form.ensures.goes
+
+pub else_part-returns-clause-goes : goal.else_part-returns-clause-goes
+else_part-returns-clause-goes t c = ends (begin {p = AStmt (Else c.args.at (boxed_expr c.args.condition) (boxed_tree c.args.then))} (λ o g. g) refl (if_false _ (ap (λ (v : Stmt). first_is is_else_word c.args.tokens.now && not (ends_open (stmt_tree v))) (sym c.deref.ensures) ∙ sym c.else_comes.ensures ∙ c.if-else_comes.false))) c.if_stmt.ensures
+
+pub else_form-returns-in_err-_word-clause-goes : goal.else_form-returns-in_err-_word-clause-goes
+else_form-returns-in_err-_word-clause-goes t c = not_after c.from_residual.ensures.1 (where_so (begin {p = AStmt (Else c.args.at (boxed_expr c.args.condition) (boxed_tree c.args.then))} (λ o g. g) refl (if_true _ c.requires)) (and_right _ _ c.requires)) c.in_err-_word.ensures.goes
+
+pub else_form-returns-in_err-otherwise-clause-goes : goal.else_form-returns-in_err-otherwise-clause-goes
+else_form-returns-in_err-otherwise-clause-goes t c = not_inside c.from_residual-in_err-otherwise.ensures.1 (after (where_so (begin {p = AStmt (Else c.args.at (boxed_expr c.args.condition) (boxed_tree c.args.then))} (λ o g. g) refl (if_true _ c.requires)) (and_right _ _ c.requires)) c.in_ok-_word.ensures.goes) c.in_err-otherwise.ensures.goes
+
+pub else_form-returns-clause-goes : goal.else_form-returns-clause-goes
+else_form-returns-clause-goes t c = ends (inside (after (where_so (begin {p = AStmt (Else c.args.at (boxed_expr c.args.condition) (boxed_tree c.args.then))} (λ o g. g) refl (if_true _ c.requires)) (and_right _ _ c.requires)) c.in_ok-_word.ensures.goes) c.in_ok-otherwise.ensures.goes) c.if_else_stmt.ensures

@@ -1,0 +1,396 @@
+// Statements and blocks.
+#![tactic(auto)]
+
+ghost use Rattle.std.specs.Prelude.{◌≡◌, ℕ, ◌+◌, ◌<◌, ◌≤◌, Bool, true, not, ◌&&◌, List, length, IfOk};
+ghost use Rattle.c_written.specs.WrittenFile.{blockitem_tree, blockitems_from, blockitems_then, blockitems_tree, none, stmt_tree};
+ghost use Rattle.c_grammar.specs.Ahead.{label_ahead};
+ghost use Rattle.c_grammar.specs.Choice.{is_else_word};
+ghost use Rattle.c_grammar.specs.FileRules.{block_scene};
+ghost use Rattle.c_grammar.specs.Made.{ends_open};
+ghost use Rattle.c_grammar.specs.Parts as part;
+ghost use Rattle.c_grammar.specs.Refused.{first_is};
+ghost use Rattle.c_parse_steps.specs.Answers.{Answers};
+ghost use Rattle.c_parse_steps.specs.Views.{boxed_expr, scene_of, setting_of};
+ghost use Rattle.c_parse_simple.specs.Kinds.{StatementStarts};
+ghost use Rattle.c_parse_heads.specs.Kinds.{boxed_tree};
+
+use c_parse_decls::declaration;
+use c_parse_exprs::conditional;
+use c_parse_heads::{
+    case_stmt, do_stmt, for_head, for_stmt, if_else_stmt, if_stmt, switch_stmt, while_stmt,
+};
+use c_parse_simple::{
+    StatementKind, condition, empty, ends_open, expression, goto, leave, next_turn,
+    return_statement, statement_at,
+};
+use c_parse_steps::{
+    Class, Context, Fault, Mark, Setting, comes, label_ahead, name_of, spec_ahead, taken,
+};
+use c_written::{BlockItem, BlockItems, Expr, Keyword, Placed, Pos, Punctuator, Stmt};
+use std::alloc::AllocError;
+
+/// A statement, which is that of a switch where `switched`.
+#[cycle(statements)]
+fn statement<'a>(
+    context: &Context<'_>,
+    switched: bool,
+    count: u32,
+    tokens: &'a [Placed],
+) -> Result<(Stmt, &'a [Placed]), Fault<'a>>
+    ensures goes { Answers count (scene_of context.now) (part.AStmt (part.Statement switched)) tokens.now (λ s. stmt_tree s) result }
+    ensures shorter { IfOk result (λ x. length x.1.now < length tokens.now) }
+{
+    if label_ahead(context, tokens) {
+        return label(context, switched, count, tokens);
+    }
+    match statement_at(tokens) {
+        StatementKind::Case => case(context, switched, count, tokens),
+        StatementKind::Default => otherwise(context, switched, count, tokens),
+        StatementKind::If => conditional_statement(context, switched, count, tokens),
+        StatementKind::Switch => choice(context, switched, count, tokens),
+        StatementKind::While => while_loop(context, switched, count, tokens),
+        StatementKind::Do => do_loop(context, switched, count, tokens),
+        StatementKind::For => for_loop(context, switched, count, tokens),
+        StatementKind::Block => block(context, switched, count, tokens),
+        StatementKind::Goto => goto(context, count, tokens),
+        StatementKind::Continue => next_turn(context, count, tokens),
+        StatementKind::Break => leave(context, count, tokens),
+        StatementKind::Return => return_statement(context, count, tokens),
+        StatementKind::Empty => empty(context, count, tokens),
+        StatementKind::Expression => expression(context, count, tokens),
+    }
+}
+
+/// A label and its statement.
+#[cycle(statements)]
+fn label<'a>(
+    context: &Context<'_>,
+    switched: bool,
+    count: u32,
+    tokens: &'a [Placed],
+) -> Result<(Stmt, &'a [Placed]), Fault<'a>>
+    requires { label_ahead (scene_of context.now) tokens.now ≡ true }
+    ensures goes { Answers count (scene_of context.now) (part.AStmt (part.Statement switched)) tokens.now (λ s. stmt_tree s) result }
+    ensures shorter { IfOk result (λ x. length x.1.now < length tokens.now) }
+{
+    let colon = Class::Sign(Punctuator::Colon);
+    let (at, behind) = taken(context, count, 0, Class::Word, tokens)?;
+    let (_colon, behind) = taken(context, count, 0, colon, behind)?;
+    let (body, rest) = boxed(context, false, count + 1, behind)?;
+    let name = name_of(context.alloc, &at.token)?;
+    Ok((
+        Stmt::Label {
+            pos: at.pos,
+            name,
+            body,
+        },
+        rest,
+    ))
+}
+
+/// A case and its statement.
+#[cycle(statements)]
+fn case<'a>(
+    context: &Context<'_>,
+    switched: bool,
+    count: u32,
+    tokens: &'a [Placed],
+) -> Result<(Stmt, &'a [Placed]), Fault<'a>>
+    requires { StatementStarts (scene_of context.now) tokens.now StatementKind.Case }
+    ensures goes { Answers count (scene_of context.now) (part.AStmt (part.Statement switched)) tokens.now (λ s. stmt_tree s) result }
+    ensures shorter { IfOk result (λ x. length x.1.now < length tokens.now) }
+{
+    let colon = Class::Sign(Punctuator::Colon);
+    let (at, behind) = taken(context, count, 0, Class::Keyword(Keyword::Case), tokens)?;
+    let (value, rest) = conditional(context, count, behind)?;
+    let (_colon, behind) = taken(context, count, 0, colon, rest)?;
+    let (body, rest) = boxed(context, false, count + 1, behind)?;
+    Ok((case_stmt(at.pos, value, body), rest))
+}
+
+/// A default and its statement.
+#[cycle(statements)]
+fn otherwise<'a>(
+    context: &Context<'_>,
+    switched: bool,
+    count: u32,
+    tokens: &'a [Placed],
+) -> Result<(Stmt, &'a [Placed]), Fault<'a>>
+    requires { StatementStarts (scene_of context.now) tokens.now StatementKind.Default }
+    ensures goes { Answers count (scene_of context.now) (part.AStmt (part.Statement switched)) tokens.now (λ s. stmt_tree s) result }
+    ensures shorter { IfOk result (λ x. length x.1.now < length tokens.now) }
+{
+    let colon = Class::Sign(Punctuator::Colon);
+    let (at, behind) = taken(context, count, 0, Class::Keyword(Keyword::Default), tokens)?;
+    let (_colon, behind) = taken(context, count, 0, colon, behind)?;
+    let (body, rest) = boxed(context, false, count + 1, behind)?;
+    Ok((Stmt::Default { pos: at.pos, body }, rest))
+}
+
+/// A block.
+#[cycle(statements)]
+fn block<'a>(
+    context: &Context<'_>,
+    switched: bool,
+    count: u32,
+    tokens: &'a [Placed],
+) -> Result<(Stmt, &'a [Placed]), Fault<'a>>
+    requires { StatementStarts (scene_of context.now) tokens.now StatementKind.Block }
+    ensures goes { Answers count (scene_of context.now) (part.AStmt (part.Statement switched)) tokens.now (λ s. stmt_tree s) result }
+    ensures shorter { IfOk result (λ x. length x.1.now < length tokens.now) }
+{
+    let brace = Class::Sign(Punctuator::LeftBrace);
+    let (at, behind) = taken(context, count, 1, brace, tokens)?;
+    let (items, rest) = block_items(context, switched, count + 1, behind)?;
+    Ok((Stmt::Block { pos: at.pos, items }, rest))
+}
+
+/// An if, with its else where there is one.
+#[cycle(statements)]
+fn conditional_statement<'a>(
+    context: &Context<'_>,
+    switched: bool,
+    count: u32,
+    tokens: &'a [Placed],
+) -> Result<(Stmt, &'a [Placed]), Fault<'a>>
+    requires { StatementStarts (scene_of context.now) tokens.now StatementKind.If }
+    ensures goes { Answers count (scene_of context.now) (part.AStmt (part.Statement switched)) tokens.now (λ s. stmt_tree s) result }
+    ensures shorter { IfOk result (λ x. length x.1.now < length tokens.now) }
+{
+    let (at, behind) = taken(context, count, 0, Class::Keyword(Keyword::If), tokens)?;
+    let (value, rest) = condition(context, count, behind)?;
+    let (then, rest) = substatement(context, false, count + 1, rest)?;
+    else_part(context, count, at.pos, value, then, rest)
+}
+
+/// Else and its statement, where there is one.
+#[cycle(statements)]
+fn else_part<'a>(
+    context: &Context<'_>,
+    count: u32,
+    at: Pos,
+    condition: Box<Expr>,
+    then: Box<Stmt>,
+    tokens: &'a [Placed],
+) -> Result<(Stmt, &'a [Placed]), Fault<'a>>
+    ensures goes { Answers count (scene_of context.now) (part.AStmt (part.Else at (boxed_expr condition) (boxed_tree then))) tokens.now (λ s. stmt_tree s) result }
+    ensures shorter { IfOk result (λ x. length x.1.now ≤ length tokens.now) }
+{
+    if else_comes(&then, tokens) {
+        return else_form(context, count, at, condition, then, tokens);
+    }
+    Ok((if_stmt(at, condition, then), tokens))
+}
+
+/// Whether an else comes that is this if's.
+fn else_comes(then: &Stmt, tokens: &[Placed]) -> bool
+    ensures { result ≡ (first_is is_else_word tokens.now && not (ends_open (stmt_tree then.now))) }
+{
+    comes(Mark::Else, tokens) && !ends_open(then)
+}
+
+/// Else and its statement.
+#[cycle(statements)]
+fn else_form<'a>(
+    context: &Context<'_>,
+    count: u32,
+    at: Pos,
+    condition: Box<Expr>,
+    then: Box<Stmt>,
+    tokens: &'a [Placed],
+) -> Result<(Stmt, &'a [Placed]), Fault<'a>>
+    requires { (first_is is_else_word tokens.now && not (ends_open (boxed_tree then))) ≡ true }
+    ensures goes { Answers count (scene_of context.now) (part.AStmt (part.Else at (boxed_expr condition) (boxed_tree then))) tokens.now (λ s. stmt_tree s) result }
+    ensures shorter { IfOk result (λ x. length x.1.now < length tokens.now) }
+{
+    let (_word, behind) = taken(context, count, 0, Class::Keyword(Keyword::Else), tokens)?;
+    let (otherwise, rest) = substatement(context, false, count + 1, behind)?;
+    Ok((if_else_stmt(at, condition, then, otherwise), rest))
+}
+
+/// A switch.
+#[cycle(statements)]
+fn choice<'a>(
+    context: &Context<'_>,
+    switched: bool,
+    count: u32,
+    tokens: &'a [Placed],
+) -> Result<(Stmt, &'a [Placed]), Fault<'a>>
+    requires { StatementStarts (scene_of context.now) tokens.now StatementKind.Switch }
+    ensures goes { Answers count (scene_of context.now) (part.AStmt (part.Statement switched)) tokens.now (λ s. stmt_tree s) result }
+    ensures shorter { IfOk result (λ x. length x.1.now < length tokens.now) }
+{
+    let (at, behind) = taken(context, count, 0, Class::Keyword(Keyword::Switch), tokens)?;
+    let (value, rest) = condition(context, count, behind)?;
+    let (body, rest) = substatement(context, true, count + 1, rest)?;
+    Ok((switch_stmt(at.pos, value, body), rest))
+}
+
+/// A loop that begins with its condition.
+#[cycle(statements)]
+fn while_loop<'a>(
+    context: &Context<'_>,
+    switched: bool,
+    count: u32,
+    tokens: &'a [Placed],
+) -> Result<(Stmt, &'a [Placed]), Fault<'a>>
+    requires { StatementStarts (scene_of context.now) tokens.now StatementKind.While }
+    ensures goes { Answers count (scene_of context.now) (part.AStmt (part.Statement switched)) tokens.now (λ s. stmt_tree s) result }
+    ensures shorter { IfOk result (λ x. length x.1.now < length tokens.now) }
+{
+    let (at, behind) = taken(context, count, 0, Class::Keyword(Keyword::While), tokens)?;
+    let (condition, rest) = condition(context, count, behind)?;
+    let (body, rest) = substatement(context, false, count + 1, rest)?;
+    Ok((while_stmt(at.pos, condition, body), rest))
+}
+
+/// A loop that ends with its condition.
+#[cycle(statements)]
+fn do_loop<'a>(
+    context: &Context<'_>,
+    switched: bool,
+    count: u32,
+    tokens: &'a [Placed],
+) -> Result<(Stmt, &'a [Placed]), Fault<'a>>
+    requires { StatementStarts (scene_of context.now) tokens.now StatementKind.Do }
+    ensures goes { Answers count (scene_of context.now) (part.AStmt (part.Statement switched)) tokens.now (λ s. stmt_tree s) result }
+    ensures shorter { IfOk result (λ x. length x.1.now < length tokens.now) }
+{
+    let semicolon = Class::Sign(Punctuator::Semicolon);
+    let (at, behind) = taken(context, count, 0, Class::Keyword(Keyword::Do), tokens)?;
+    let (body, rest) = substatement(context, false, count + 1, behind)?;
+    let (_word, behind) = taken(context, count, 0, Class::Keyword(Keyword::While), rest)?;
+    let (condition, rest) = condition(context, count, behind)?;
+    let (_end, rest) = taken(context, count, 0, semicolon, rest)?;
+    Ok((do_stmt(at.pos, body, condition), rest))
+}
+
+/// A `for`.
+#[cycle(statements)]
+fn for_loop<'a>(
+    context: &Context<'_>,
+    switched: bool,
+    count: u32,
+    tokens: &'a [Placed],
+) -> Result<(Stmt, &'a [Placed]), Fault<'a>>
+    requires { StatementStarts (scene_of context.now) tokens.now StatementKind.For }
+    ensures goes { Answers count (scene_of context.now) (part.AStmt (part.Statement switched)) tokens.now (λ s. stmt_tree s) result }
+    ensures shorter { IfOk result (λ x. length x.1.now < length tokens.now) }
+{
+    let (head, rest) = for_head(context, count, tokens)?;
+    let (body, rest) = substatement(context, false, count + 1, rest)?;
+    Ok((for_stmt(head, body), rest))
+}
+
+/// A statement that is a part of another one and stands where that one does.
+#[cycle(statements)]
+fn boxed<'a>(
+    context: &Context<'_>,
+    switched: bool,
+    count: u32,
+    tokens: &'a [Placed],
+) -> Result<(Box<Stmt>, &'a [Placed]), Fault<'a>>
+    ensures goes { Answers count (scene_of context.now) (part.AStmt (part.Statement switched)) tokens.now (λ s. boxed_tree s) result }
+    ensures shorter { IfOk result (λ x. length x.1.now < length tokens.now) }
+{
+    let (whole, rest) = statement(context, switched, count, tokens)?;
+    Ok((Box::new(context.alloc, whole)?, rest))
+}
+
+/// A statement that is a part of another one, in no block of its own.
+#[cycle(statements)]
+fn substatement<'a>(
+    context: &Context<'_>,
+    switched: bool,
+    count: u32,
+    tokens: &'a [Placed],
+) -> Result<(Box<Stmt>, &'a [Placed]), Fault<'a>>
+    ensures goes { Answers count (part.within (scene_of context.now)) (part.AStmt (part.Statement switched)) tokens.now (λ s. boxed_tree s) result }
+    ensures shorter { IfOk result (λ x. length x.1.now < length tokens.now) }
+{
+    let inner = Context {
+        alloc: context.alloc,
+        types: context.types,
+        setting: Setting::InBlock,
+    };
+    boxed(&inner, switched, count, tokens)
+}
+
+/// Where the tokens of a block stand.
+fn block_setting(switched: bool) -> Setting
+    ensures { (w : part.Scene) → block_scene switched w ≡ record { types = w.types; setting = setting_of result } }
+{
+    if switched {
+        Setting::InSwitch
+    } else {
+        Setting::InBlock
+    }
+}
+
+/// The items of a block, up to the brace that closes it.
+#[cycle(statements)]
+pub fn block_items<'a>(
+    context: &Context<'_>,
+    switched: bool,
+    count: u32,
+    tokens: &'a [Placed],
+) -> Result<(BlockItems, &'a [Placed]), Fault<'a>>
+    ensures goes { Answers count (block_scene switched (scene_of context.now)) (part.Items none) tokens.now (λ i. blockitems_tree i) result }
+    ensures shorter { IfOk result (λ x. length x.1.now < length tokens.now) }
+{
+    let inner = Context {
+        alloc: context.alloc,
+        types: context.types,
+        setting: block_setting(switched),
+    };
+    items(&inner, count, tokens)
+}
+
+/// The items of a block, up to the brace that closes it.
+#[cycle(statements)]
+fn items<'a>(
+    context: &Context<'_>,
+    count: u32,
+    tokens: &'a [Placed],
+) -> Result<(BlockItems, &'a [Placed]), Fault<'a>>
+    ensures goes { Answers count (scene_of context.now) (part.Items none) tokens.now (λ i. blockitems_tree i) result }
+    ensures shorter { IfOk result (λ x. length x.1.now < length tokens.now) }
+{
+    let mut items = Vec::new(context.alloc);
+    let mut rest = tokens;
+    while !comes(Mark::RightBrace, rest) {
+        let (next, after) = item(context, count, rest)?;
+        push_item(&mut items, next)?;
+        rest = after;
+    }
+    let closes = Class::Sign(Punctuator::RightBrace);
+    let (_close, rest) = taken(context, count, 0, closes, rest)?;
+    Ok((BlockItems::from_vec(items), rest))
+}
+
+/// One more item at the end.
+#[tactic(auto, using(c_written::proofs::Trees::the_written_trees))]
+fn push_item(items: &mut Vec<BlockItem>, next: BlockItem) -> Result<(), AllocError>
+    ensures { IfOk result (λ _. blockitems_from items.new.items ≡ blockitems_then (blockitems_from items.old.items) (blockitem_tree next)) }
+{
+    items.push(next)?;
+    Ok(())
+}
+
+/// An item of a block.
+#[cycle(statements)]
+fn item<'a>(
+    context: &Context<'_>,
+    count: u32,
+    tokens: &'a [Placed],
+) -> Result<(BlockItem, &'a [Placed]), Fault<'a>>
+    ensures goes { Answers count (scene_of context.now) part.Item tokens.now (λ i. blockitem_tree i) result }
+    ensures shorter { IfOk result (λ x. length x.1.now < length tokens.now) }
+{
+    if spec_ahead(context, tokens) {
+        let (decl, rest) = declaration(context, count, tokens)?;
+        return Ok((BlockItem::Declaration(decl), rest));
+    }
+    let (stmt, rest) = statement(context, false, count, tokens)?;
+    Ok((BlockItem::Statement(stmt), rest))
+}
