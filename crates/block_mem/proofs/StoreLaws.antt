@@ -78,6 +78,12 @@ load-store m at ty v made of passes =
     ∙ ap (loaded ty) (stored_bytes m at ty v made of (inside_access b at.offset (size_of ty) (size_of ty) true passes))
     ∙ loaded-value ty v of
 
+-- what was put in stands there
+pub loaded-put : (m : List BlockView) (at : Pointer) (ty : Scalar) (v : Value) → at.block < length m → IsOf ty v → wrong_access m at (size_of ty) 1 false ≡ None → loaded ty (bytes_at (store m at v) at (size_of ty)) ≡ Ok v
+loaded-put m at ty v made of passes =
+    ap (loaded ty) (stored_bytes m at ty v made of (inside_access (block_at m at.block) at.offset (size_of ty) 1 false passes))
+    ∙ loaded-value ty v of
+
 get-get : (bs : List Byte) (p s i k : ℕ) → i + k ≤ s → get_bytes bs (p + i) k ≡ get_bytes (get_bytes bs p s) i k
 get-get bs p s i k h =
     let e : s ≡ i + (s - i) = omega arith in

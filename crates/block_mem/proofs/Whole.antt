@@ -1,9 +1,11 @@
 -- Where pointers are whole, a cut by places is one by contents, and writes leave them whole.
-use Rattle.std.proofs.Common.{ℕ, zero, suc, ◌≡◌, ◌+◌, ◌-◌, ◌<◌, ◌≤◌, max, Bool, true, false, cond, not, ◌&&◌, ◌⊎◌, inl, inr, List, length, drop, get_or, refl, sym, subst, ap, ◌∙◌, arith}
+use Rattle.std.proofs.Common.{ℕ, zero, suc, ◌≡◌, ◌+◌, ◌-◌, ◌<◌, ◌≤◌, max, Bool, true, false, cond, not, ◌&&◌, ◌⊎◌, inl, inr, List, [], ◌∷◌, ◌++◌, length, replicate, drop, get_or, refl, sym, subst, ap, ◌∙◌, arith}
 use Rattle.std.specs.Prelude.{◌/◌, None, nat_lt}
 use Rattle.std.proofs.lemmas.Bool.{cases_lt, cases_eq}
 use Rattle.std.proofs.lemmas.Bool.Decides.{nat_tests}
-use Rattle.std.proofs.lemmas.List.{get_or_past, get_or-take, get_or-drop}
+use Rattle.std.proofs.lemmas.List.{get_or_past, get_or-take, get_or-drop, get_or-set_same, get_or-set_other, get_or-replicate, get_or_append_left, length-replicate, length-append}
+use Rattle.std.proofs.Math.Seq.{get_or-append_seam}
+use Rattle.std.proofs.Math.ListN.{set}
 use Rattle.block_mem.specs.declared.types.Byte.{Byte}
 use Rattle.block_mem.specs.declared.types.Byte.TheVariants.{Undef, Num, Frag}
 use Rattle.block_mem.specs.declared.types.Pointer.{Pointer}
@@ -16,7 +18,7 @@ use Rattle.block_mem.specs.Numbers.{bits_in, low_bytes}
 use Rattle.block_mem.specs.Pieces.{pieces, is_cut, cut_byte, cut, is_whole, taken_byte, taken, put_bytes, stored}
 use Rattle.block_mem.specs.Bytes.{size_of, IsOf, bytes_of}
 use Rattle.block_mem.specs.Block.{BlockView}
-use Rattle.block_mem.specs.Blocks.{block_at, with_bytes, place, wrong_access, store, copy}
+use Rattle.block_mem.specs.Blocks.{no_block, block_at, with_bytes, place, wrong_access, store, copy}
 use Rattle.block_mem.specs.Whole.{HoldsPiece, HoldsAll, PointersAreWhole, IsOutside, IsLost, IsLeft, AreWhole, KeepsWhole}
 use Rattle.block_mem.proofs.Puts.{length-by_place, get-by_place, get-put_low, get-put_high, length-taken, get-taken}
 use Rattle.block_mem.proofs.Laws.{length-pieces, length-value, get-stored}
@@ -288,6 +290,36 @@ left_written m at new made all q outside =
     (sym (ap (λ x. get_or x q Undef) (bytes-same m at.block (stored bs (place at) new) made) ∙ get-stored_out bs (place at) new q outside))
     (byte_left bs (all at.block) (place at) (length new) q)
 
+-- a block whose bytes are whole in place of another
+pub whole_set : (m : List BlockView) (n : ℕ) (b : BlockView) → n < length m → AreWhole m → PointersAreWhole b.bytes → AreWhole (set m n b)
+whole_set m n b made all is p = elim (cases_eq p n) [
+  | inl e ↦ subst (λ x. PointersAreWhole (block_at (set m n b) x).bytes) (sym e) (subst (λ (x : BlockView). PointersAreWhole x.bytes) (sym (get_or-set_same m n b no_block made)) is)
+  | inr apart ↦ subst (λ (x : BlockView). PointersAreWhole x.bytes) (sym (get_or-set_other m n p b no_block apart)) (all p)
+]
+
+-- bytes without values
+no_undefined : (n q k : ℕ) (p : Pointer) → get_or (replicate n Undef) q Undef ≡ Frag p k → ⊥
+no_undefined n q k p e = elim (cases_lt q n) [
+  | inl inside ↦ let u : get_or (replicate n Undef) q Undef ≡ Undef = get_or-replicate n q Undef Undef inside in cc
+  | inr past ↦ let u : get_or (replicate n Undef) q Undef ≡ Undef = get_or_past (replicate n Undef) q Undef (omega (arith, length-replicate n Undef)) in cc
+]
+
+pub whole-undefined : (n : ℕ) → PointersAreWhole (replicate n Undef)
+whole-undefined n = record { whole = λ q k p holds. absurd (no_undefined n q k p holds.1) }
+
+pub whole-empty : PointersAreWhole []
+whole-empty = record { whole = λ q k p holds. absurd (no_undefined 0 q k p holds.1) }
+
+-- one block more
+pub whole_more : (m : List BlockView) (b : BlockView) → AreWhole m → PointersAreWhole b.bytes → AreWhole (m ++ b ∷ [])
+whole_more m b all is p = elim (cases_lt p (length m)) [
+  | inl inside ↦ subst (λ (x : BlockView). PointersAreWhole x.bytes) (sym (get_or_append_left m (b ∷ []) no_block p inside)) (all p)
+  | inr past ↦ elim (cases_eq p (length m)) [
+    | inl e ↦ subst (λ x. PointersAreWhole (block_at (m ++ b ∷ []) x).bytes) (sym e) (subst (λ (x : BlockView). PointersAreWhole x.bytes) (sym (get_or-append_seam m b [] no_block)) is)
+    | inr apart ↦ subst (λ (x : BlockView). PointersAreWhole x.bytes) (sym (get_or_past (m ++ b ∷ []) p no_block (omega (arith, length-append m (b ∷ []))))) whole-empty
+  ]
+]
+
 keeps_whole : (m : List BlockView) (at : Pointer) (n : ℕ) (new : List Byte) → at.block < length m → length new ≡ n → place at + n ≤ length (block_at m at.block).bytes → (AreWhole m → PointersAreWhole new) → KeepsWhole m (with_bytes m at.block (stored (block_at m at.block).bytes (place at) new)) at n
 keeps_whole m at n new made size inside is =
     let bs = (block_at m at.block).bytes in
@@ -299,6 +331,11 @@ keeps_whole m at n new made size inside is =
 pub whole-store : (m : List BlockView) (at : Pointer) (ty : Scalar) (v : Value) → at.block < length m → IsOf ty v → wrong_access m at (size_of ty) (size_of ty) true ≡ None → KeepsWhole m (store m at v) at (size_of ty)
 whole-store m at ty v made of passes =
     keeps_whole m at (size_of ty) (bytes_of v) made (length-value ty v of) (inside_access (block_at m at.block) at.offset (size_of ty) (size_of ty) true passes) (λ _. whole-value v)
+
+-- a value that is put in with no alignment asked and into a block that may be read-only
+pub whole-put : (m : List BlockView) (at : Pointer) (ty : Scalar) (v : Value) → at.block < length m → IsOf ty v → wrong_access m at (size_of ty) 1 false ≡ None → KeepsWhole m (store m at v) at (size_of ty)
+whole-put m at ty v made of passes =
+    keeps_whole m at (size_of ty) (bytes_of v) made (length-value ty v of) (inside_access (block_at m at.block) at.offset (size_of ty) 1 false passes) (λ _. whole-value v)
 
 pub whole-copy : (m : List BlockView) (to from : Pointer) (n : ℕ) → to.block < length m → wrong_access m to n 1 false ≡ None → wrong_access m from n 1 false ≡ None → KeepsWhole m (copy m to from n) to n
 whole-copy m to from n made target source =

@@ -1,5 +1,5 @@
 -- Memory: blocks, numbered as they are made (C11 6.2.4, 6.5.3.2).
-use Rattle.std.specs.Prelude.{ℕ, ◌<◌, Bool, false, if◌then◌else◌, List, [], length, Option, Some, None, Result, Err, MatchOption, slice_index_or, slice_set, unwrap_or}
+use Rattle.std.specs.Prelude.{ℕ, ◌<◌, Bool, false, if◌then◌else◌, List, [], length, replicate, Option, Some, None, Result, Err, MatchOption, slice_index_or, slice_set, unwrap_or}
 use Rattle.std.specs.Option.{ok_or}
 use Rattle.c_syntax.specs.declared.alarm.WrongKind.{WrongKind}
 use Rattle.c_syntax.specs.declared.alarm.WrongKind.TheVariants.{Indeterminate, Fragment}
@@ -27,6 +27,10 @@ with_bytes m number bs = slice_set m number (record (block_at m number) { bytes 
 -- the memory after a block ended
 abbrev pub with_ended : List BlockView → ℕ → List BlockView
 with_ended m number = slice_set m number (record (block_at m number) { live = false })
+
+-- the memory after all bytes of a block lost their values
+abbrev pub with_undefined : List BlockView → ℕ → List BlockView
+with_undefined m number = with_bytes m number (replicate (length (block_at m number).bytes) Undef)
 
 -- the place of a pointer to a byte of a block
 abbrev pub place : Pointer → ℕ

@@ -25,7 +25,8 @@ impl Model for Block {
 }
 
 impl Block {
-    ghost use Rattle.std.specs.Prelude.{◌≡◌, ◌+◌, ◌≤◌, ◌<◌, false, IfOk, length, slice_set};
+    ghost use Rattle.std.specs.Prelude.{◌≡◌, ◌+◌, ◌≤◌, ◌<◌, false, IfOk, length, replicate, slice_set};
+    ghost use Rattle.block_mem.specs.declared.types.Byte.TheVariants.{Undef};
     ghost use Rattle.block_mem.specs.Pieces.{stored, cut};
     ghost use Rattle.block_mem.specs.Block.{BlockView, new_block, wrong_in};
 
@@ -53,6 +54,20 @@ impl Block {
         ensures { self.new ≡ record self.old { live = false } }
     {
         self.live = false;
+    }
+
+    /// Whether the block has not ended.
+    pub fn is_live(&self) -> bool
+        ensures { result ≡ self.now.live }
+    {
+        self.live
+    }
+
+    /// Takes the value of each byte away.
+    pub fn undefine(&mut self)
+        ensures { self.new ≡ record self.old { bytes = replicate (length self.old.bytes) Undef } }
+    {
+        self.bytes.fill(Byte::Undef);
     }
 
     /// What is wrong first with an access of `size` bytes from an offset on.

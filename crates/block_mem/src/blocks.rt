@@ -33,7 +33,7 @@ impl Memory {
     ghost use Rattle.block_mem.specs.Block.{new_block};
     ghost use Rattle.block_mem.specs.Bytes.{IsOf, size_of};
     ghost use Rattle.block_mem.specs.Whole.{KeepsWhole};
-    ghost use Rattle.block_mem.specs.Blocks.{with_ended, wrong_access, HasByte, load, store, copy, byte, set_byte};
+    ghost use Rattle.block_mem.specs.Blocks.{block_at, bytes_at, loaded, with_ended, with_undefined, wrong_access, HasByte, load, store, copy, byte, set_byte};
 
     /// Memory without blocks.
     pub fn new(alloc: Global) -> Memory
@@ -123,6 +123,49 @@ impl Memory {
         let bytes = value_bytes(ty, v);
         block.store(start_of(at), &bytes[..size]);
         Ok(())
+    }
+
+    /// Puts in a value of a type where an object is initialised: as `store` does, but whether the
+    /// block is read-only and where in it the value stands is not asked. Pointers that are overwritten
+    /// in part leave Undef behind.
+    pub fn put(&mut self, at: Pointer, ty: Scalar, v: Value)
+        requires made { at.block < length self.old }
+        requires typed { IsOf ty v }
+        requires inside { wrong_access self.old at (size_of ty) 1 false ≡ None }
+        ensures stored { self.new ≡ store self.old at v }
+        ensures reads_back { loaded ty (bytes_at self.new at (size_of ty)) ≡ Ok v }
+        ensures elsewhere { KeepsElsewhere self.old self.new at (size_of ty) }
+        ensures whole { KeepsWhole self.old self.new at (size_of ty) }
+    {
+        let size = scalar_size(ty);
+        let bytes = value_bytes(ty, v);
+        let block = &mut self.blocks[at.block as usize];
+        block.store(start_of(at), &bytes[..size]);
+    }
+
+    /// Takes the value of every byte of a block away, in a read-only block and in a dead one too.
+    pub fn undefine(&mut self, block: u64)
+        requires made { block < length self.old }
+        ensures undefined { self.new ≡ with_undefined self.old block }
+    {
+        let block = &mut self.blocks[block as usize];
+        block.undefine();
+    }
+
+    /// Whether a block is live: `free_block` has not ended it.
+    pub fn is_live(&self, block: u64) -> bool
+        requires made { block < length self.now }
+        ensures { result ≡ (block_at self.now block).live }
+    {
+        self.blocks[block as usize].is_live()
+    }
+
+    /// How many bytes a block has, live or dead.
+    pub fn size(&self, block: u64) -> u64
+        requires made { block < length self.now }
+        ensures { result ≡ length (block_at self.now block).bytes }
+    {
+        self.blocks[block as usize].bytes().len() as u64
     }
 
     /// Copies `size` bytes. All are read before any is written, so the ranges may overlap. A piece

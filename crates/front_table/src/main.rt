@@ -1,0 +1,51 @@
+//! The table of the front end, as data: it reads cases from its standard input, calls the public function that the first
+//! word of each case names, and prints one line with what it answers. A case is that word on a line of its own, a text, and
+//! a line `====`. Its stored input and output, worked by hand, are rows that the gate compares.
+//!
+//! | Word | The line |
+//! |---|---|
+//! | `lex` | the kinds and places of the tokens and the place of the end, as in `k1:1 w1:5 1:9`, or the refusal |
+//! | `parse` | the tree in a short notation, as in `Int (fn f void){return (Plus a b);}`, or the refusal |
+//! | `accepts` | `a file`, or the refusal |
+//! | `fronts` | the lengths of the fronts of the text that are files |
+#![tactic(auto)]
+
+mod case;
+mod exprs;
+mod stmts;
+mod tokens;
+mod trees;
+
+use case::Case;
+use std::alloc::Global;
+use std::io::{self, Read};
+
+fn main(rt: HostRuntime) -> io::Result<()> {
+    let alloc = rt.alloc();
+    let mut text = Vec::new(alloc);
+    rt.stdin().read_to_end(&mut text)?;
+    let mut case = Case::new(alloc);
+    for line in text.split(|byte| *byte == b'\n') {
+        if line == b"====".as_slice() {
+            let told = answer(alloc, &case)?;
+            println!(rt; "{told}")?;
+            case = Case::new(alloc);
+        } else {
+            case.push(alloc, line)?;
+        }
+    }
+    Ok(())
+}
+
+// What is printed of a case.
+fn answer(alloc: Global, case: &Case) -> io::Result<String> {
+    let text = case.text();
+    let told = match case.word() {
+        b"lex" => tokens::line(alloc, text)?,
+        b"parse" => trees::line(alloc, text)?,
+        b"accepts" => trees::verdict(alloc, text)?,
+        b"fronts" => trees::fronts(alloc, text)?,
+        _ => String::from_str(alloc, "no such word")?,
+    };
+    Ok(told)
+}
