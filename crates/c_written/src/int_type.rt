@@ -7,16 +7,27 @@ ghost use Rattle.c_written.specs.Integer as integer;
 /// long long 64.
 #[derive(Clone, Copy, Debug, PartialEq, Eq)]
 pub enum IntType {
+    /// `char`, which has -128 to 127.
     Char,
+    /// `signed char`
     SChar,
+    /// `unsigned char`
     UChar,
+    /// `short`
     Short,
+    /// `unsigned short`
     UShort,
+    /// `int`
     Int,
+    /// `unsigned`
     UInt,
+    /// `long`
     Long,
+    /// `unsigned long`
     ULong,
+    /// `long long`
     LLong,
+    /// `unsigned long long`
     ULLong,
 }
 
