@@ -2,3 +2,4 @@ pub mod TypeTrees
 pub mod TypedExprTrees
 pub mod TypedStmtTrees
 pub mod Trees
+pub mod Copies
