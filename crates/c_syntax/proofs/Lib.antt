@@ -3,3 +3,4 @@ pub mod TypedExprTrees
 pub mod TypedStmtTrees
 pub mod Trees
 pub mod Copies
+pub mod Sizes
