@@ -6,3 +6,4 @@ pub mod Program
 pub mod Operand
 pub mod Admission
 pub mod Fact
+pub mod Sizes

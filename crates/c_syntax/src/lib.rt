@@ -10,6 +10,7 @@ mod statement;
 mod tests;
 mod typed;
 mod types;
+mod value_type;
 
 pub use alarm::{
     Alarm, Alarms, Cell, Check, Example, Fact, Facts, Pointers, Shown, Spot, WrongKind,

@@ -2,7 +2,7 @@
 #![tactic(auto, using(crate::proofs::Trees::the_trees))]
 
 use crate::{CType, Name, Numbers, Object, Pos, TStmt};
-use std::alloc::Global;
+use std::alloc::{AllocError as NoMemory, Global};
 use std::marker::Model;
 
 /// A member of a struct, `offset` bytes after the struct's first one.
@@ -381,5 +381,128 @@ impl Initials {
         ensures { result.now ≡ self.now }
     {
         self.items.as_slice()
+    }
+}
+
+impl Member {
+    ghost use Rattle.std.specs.Prelude.{◌≡◌, IfOk};
+    ghost use Rattle.c_syntax.specs.Program.{member_tree};
+
+    /// The same member once more, which shares its type.
+    pub fn copy(&self) -> Result<Member, NoMemory>
+        ensures { IfOk result (λ copy. member_tree copy ≡ member_tree self.now) }
+    {
+        Ok(Member {
+            name: self.name.copy()?,
+            ty: self.ty.copy()?,
+            offset: self.offset,
+        })
+    }
+}
+
+impl StructDef {
+    ghost use Rattle.std.specs.Prelude.{◌≡◌, IfOk};
+    ghost use Rattle.c_syntax.specs.Program.{structdef_tree};
+
+    /// The same struct once more, which shares the types of its members.
+    pub fn copy(&self) -> Result<StructDef, NoMemory>
+        ensures { IfOk result (λ copy. structdef_tree copy ≡ structdef_tree self.now) }
+    {
+        Ok(StructDef {
+            tag: self.tag.copy()?,
+            members: self.members.copy()?,
+            size: self.size,
+            align: self.align,
+        })
+    }
+}
+
+impl Members {
+    ghost use Rattle.std.specs.Prelude.{◌≡◌, IfOk, map};
+    ghost use Rattle.c_syntax.specs.Program.{member_tree};
+
+    /// The same members once more.
+    pub fn copy(&self) -> Result<Members, NoMemory>
+        ensures { IfOk result (λ copy. map member_tree copy ≡ map member_tree self.now) }
+    {
+        let mut items = Vec::new(*self.items.allocator());
+        for item in &self.items {
+            items.push(item.copy()?)?;
+        }
+        Ok(Members { items })
+    }
+}
+
+impl StructDefs {
+    ghost use Rattle.std.specs.Prelude.{◌≡◌, IfOk, map};
+    ghost use Rattle.c_syntax.specs.Program.{structdef_tree};
+
+    /// The same structs once more.
+    pub fn copy(&self) -> Result<StructDefs, NoMemory>
+        ensures { IfOk result (λ copy. map structdef_tree copy ≡ map structdef_tree self.now) }
+    {
+        let mut items = Vec::new(*self.items.allocator());
+        for item in &self.items {
+            items.push(item.copy()?)?;
+        }
+        Ok(StructDefs { items })
+    }
+}
+
+impl Objects {
+    ghost use Rattle.std.specs.Prelude.{◌≡◌, IfOk, map};
+    ghost use Rattle.c_syntax.specs.Types.{object_tree};
+
+    /// The same objects once more.
+    pub fn copy(&self) -> Result<Objects, NoMemory>
+        ensures { IfOk result (λ copy. map object_tree copy ≡ map object_tree self.now) }
+    {
+        let mut items = Vec::new(*self.items.allocator());
+        for item in &self.items {
+            items.push(item.copy()?)?;
+        }
+        Ok(Objects { items })
+    }
+}
+
+impl Initial {
+    ghost use Rattle.std.specs.Prelude.{◌≡◌, IfOk};
+
+    /// The same initial value once more.
+    pub fn copy(&self) -> Result<Initial, NoMemory>
+        ensures { IfOk result (λ copy. copy ≡ self.now) }
+    {
+        let bytes = self.bytes.copy()?;
+        Ok(Initial {
+            object: self.object,
+            bytes,
+        })
+    }
+}
+
+impl InitBytes {
+    ghost use Rattle.std.specs.Prelude.{◌≡◌, IfOk};
+
+    /// The same bytes once more.
+    pub fn copy(&self) -> Result<InitBytes, NoMemory>
+        ensures { IfOk result (λ copy. copy ≡ self.now) }
+    {
+        let items = self.items.clone()?;
+        Ok(InitBytes { items })
+    }
+}
+
+impl Initials {
+    ghost use Rattle.std.specs.Prelude.{◌≡◌, IfOk};
+
+    /// The same initial values once more.
+    pub fn copy(&self) -> Result<Initials, NoMemory>
+        ensures { IfOk result (λ copy. copy ≡ self.now) }
+    {
+        let mut items = Vec::new(*self.items.allocator());
+        for item in &self.items {
+            items.push(item.copy()?)?;
+        }
+        Ok(Initials { items })
     }
 }

@@ -1,12 +1,13 @@
 // Typed statements.
 #![tactic(auto, using(crate::proofs::Trees::the_trees))]
 
-ghost use Rattle.std.specs.Prelude.{◌≡◌};
+ghost use Rattle.std.specs.Prelude.{◌≡◌, IfOk, option_map};
+ghost use Rattle.c_syntax.specs.TypedExpr.{texpr_tree};
 ghost use Rattle.c_syntax.specs.TypedParts.{tstmt_pos};
-ghost use Rattle.c_syntax.specs.TypedStmt.{none, tstmt_tree, tstmts_from, tstmts_tree};
+ghost use Rattle.c_syntax.specs.TypedStmt.{none, tinit_tree, tstmt_tree, tstmts_from, tstmts_tree};
 
 use crate::{CType, Extent, Numbers, Pos, TExpr};
-use std::alloc::Global;
+use std::alloc::{AllocError as NoMemory, Global};
 use std::marker::Model;
 
 /// Whether a block stands in the source, or was put round the statement that an `if`, a loop or a
@@ -250,5 +251,193 @@ impl TInits {
         ensures { result.now ≡ self.now }
     {
         self.items.as_slice()
+    }
+}
+
+impl TInit {
+    /// The same item once more.
+    pub fn copy(&self) -> Result<TInit, NoMemory>
+        ensures { IfOk result (λ copy. tinit_tree copy ≡ tinit_tree self.now) }
+    {
+        match self {
+            TInit::Store { offset, ty, value } => Ok(TInit::Store {
+                offset: *offset,
+                ty: ty.copy()?,
+                value: value.copy()?,
+            }),
+            TInit::Copy {
+                offset,
+                extent,
+                source,
+            } => Ok(TInit::Copy {
+                offset: *offset,
+                extent: *extent,
+                source: source.copy()?,
+            }),
+        }
+    }
+}
+
+impl TInits {
+    ghost use Rattle.std.specs.Prelude.{map};
+
+    /// The same items once more.
+    pub fn copy(&self) -> Result<TInits, NoMemory>
+        ensures { IfOk result (λ copy. map tinit_tree copy ≡ map tinit_tree self.now) }
+    {
+        let mut items = Vec::new(*self.items.allocator());
+        for item in &self.items {
+            items.push(item.copy()?)?;
+        }
+        Ok(TInits { items })
+    }
+}
+
+impl TStmt {
+    /// The same statement once more, which shares the types that stand in it.
+    #[cycle(copies)]
+    pub fn copy(&self) -> Result<TStmt, NoMemory>
+        ensures { IfOk result (λ copy. tstmt_tree copy ≡ tstmt_tree self.now) }
+    {
+        match self {
+            TStmt::Empty { pos } => Ok(TStmt::Empty { pos: *pos }),
+            TStmt::Expr { pos, value } => Ok(TStmt::Expr {
+                pos: *pos,
+                value: value.copy()?,
+            }),
+            TStmt::Block {
+                pos,
+                kind,
+                objects,
+                items,
+            } => Ok(TStmt::Block {
+                pos: *pos,
+                kind: *kind,
+                objects: objects.copy()?,
+                items: items.copy()?,
+            }),
+            TStmt::Declare {
+                pos,
+                object,
+                inits,
+                zeroes_rest,
+            } => Ok(TStmt::Declare {
+                pos: *pos,
+                object: *object,
+                inits: inits.copy()?,
+                zeroes_rest: *zeroes_rest,
+            }),
+            TStmt::Static { pos, object } => Ok(TStmt::Static {
+                pos: *pos,
+                object: *object,
+            }),
+            TStmt::If {
+                pos,
+                condition,
+                then,
+                otherwise,
+            } => Ok(TStmt::If {
+                pos: *pos,
+                condition: condition.copy()?,
+                then: copy_stmt(then)?,
+                otherwise: copy_stmt(otherwise)?,
+            }),
+            TStmt::While {
+                pos,
+                condition,
+                body,
+            } => Ok(TStmt::While {
+                pos: *pos,
+                condition: condition.copy()?,
+                body: copy_stmt(body)?,
+            }),
+            TStmt::DoWhile {
+                pos,
+                body,
+                condition,
+            } => Ok(TStmt::DoWhile {
+                pos: *pos,
+                body: copy_stmt(body)?,
+                condition: condition.copy()?,
+            }),
+            TStmt::For {
+                pos,
+                objects,
+                head,
+                condition,
+                step,
+                body,
+            } => Ok(TStmt::For {
+                pos: *pos,
+                objects: objects.copy()?,
+                head: head.copy()?,
+                condition: copy_option(condition)?,
+                step: copy_option(step)?,
+                body: copy_stmt(body)?,
+            }),
+            TStmt::Switch {
+                pos,
+                value,
+                kind,
+                objects,
+                items,
+            } => Ok(TStmt::Switch {
+                pos: *pos,
+                value: value.copy()?,
+                kind: *kind,
+                objects: objects.copy()?,
+                items: items.copy()?,
+            }),
+            TStmt::Break { pos } => Ok(TStmt::Break { pos: *pos }),
+            TStmt::Continue { pos } => Ok(TStmt::Continue { pos: *pos }),
+            TStmt::Goto { pos, label } => Ok(TStmt::Goto {
+                pos: *pos,
+                label: *label,
+            }),
+            TStmt::Return { pos, value } => Ok(TStmt::Return {
+                pos: *pos,
+                value: copy_option(value)?,
+            }),
+            TStmt::Label { pos, label } => Ok(TStmt::Label {
+                pos: *pos,
+                label: *label,
+            }),
+            TStmt::Case { pos, value } => Ok(TStmt::Case {
+                pos: *pos,
+                value: *value,
+            }),
+            TStmt::Default { pos } => Ok(TStmt::Default { pos: *pos }),
+        }
+    }
+}
+
+impl TStmts {
+    /// The same statements once more.
+    #[cycle(copies)]
+    pub fn copy(&self) -> Result<TStmts, NoMemory>
+        ensures { IfOk result (λ copy. tstmts_tree copy ≡ tstmts_tree self.now) }
+    {
+        let mut items = Vec::new(*self.items.allocator());
+        for item in &self.items {
+            items.push(item.copy()?)?;
+        }
+        Ok(TStmts { items })
+    }
+}
+
+#[cycle(copies)]
+fn copy_stmt(stmt: &Box<TStmt>) -> Result<Box<TStmt>, NoMemory>
+    ensures { IfOk result (λ copy. tstmt_tree copy.value ≡ tstmt_tree stmt.now.value) }
+{
+    let copy = stmt.copy()?;
+    Ok(Box::new(*Box::allocator(stmt), copy)?)
+}
+
+fn copy_option(value: &Option<TExpr>) -> Result<Option<TExpr>, NoMemory>
+    ensures { IfOk result (λ copy. option_map texpr_tree copy ≡ option_map texpr_tree value.now) }
+{
+    match value {
+        None => Ok(None),
+        Some(expr) => Ok(Some(expr.copy()?)),
     }
 }

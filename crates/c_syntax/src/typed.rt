@@ -1,7 +1,7 @@
 // Typed expressions and the places that they name.
 #![tactic(auto, using(crate::proofs::Trees::the_trees))]
 
-ghost use Rattle.std.specs.Prelude.{◌≡◌};
+ghost use Rattle.std.specs.Prelude.{◌≡◌, IfOk};
 ghost use Rattle.c_syntax.specs.TypedExpr.{none, texpr_tree, texprs_from, texprs_tree, tlvalue_tree};
 ghost use Rattle.c_syntax.specs.TypedParts.{texpr_pos, tlvalue_is_const, tlvalue_pos, tlvalue_type};
 ghost use Rattle.c_syntax.specs.Types.{ctype_tree};
@@ -9,7 +9,7 @@ ghost use Rattle.c_syntax.specs.Types.{ctype_tree};
 use crate::{
     CType, DerefKind, Extent, IntType, Pos, StepTime, StepWay, Stride, TBinaryOp, TUnaryOp,
 };
-use std::alloc::Global;
+use std::alloc::{AllocError as NoMemory, Global};
 
 /// A typed expression. Every conversion of C stands in it as a node of its own, so that the
 /// operands of an operator have the operator's types.
@@ -271,4 +271,231 @@ impl TExprs {
     {
         self.items.as_slice()
     }
+}
+
+impl TExpr {
+    /// The same expression once more, which shares the types that stand in it.
+    #[cycle(copies)]
+    pub fn copy(&self) -> Result<TExpr, NoMemory>
+        ensures { IfOk result (λ copy. texpr_tree copy ≡ texpr_tree self.now) }
+    {
+        match self {
+            TExpr::Const { pos, ty, value } => Ok(TExpr::Const {
+                pos: *pos,
+                ty: *ty,
+                value: *value,
+            }),
+            TExpr::Null { pos, ty } => Ok(TExpr::Null {
+                pos: *pos,
+                ty: ty.copy()?,
+            }),
+            TExpr::Load { pos, place } => Ok(TExpr::Load {
+                pos: *pos,
+                place: copy_place(place)?,
+            }),
+            TExpr::AddressOf { pos, place } => Ok(TExpr::AddressOf {
+                pos: *pos,
+                place: copy_place(place)?,
+            }),
+            TExpr::Decay { pos, place } => Ok(TExpr::Decay {
+                pos: *pos,
+                place: copy_place(place)?,
+            }),
+            TExpr::Whole { pos, place } => Ok(TExpr::Whole {
+                pos: *pos,
+                place: copy_place(place)?,
+            }),
+            TExpr::Unary { pos, op, operand } => Ok(TExpr::Unary {
+                pos: *pos,
+                op: *op,
+                operand: copy_expr(operand)?,
+            }),
+            TExpr::Binary {
+                pos,
+                op,
+                left,
+                right,
+            } => Ok(TExpr::Binary {
+                pos: *pos,
+                op: *op,
+                left: copy_expr(left)?,
+                right: copy_expr(right)?,
+            }),
+            TExpr::Convert { pos, ty, operand } => Ok(TExpr::Convert {
+                pos: *pos,
+                ty: ty.copy()?,
+                operand: copy_expr(operand)?,
+            }),
+            TExpr::Assign { pos, place, value } => Ok(TExpr::Assign {
+                pos: *pos,
+                place: copy_place(place)?,
+                value: copy_expr(value)?,
+            }),
+            TExpr::AssignStruct {
+                pos,
+                extent,
+                place,
+                source,
+            } => Ok(TExpr::AssignStruct {
+                pos: *pos,
+                extent: *extent,
+                place: copy_place(place)?,
+                source: copy_expr(source)?,
+            }),
+            TExpr::Compound {
+                pos,
+                op,
+                place,
+                value,
+            } => Ok(TExpr::Compound {
+                pos: *pos,
+                op: *op,
+                place: copy_place(place)?,
+                value: copy_expr(value)?,
+            }),
+            TExpr::Step {
+                pos,
+                time,
+                way,
+                stride,
+                place,
+            } => Ok(TExpr::Step {
+                pos: *pos,
+                time: *time,
+                way: *way,
+                stride: *stride,
+                place: copy_place(place)?,
+            }),
+            TExpr::And { pos, left, right } => Ok(TExpr::And {
+                pos: *pos,
+                left: copy_expr(left)?,
+                right: copy_expr(right)?,
+            }),
+            TExpr::Or { pos, left, right } => Ok(TExpr::Or {
+                pos: *pos,
+                left: copy_expr(left)?,
+                right: copy_expr(right)?,
+            }),
+            TExpr::Cond {
+                pos,
+                ty,
+                condition,
+                then,
+                otherwise,
+            } => Ok(TExpr::Cond {
+                pos: *pos,
+                ty: ty.copy()?,
+                condition: copy_expr(condition)?,
+                then: copy_expr(then)?,
+                otherwise: copy_expr(otherwise)?,
+            }),
+            TExpr::Comma { pos, left, right } => Ok(TExpr::Comma {
+                pos: *pos,
+                left: copy_expr(left)?,
+                right: copy_expr(right)?,
+            }),
+            TExpr::Call {
+                pos,
+                function,
+                ty,
+                used,
+                args,
+            } => Ok(TExpr::Call {
+                pos: *pos,
+                function: *function,
+                ty: ty.copy()?,
+                used: *used,
+                args: args.copy()?,
+            }),
+            TExpr::Any { pos, ty } => Ok(TExpr::Any { pos: *pos, ty: *ty }),
+            TExpr::Assume { pos, operand } => Ok(TExpr::Assume {
+                pos: *pos,
+                operand: copy_expr(operand)?,
+            }),
+            TExpr::Assert { pos, operand } => Ok(TExpr::Assert {
+                pos: *pos,
+                operand: copy_expr(operand)?,
+            }),
+        }
+    }
+}
+
+impl TLvalue {
+    /// The same place once more, which shares the types that stand in it.
+    #[cycle(copies)]
+    pub fn copy(&self) -> Result<TLvalue, NoMemory>
+        ensures { IfOk result (λ copy. tlvalue_tree copy ≡ tlvalue_tree self.now) }
+    {
+        match self {
+            TLvalue::Var {
+                pos,
+                object,
+                ty,
+                is_const,
+            } => Ok(TLvalue::Var {
+                pos: *pos,
+                object: *object,
+                ty: ty.copy()?,
+                is_const: *is_const,
+            }),
+            TLvalue::Deref {
+                pos,
+                kind,
+                ty,
+                is_const,
+                pointer,
+            } => Ok(TLvalue::Deref {
+                pos: *pos,
+                kind: *kind,
+                ty: ty.copy()?,
+                is_const: *is_const,
+                pointer: copy_expr(pointer)?,
+            }),
+            TLvalue::Member {
+                pos,
+                member,
+                offset,
+                ty,
+                is_const,
+                place,
+            } => Ok(TLvalue::Member {
+                pos: *pos,
+                member: *member,
+                offset: *offset,
+                ty: ty.copy()?,
+                is_const: *is_const,
+                place: copy_place(place)?,
+            }),
+        }
+    }
+}
+
+impl TExprs {
+    /// The same expressions once more.
+    #[cycle(copies)]
+    pub fn copy(&self) -> Result<TExprs, NoMemory>
+        ensures { IfOk result (λ copy. texprs_tree copy ≡ texprs_tree self.now) }
+    {
+        let mut items = Vec::new(*self.items.allocator());
+        for item in &self.items {
+            items.push(item.copy()?)?;
+        }
+        Ok(TExprs { items })
+    }
+}
+
+#[cycle(copies)]
+fn copy_expr(expr: &Box<TExpr>) -> Result<Box<TExpr>, NoMemory>
+    ensures { IfOk result (λ copy. texpr_tree copy.value ≡ texpr_tree expr.now.value) }
+{
+    let copy = expr.copy()?;
+    Ok(Box::new(*Box::allocator(expr), copy)?)
+}
+
+#[cycle(copies)]
+fn copy_place(place: &Box<TLvalue>) -> Result<Box<TLvalue>, NoMemory>
+    ensures { IfOk result (λ copy. tlvalue_tree copy.value ≡ tlvalue_tree place.now.value) }
+{
+    let copy = place.copy()?;
+    Ok(Box::new(*Box::allocator(place), copy)?)
 }

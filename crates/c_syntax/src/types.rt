@@ -2,7 +2,7 @@
 #![tactic(auto, using(crate::proofs::Trees::the_trees))]
 
 ghost use Rattle.std.specs.Prelude.{◌≡◌, ◌↔◌, IfOk, IsTrue};
-ghost use Rattle.c_syntax.specs.Types.{HasNoTarget, ctype_tree};
+ghost use Rattle.c_syntax.specs.Types.{HasNoTarget, ctype_tree, object_tree};
 
 use crate::{IntType, Name, Pos};
 use std::alloc::AllocError as NoMemory;
@@ -77,6 +77,22 @@ impl CType {
             CType::Struct(n) => Ok(CType::Struct(*n)),
             CType::Function(n) => Ok(CType::Function(*n)),
         }
+    }
+}
+
+impl Object {
+    /// The same object once more, which shares its type.
+    pub fn copy(&self) -> Result<Object, NoMemory>
+        ensures { IfOk result (λ copy. object_tree copy ≡ object_tree self.now) }
+    {
+        Ok(Object {
+            name: self.name.copy()?,
+            pos: self.pos,
+            ty: self.ty.copy()?,
+            size: self.size,
+            read_only: self.read_only,
+            is_static: self.is_static,
+        })
     }
 }
 

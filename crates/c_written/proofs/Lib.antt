@@ -2,3 +2,4 @@ pub mod WrittenTrees
 pub mod WrittenDeclTrees
 pub mod WrittenFileTrees
 pub mod Trees
+pub mod Sizes

@@ -4,3 +4,4 @@ pub mod WrittenFile
 pub mod WrittenParts
 pub mod Integer
 pub mod Constant
+pub mod Sizes

@@ -1,7 +1,7 @@
 // Small lists. Contracts see each as the plain list of its items.
 
 use crate::Pos;
-use std::alloc::Global;
+use std::alloc::{AllocError as NoMemory, Global};
 use std::marker::Model;
 
 /// A text, as its bytes.
@@ -19,7 +19,7 @@ impl Model for Name {
 }
 
 impl Name {
-    ghost use Rattle.std.specs.Prelude.{◌≡◌, []};
+    ghost use Rattle.std.specs.Prelude.{◌≡◌, [], IfOk};
 
     /// The list with nothing in it.
     pub fn new(alloc: Global) -> Name
@@ -51,6 +51,14 @@ impl Name {
     {
         self.items.as_slice()
     }
+
+    /// The same text once more.
+    pub fn copy(&self) -> Result<Name, NoMemory>
+        ensures { IfOk result (λ copy. copy ≡ self.now) }
+    {
+        let items = self.items.clone()?;
+        Ok(Name { items })
+    }
 }
 
 /// Bytes, as those of a file or of a report.
@@ -68,7 +76,7 @@ impl Model for Bytes {
 }
 
 impl Bytes {
-    ghost use Rattle.std.specs.Prelude.{◌≡◌, []};
+    ghost use Rattle.std.specs.Prelude.{◌≡◌, [], IfOk};
 
     /// The list with nothing in it.
     pub fn new(alloc: Global) -> Bytes
@@ -100,6 +108,14 @@ impl Bytes {
     {
         self.items.as_slice()
     }
+
+    /// The same bytes once more.
+    pub fn copy(&self) -> Result<Bytes, NoMemory>
+        ensures { IfOk result (λ copy. copy ≡ self.now) }
+    {
+        let items = self.items.clone()?;
+        Ok(Bytes { items })
+    }
 }
 
 /// Numbers of objects, functions and the like.
@@ -117,7 +133,7 @@ impl Model for Numbers {
 }
 
 impl Numbers {
-    ghost use Rattle.std.specs.Prelude.{◌≡◌, []};
+    ghost use Rattle.std.specs.Prelude.{◌≡◌, [], IfOk};
 
     /// The list with nothing in it.
     pub fn new(alloc: Global) -> Numbers
@@ -149,6 +165,14 @@ impl Numbers {
     {
         self.items.as_slice()
     }
+
+    /// The same numbers once more.
+    pub fn copy(&self) -> Result<Numbers, NoMemory>
+        ensures { IfOk result (λ copy. copy ≡ self.now) }
+    {
+        let items = self.items.clone()?;
+        Ok(Numbers { items })
+    }
 }
 
 /// Places, as the calls that lead to an alarm.
@@ -167,7 +191,7 @@ impl Model for Places {
 }
 
 impl Places {
-    ghost use Rattle.std.specs.Prelude.{◌≡◌, []};
+    ghost use Rattle.std.specs.Prelude.{◌≡◌, [], IfOk};
 
     /// The list with nothing in it.
     pub fn new(alloc: Global) -> Places
@@ -199,6 +223,14 @@ impl Places {
     {
         self.items.as_slice()
     }
+
+    /// The same places once more.
+    pub fn copy(&self) -> Result<Places, NoMemory>
+        ensures { IfOk result (λ copy. copy ≡ self.now) }
+    {
+        let items = self.items.clone()?;
+        Ok(Places { items })
+    }
 }
 
 /// Texts, as the tags of structs.
@@ -216,7 +248,7 @@ impl Model for Names {
 }
 
 impl Names {
-    ghost use Rattle.std.specs.Prelude.{◌≡◌, []};
+    ghost use Rattle.std.specs.Prelude.{◌≡◌, [], IfOk};
 
     /// The list with nothing in it.
     pub fn new(alloc: Global) -> Names
@@ -247,5 +279,16 @@ impl Names {
         ensures { result.now ≡ self.now }
     {
         self.items.as_slice()
+    }
+
+    /// The same names once more.
+    pub fn copy(&self) -> Result<Names, NoMemory>
+        ensures { IfOk result (λ copy. copy ≡ self.now) }
+    {
+        let mut items = Vec::new(*self.items.allocator());
+        for name in &self.items {
+            items.push(name.copy()?)?;
+        }
+        Ok(Names { items })
     }
 }

@@ -3,6 +3,8 @@
 /// The way of a step: `++` or `--`.
 #[derive(Clone, Copy, Debug, PartialEq, Eq)]
 pub enum StepWay {
+    /// `++a`, `a++`
     Up,
+    /// `--a`, `a--`
     Down,
 }

@@ -11,7 +11,7 @@ ghost use Rattle.c_written.specs.declared.written.TypeWord.TheVariants as words;
 
 use crate::{
     BlockItem, BlockItems, Decl, Declarator, Expr, File, Init, InitDeclarator, InitDeclarators,
-    Name, Outer, Outers, Param, Params, Pos, Spec, Specs, Stmt, TypeWord,
+    IntType, Name, Outer, Outers, Param, Params, Pos, Spec, Specs, Stmt, TypeWord,
 };
 use std::alloc::{AllocError as NoMemory, Global};
 use std::test::Fail;
@@ -125,5 +125,22 @@ fn a_file_is_built(rt: HostRuntime) -> Result<(), Fail> {
         outers: Outers::from_vec(outers),
     };
     assert_eq!(rt; file.outers.as_slice().len(), 1);
+    Ok(())
+}
+
+#[test]
+fn integer_types_have_limits(rt: HostRuntime) {
+    assert_eq!(rt; IntType::Short.width(), 16);
+    assert_eq!(rt; IntType::ULong.bytes(), 8);
+    assert!(rt; IntType::Char.is_signed());
+    assert_eq!(rt; IntType::Int.limits(), (-2_147_483_648, 2_147_483_647));
+    assert_eq!(rt; IntType::UChar.limits(), (0, 255));
+}
+
+#[test]
+fn a_name_is_copied(rt: HostRuntime) -> Result<(), Fail> {
+    let name = named(rt.alloc())?;
+    let copy = name.copy()?;
+    assert_eq!(rt; copy.as_slice(), name.as_slice());
     Ok(())
 }

@@ -41,66 +41,122 @@ pub enum Keyword {
     Void,
     Volatile,
     While,
+    /// `_Alignas`
     AlignAs,
+    /// `_Alignof`
     AlignOf,
+    /// `_Atomic`
     Atomic,
+    /// `_Bool`
     Bool,
+    /// `_Complex`
     Complex,
+    /// `_Generic`
     Generic,
+    /// `_Imaginary`
     Imaginary,
+    /// `_Noreturn`
     NoReturn,
+    /// `_Static_assert`
     StaticAssert,
+    /// `_Thread_local`
     ThreadLocal,
 }
 
 /// The punctuators of C11 6.4.6 but `#`, `##` and the digraphs.
 #[derive(Clone, Copy, Debug, PartialEq, Eq)]
 pub enum Punctuator {
+    /// `[`
     LeftBracket,
+    /// `]`
     RightBracket,
+    /// `(`
     LeftParenthesis,
+    /// `)`
     RightParenthesis,
+    /// `{`
     LeftBrace,
+    /// `}`
     RightBrace,
+    /// `.`
     Dot,
+    /// `->`
     Arrow,
+    /// `++`
     Increment,
+    /// `--`
     Decrement,
+    /// `&`
     Ampersand,
+    /// `*`
     Star,
+    /// `+`
     Plus,
+    /// `-`
     Minus,
+    /// `~`
     Tilde,
+    /// `!`
     Exclamation,
+    /// `/`
     Slash,
+    /// `%`
     Percent,
+    /// `<<`
     ShiftLeft,
+    /// `>>`
     ShiftRight,
+    /// `<`
     Less,
+    /// `>`
     Greater,
+    /// `<=`
     LessEqual,
+    /// `>=`
     GreaterEqual,
+    /// `==`
     Equal,
+    /// `!=`
     NotEqual,
+    /// `^`
     Caret,
+    /// `|`
     Bar,
+    /// `&&`
     And,
+    /// `||`
     Or,
+    /// `?`
     Question,
+    /// `:`
     Colon,
+    /// `;`
     Semicolon,
+    /// `...`
     Ellipsis,
+    /// `=`
     Assign,
+    /// `*=`
     MultiplyAssign,
+    /// `/=`
     DivideAssign,
+    /// `%=`
     RemainderAssign,
+    /// `+=`
     AddAssign,
+    /// `-=`
     SubtractAssign,
+    /// `<<=`
     ShiftLeftAssign,
+    /// `>>=`
     ShiftRightAssign,
+    /// `&=`
     AndAssign,
+    /// `^=`
     XorAssign,
+    /// `|=`
     OrAssign,
+    /// `,`
     Comma,
 }
 
@@ -118,11 +174,17 @@ pub struct Constant {
 /// literal the bytes between its quotes, with each escape replaced by its value.
 #[derive(Debug, Drop)]
 pub enum Token {
+    /// `main`
     Word(Name),
+    /// `return`
     Keyword(Keyword),
+    /// `10u`
     Number(Constant),
+    /// `'a'`, which is 97.
     Character(i32),
+    /// `"a\n"`, which is the bytes 97 and 10.
     Text(Bytes),
+    /// `+=`
     Punctuator(Punctuator),
 }
 
