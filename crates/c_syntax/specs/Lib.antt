@@ -6,3 +6,5 @@ pub mod Program
 pub mod Operand
 pub mod Admission
 pub mod Fact
+pub mod GivenType
+pub mod Failing
