@@ -4,3 +4,7 @@ pub mod Keeping
 pub mod Spaces
 pub mod Offsets
 pub mod Unfolding
+pub mod Failing
+pub mod Unqualified
+pub mod Refutations
+pub mod SmallPrograms

@@ -75,6 +75,27 @@ pub fn offset_of(def: &StructDef, name: &[u8]) -> Option<u64>
     None
 }
 
+/// Where a member of a struct stands, and where it ends, in bytes from the struct's first one.
+#[derive(Clone, Copy, Debug, PartialEq, Eq)]
+pub struct Placement {
+    pub offset: u64,
+    pub end: u64,
+}
+
+/// The place of the next member of a struct, whose members so far end at `end`: the member has
+/// this size and this alignment, as `size_of` and `align_of` tell them. Offsets and ends are exact
+/// up to 2 to the 40, and any above is told as one more than that.
+pub fn next_member(end: u64, size: u64, align: u64) -> Placement
+    ensures offset { result.offset ≡ kept (padded end align) }
+    ensures end { result.end ≡ kept (layout.member_end end (record { size = Some size; align = align })) }
+{
+    let offset = padded_end(end, align);
+    Placement {
+        offset,
+        end: (offset + size.min(TOO_LARGE)).min(TOO_LARGE),
+    }
+}
+
 /// In a table of structs that is laid out, and in which no struct holds itself, each type takes what
 /// it takes where the structs in it are read by their members down to the last.
 pub fn stored_sizes_mean_unfolded()
