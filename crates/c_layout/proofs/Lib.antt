@@ -4,6 +4,8 @@ pub mod Keeping
 pub mod Spaces
 pub mod Offsets
 pub mod Unfolding
+pub mod Parts
+pub mod Alignments
 pub mod Failing
 pub mod Unqualified
 pub mod Refutations
