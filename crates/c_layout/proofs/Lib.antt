@@ -4,3 +4,9 @@ pub mod Keeping
 pub mod Spaces
 pub mod Offsets
 pub mod Unfolding
+pub mod Parts
+pub mod Alignments
+pub mod Failing
+pub mod Unqualified
+pub mod Refutations
+pub mod SmallPrograms

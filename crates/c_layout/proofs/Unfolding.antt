@@ -7,7 +7,7 @@ use Rattle.c_layout.specs.Layout.{Space, array_space, struct_space, space_by, me
 use Rattle.c_layout.specs.Rank.{held, Falls}
 use Rattle.c_layout.specs.LaidOut.{IsLaidOut, MeansUnfolded}
 
-some_map : (o : Option ℕ) (P Q : ℕ → Type 0) → ((k : ℕ) → P k → Q k) → IfSome o P → IfSome o Q
+pub some_map : (o : Option ℕ) (P Q : ℕ → Type 0) → ((k : ℕ) → P k → Q k) → IfSome o P → IfSome o Q
 some_map None P Q f h = h
 some_map (Some k) P Q f h = f k h
 
@@ -18,7 +18,7 @@ same_map f g (member ∷ members) h =
     ∙ ap (λ spaces. g member ∷ spaces) (same_map f g members (λ k d lt. h (suc k) d (omega arith)))
 
 -- a type depends on the struct that it holds alone
-space_by-held : (f g : ℕ → Space) (ty : CTypeTree) → IfSome (held ty) (λ k. f k ≡ g k) → space_by f ty ≡ space_by g ty
+pub space_by-held : (f g : ℕ → Space) (ty : CTypeTree) → IfSome (held ty) (λ k. f k ≡ g k) → space_by f ty ≡ space_by g ty
 space_by-held f g Void h = refl
 space_by-held f g (Int t) h = refl
 space_by-held f g (Pointer to is_const) h = refl

@@ -1,5 +1,5 @@
 -- The calls of a program, and the chains that they make.
-use Rattle.std.specs.Prelude.{◌≡◌, ℕ, Option, None, Some, option_and_then, option_map, unwrap_or, List, [], ◌∷◌, ◌++◌, map, Contains, slice_get}
+use Rattle.std.specs.Prelude.{◌≡◌, ◌⊎◌, ◌<◌, ℕ, Option, None, Some, option_and_then, option_map, unwrap_or, List, [], ◌∷◌, ◌++◌, map, All, Contains, slice_get}
 use Rattle.std.specs.List.{flat_map}
 use Rattle.c_written.specs.declared.place.Pos.{Pos}
 use Rattle.c_syntax.specs.TypedExpr.{TExprTree, Const, Null, Load, AddressOf, Decay, Whole, Unary, Binary, Convert, Assign, AssignStruct, Compound, Step, And, Or, Cond, Comma, Call, Any, Assume, Assert, TLvalueTree, Var, Deref, Member, TExprTrees}
@@ -56,7 +56,7 @@ abbrev pub calls_if_there : Option TExprTree → List PlacedCall
 calls_if_there None = []
 calls_if_there (Some e) = calls_of e
 
--- the calls in a statement, in the order of the text
+-- the calls in a statement, statement by statement in the order of the text, and in each expression as they are made
 unfoldable mutual
   pub stmt_calls : TStmtTree → List PlacedCall
   stmt_calls (Expr at value) = calls_of value
@@ -65,7 +65,8 @@ unfoldable mutual
   stmt_calls (If at condition first second) = calls_of condition ++ stmt_calls first ++ stmt_calls second
   stmt_calls (While at condition body) = calls_of condition ++ stmt_calls body
   stmt_calls (DoWhile at body condition) = stmt_calls body ++ calls_of condition
-  stmt_calls (For at objects head condition step body) = item_calls head ++ calls_if_there condition ++ calls_if_there step ++ stmt_calls body
+  stmt_calls (For at objects head condition step body) =
+      item_calls head ++ calls_if_there condition ++ calls_if_there step ++ stmt_calls body
   stmt_calls (Switch at value kind objects items) = calls_of value ++ item_calls items
   stmt_calls (Return at value) = calls_if_there value
   stmt_calls _ = []
@@ -77,6 +78,18 @@ unfoldable mutual
 -- the calls in the body of a function, which are none where it has no body or is not there
 abbrev pub function_calls : TProgramTree → ℕ → List PlacedCall
 function_calls program f = unwrap_or (option_map stmt_calls (option_and_then (λ function. function.body) (slice_get program.functions f))) []
+
+-- the first place stands before the second in the text
+abbrev pub IsBefore : Pos → Pos → Type 0
+IsBefore a b =
+    (a.file < b.file) ⊎ ((a.file ≡ b.file) × ((a.line < b.line) ⊎ ((a.line ≡ b.line) × (a.col < b.col))))
+
+-- of all calls of the program of which this is so, the first in the text, by the names of the functions that are called: in `f(g())` the call of `f`
+pub record IsFirstCall (program : TProgramTree) (Asked : PlacedCall → Type 0) (call : PlacedCall) : Type 0 where
+  pub function : ℕ
+  pub made : Contains (function_calls program function) call
+  pub asked : Asked call
+  pub first : (f : ℕ) → All (λ other. Asked other → IsBefore other.pos call.pos → ⊥) (function_calls program f)
 
 -- calls of which the first stands in the function, and each next one in the function that the one before calls
 abbrev pub IsChain : TProgramTree → ℕ → List PlacedCall → Type 0

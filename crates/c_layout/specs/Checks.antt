@@ -1,7 +1,6 @@
 -- The checks that the nodes of a typed program make, and where.
-use Rattle.std.specs.Prelude.{◌-◌, ℕ, ℤ, pos, Bool, true, false, ◌&&◌, not, if◌then◌else◌, Option, Some, None, option_and_then, option_map, unwrap_or, List, [], ◌∷◌, ◌++◌, map, Contains, slice_get, codes}
+use Rattle.std.specs.Prelude.{◌-◌, ℕ, ℤ, pos, Bool, ◌&&◌, not, if◌then◌else◌, Option, Some, None, option_and_then, option_map, unwrap_or, List, [], ◌∷◌, ◌++◌, map, Contains, slice_get}
 use Rattle.std.specs.List.{flat_map}
-use Rattle.std.specs.Str.{bytes_eq}
 use Rattle.c_written.specs.declared.place.Pos.{Pos}
 use Rattle.c_written.specs.declared.int_type.IntType.{IntType}
 use Rattle.c_syntax.specs.declared.alarm.Check.{Check}
@@ -20,13 +19,15 @@ use Rattle.c_syntax.specs.declared.operator.TUnaryOp.{TUnaryOp}
 use Rattle.c_syntax.specs.declared.operator.TUnaryOp.TheVariants as unaries
 use Rattle.c_syntax.specs.declared.operator.TBinaryOp.{TBinaryOp}
 use Rattle.c_syntax.specs.declared.operator.TBinaryOp.TheVariants as binaries
-use Rattle.c_syntax.specs.Types.{CTypeTree, Void, Int, Pointer}
+use Rattle.c_syntax.specs.Types.{CTypeTree, Int, Pointer}
 use Rattle.c_syntax.specs.TypedExpr.{TExprTree, Const, Null, Load, AddressOf, Decay, Whole, Unary, Binary, Convert, Assign, AssignStruct, Compound, Step, And, Or, Cond, Comma, Call, Any, Assume, Assert, TLvalueTree, Var, Deref, Member, TExprTrees}
 use Rattle.c_syntax.specs.TypedExpr as exprs
 use Rattle.c_syntax.specs.TypedStmt.{TInitTree, Store, Copy, TStmtTree, Expr, Block, Declare, If, While, DoWhile, For, Switch, Return, TStmtTrees, none, more}
 use Rattle.c_syntax.specs.TypedParts.{texpr_type, tlvalue_pos, tlvalue_type}
 use Rattle.c_syntax.specs.Program.{TProgramTree}
 use Rattle.c_written.specs.Integer.{width, bytes, is_signed, least, greatest}
+use Rattle.c_layout.specs.MainFunction.{is_main}
+use Rattle.c_layout.specs.RowTypes.{is_void}
 
 -- a check that uses no field but its kind
 abbrev pub plain_check : WrongKind → Check
@@ -160,15 +161,6 @@ read_from e = []
 abbrev pub source_checks : Extent → TExprTree → List PlacedCheck
 source_checks extent source = flat_map (λ at. all_at at (read_checks extent.size extent.align)) (read_from source)
 
--- whether the function is main, whose end gives 0 (C11 5.1.2.2.3p1)
-abbrev pub is_main : TProgramTree → ℕ → Bool
-is_main program f = unwrap_or (option_map (λ function. bytes_eq function.name (codes "main")) (slice_get program.functions f)) false
-
--- C11 6.2.5p19
-abbrev pub is_void : CTypeTree → Bool
-is_void Void = true
-is_void ty = false
-
 -- a call whose value is used (C11 6.9.1p12)
 abbrev pub value_checks : TProgramTree → ℕ → CTypeTree → Bool → List Check
 value_checks program f ty used = if used && not (is_void ty) && not (is_main program f) then plain_check NoValue ∷ [] else []
@@ -185,7 +177,8 @@ unfoldable mutual
   checks_of program (Unary at op operand) = checks_of program operand ++ all_at at (unary_checks op (texpr_type operand))
   checks_of program (Binary at op left right) = checks_of program left ++ checks_of program right ++ all_at at (binary_checks op)
   checks_of program (Convert at ty operand) = checks_of program operand
-  checks_of program (Assign at place value) = checks_at program place ++ checks_of program value ++ all_at (tlvalue_pos place) (store_checks (tlvalue_type place))
+  checks_of program (Assign at place value) =
+      checks_at program place ++ checks_of program value ++ all_at (tlvalue_pos place) (store_checks (tlvalue_type place))
   checks_of program (AssignStruct at extent place source) =
       checks_at program place ++ checks_of program source ++ source_checks extent source
       ++ all_at (tlvalue_pos place) (write_checks extent.size extent.align)
@@ -195,9 +188,15 @@ unfoldable mutual
   checks_of program (Step at time way stride place) =
       checks_at program place ++ all_at (tlvalue_pos place) (load_checks (tlvalue_type place))
       ++ all_at at (step_checks stride) ++ all_at (tlvalue_pos place) (store_checks (tlvalue_type place))
-  checks_of program (And at left right) = checks_of program left ++ all_at at (test_checks (texpr_type left)) ++ checks_of program right ++ all_at at (test_checks (texpr_type right))
-  checks_of program (Or at left right) = checks_of program left ++ all_at at (test_checks (texpr_type left)) ++ checks_of program right ++ all_at at (test_checks (texpr_type right))
-  checks_of program (Cond at ty condition first second) = checks_of program condition ++ all_at at (test_checks (texpr_type condition)) ++ checks_of program first ++ checks_of program second
+  checks_of program (And at left right) =
+      checks_of program left ++ all_at at (test_checks (texpr_type left))
+      ++ checks_of program right ++ all_at at (test_checks (texpr_type right))
+  checks_of program (Or at left right) =
+      checks_of program left ++ all_at at (test_checks (texpr_type left))
+      ++ checks_of program right ++ all_at at (test_checks (texpr_type right))
+  checks_of program (Cond at ty condition first second) =
+      checks_of program condition ++ all_at at (test_checks (texpr_type condition))
+      ++ checks_of program first ++ checks_of program second
   checks_of program (Comma at left right) = checks_of program left ++ checks_of program right
   checks_of program (Call at function ty used args) = checks_among program args ++ all_at at (value_checks program function ty used)
   checks_of program (Any at ty) = []
@@ -237,7 +236,8 @@ unfoldable mutual
   stmt_checks program (While at condition body) = condition_checks program at condition ++ stmt_checks program body
   stmt_checks program (DoWhile at body condition) = stmt_checks program body ++ condition_checks program at condition
   stmt_checks program (For at objects head condition step body) =
-      item_checks program head ++ checks_if_there (condition_checks program at) condition ++ checks_if_there (checks_of program) step ++ stmt_checks program body
+      item_checks program head ++ checks_if_there (condition_checks program at) condition
+      ++ checks_if_there (checks_of program) step ++ stmt_checks program body
   stmt_checks program (Switch at value kind objects items) = checks_of program value ++ item_checks program items
   stmt_checks program (Return at value) = checks_if_there (checks_of program) value
   stmt_checks program _ = []

@@ -1,8 +1,9 @@
 -- Ranks, promotions and the usual arithmetic conversions, and the type of an integer constant.
-use Rattle.std.specs.Prelude.{ℕ, ◌*◌, Bool, true, false, nat_lt, nat_le, if◌then◌else◌, Option, List, [], ◌∷◌, drop, find}
+use Rattle.std.specs.Prelude.{ℕ, Bool, true, false, nat_lt, nat_le, if◌then◌else◌, Option}
 use Rattle.c_written.specs.declared.int_type.IntType.{IntType}
 use Rattle.c_written.specs.declared.int_type.IntType.TheVariants.{Char, SChar, UChar, Short, UShort, Int, UInt, Long, ULong, LLong, ULLong}
-use Rattle.c_written.specs.Integer.{width, is_signed, greatest}
+use Rattle.c_written.specs.Integer.{width, is_signed}
+use Rattle.c_written.specs.Constant.{constant_type}
 
 -- the conversion rank (C11 6.3.1.1p1)
 abbrev pub rank : IntType → ℕ
@@ -56,12 +57,6 @@ common a b = if is_signed a
 abbrev pub balanced : IntType → IntType → IntType
 balanced a b = common (promoted a) (promoted b)
 
--- the types of an integer constant's row, in their order: whether it is decimal, has a `u`, and how many times an `l` (C11 6.4.4.1p5)
-abbrev pub literal_row : Bool → Bool → ℕ → List IntType
-literal_row decimal true longs = drop longs (UInt ∷ ULong ∷ ULLong ∷ [])
-literal_row true false longs = drop longs (Int ∷ Long ∷ LLong ∷ [])
-literal_row false false longs = drop (2 * longs) (Int ∷ UInt ∷ Long ∷ ULong ∷ LLong ∷ ULLong ∷ [])
-
--- the first type of the row that has the value
+-- the type of an integer constant of this value: whether it is decimal, has a `u`, and how many times an `l` (C11 6.4.4.1p5)
 abbrev pub literal_type_of : ℕ → Bool → Bool → ℕ → Option IntType
-literal_type_of value decimal unsigned longs = find (λ t. nat_le value (greatest t)) (literal_row decimal unsigned longs)
+literal_type_of value decimal unsigned longs = constant_type (record { value = value; decimal = decimal; unsigned = unsigned; longs = longs })

@@ -10,7 +10,8 @@ pub record IsLaidOut (structs : List StructDefTree) : Type 0 where
   pub spaces : (n : ℕ) → stored structs n ≡ laid_out structs n
   pub offsets : (n k : ℕ) → option_map (λ member. member.offset) (slice_get (members_of structs n) k) ≡ offset_at (member_spaces structs n) k
 
--- what is stored means what C says of it: in a table that is laid out, in which no struct holds itself, a type takes what it takes where each struct in it is read by its members down to the last, however deep that may go
+-- what is stored means what C says of it: in a table that is laid out, in which no struct holds itself, a type takes what it takes
+-- where each struct in it is read by its members down to the last, however deep that may go
 abbrev pub MeansUnfolded : List StructDefTree → Type 0
 MeansUnfolded structs =
     (rank : ℕ → ℕ) → Falls structs rank → IsLaidOut structs

@@ -5,9 +5,12 @@ pub mod LaidOut
 pub mod Kept
 pub mod RowTypes
 pub mod ProperTypes
+pub mod Tables
 pub mod Jumps
 pub mod TypedNodes
 pub mod WellTyped
+pub mod MainFunction
 pub mod Calls
 pub mod Plans
 pub mod Checks
+pub mod Samples

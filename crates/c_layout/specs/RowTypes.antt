@@ -1,5 +1,5 @@
 -- Which operand and result types a typed node has, kind by kind. Conversions are nodes of their own, so operands have the types that they are converted to.
-use Rattle.std.specs.Prelude.{◌≡◌, ◌≢◌, ◌⊎◌, ◌||◌, ℕ, Bool, false, IsTrue, Some, IsSomeAnd, List, slice_get}
+use Rattle.std.specs.Prelude.{◌≡◌, ◌≢◌, ◌⊎◌, ◌&&◌, ◌||◌, ℕ, Bool, true, false, not, IsTrue, Some, IsSomeAnd, List, slice_get}
 use Rattle.c_written.specs.declared.int_type.IntType.{IntType}
 use Rattle.c_written.specs.declared.int_type.IntType.TheVariants as ints
 use Rattle.c_syntax.specs.declared.operator.Extent.{Extent}
@@ -11,10 +11,15 @@ use Rattle.c_syntax.specs.declared.operator.TUnaryOp.{TUnaryOp}
 use Rattle.c_syntax.specs.declared.operator.TUnaryOp.TheVariants as unaries
 use Rattle.c_syntax.specs.declared.operator.TBinaryOp.{TBinaryOp}
 use Rattle.c_syntax.specs.declared.operator.TBinaryOp.TheVariants as binaries
-use Rattle.c_syntax.specs.Types.{CTypeTree, Void, Int, Pointer, Array, Struct}
+use Rattle.c_syntax.specs.Types.{CTypeTree, Void, Int, Pointer, Array, Struct, ObjectTree}
 use Rattle.c_syntax.specs.Program.{StructDefTree}
 use Rattle.c_layout.specs.Conversion.{promoted, balanced}
 use Rattle.c_layout.specs.Layout.{members_of, member_spaces, size_in, align_in, offset_at}
+
+-- C11 6.2.5p19
+abbrev pub is_void : CTypeTree → Bool
+is_void Void = true
+is_void ty = false
 
 -- C11 6.2.5p17
 abbrev pub IsInteger : CTypeTree → Type 0
@@ -64,6 +69,26 @@ has_const_target ty = false
 -- a pointer to what is const does not become one to what is not (C11 6.5.16.1p1)
 abbrev pub KeepsConst : CTypeTree → CTypeTree → Type 0
 KeepsConst from to = IsTrue (has_const_target from) → IsTrue (has_const_target to)
+
+-- an array of characters that are not const, as that of a string literal is (C11 6.4.5p6)
+abbrev pub is_plain_text : CTypeTree → Bool
+is_plain_text (Array (Int ints.Char) is_const n) = not is_const
+is_plain_text ty = false
+
+-- a string literal: read-only, and not const (C11 6.4.5p7)
+abbrev pub is_literal : ObjectTree → Bool
+is_literal object = object.read_only && is_plain_text object.ty
+
+-- whether an object was declared const, as each read-only one was that is no literal (this profile)
+abbrev pub is_declared_const : ObjectTree → Bool
+is_declared_const object = object.read_only && not (is_plain_text object.ty)
+
+-- the eight types of which an input may be read (this profile)
+abbrev pub IsInputType : IntType → Type 0
+IsInputType ints.SChar = ⊥
+IsInputType ints.LLong = ⊥
+IsInputType ints.ULLong = ⊥
+IsInputType t = Unit {0}
 
 -- pointers to one target
 abbrev pub PointToOne : CTypeTree → CTypeTree → Type 0

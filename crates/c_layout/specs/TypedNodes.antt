@@ -1,15 +1,17 @@
 -- Which expressions and statements of a typed program have the types that C asks for, and name what is there.
-use Rattle.std.specs.Prelude.{◌≡◌, ◌≢◌, ◌⊎◌, ◌≤◌, ℕ, Bool, true, false, IsTrue, Option, Some, None, option_map, unwrap_or, IfSome, IsSomeAnd, List, [], ◌∷◌, ◌++◌, map, All, AllPairs, Contains, slice_get}
+use Rattle.std.specs.Prelude.{◌≡◌, ◌≢◌, ◌⊎◌, ◌+◌, ◌≤◌, ℕ, Bool, true, false, not, IsTrue, Option, Some, None, option_map, unwrap_or, IfSome, IsSomeAnd, List, [], ◌∷◌, ◌++◌, map, All, AllPairs, Contains, slice_get}
 use Rattle.c_written.specs.declared.int_type.IntType.{IntType}
-use Rattle.c_syntax.specs.Types.{CTypeTree, Void, Array, Struct}
+use Rattle.c_syntax.specs.Types.{CTypeTree, Void, Array, Struct, ObjectTree}
 use Rattle.c_syntax.specs.Types as types
 use Rattle.c_syntax.specs.TypedExpr.{TExprTree, Const, Null, Load, AddressOf, Decay, Whole, Unary, Binary, Convert, Assign, AssignStruct, Compound, Step, And, Or, Cond, Comma, Call, Any, Assume, Assert, TLvalueTree, Var, Deref, Member, TExprTrees}
 use Rattle.c_syntax.specs.TypedExpr as exprs
 use Rattle.c_syntax.specs.TypedStmt.{TInitTree, Store, Copy, TStmtTree, Empty, Expr, Block, Declare, Static, If, While, DoWhile, For, Switch, Break, Continue, Goto, Return, Label, Case, Default, TStmtTrees, none, more}
-use Rattle.c_syntax.specs.TypedParts.{texpr_type, tlvalue_type, tlvalue_is_const}
-use Rattle.c_syntax.specs.Program.{TFunctionTree, TProgramTree}
+use Rattle.c_syntax.specs.TypedParts.{tlvalue_type, tlvalue_is_const}
+use Rattle.c_syntax.specs.GivenType.{given_type}
+use Rattle.c_syntax.specs.Program.{StructDefTree, TFunctionTree, TProgramTree}
 use Rattle.c_written.specs.Integer.{HasNumber}
-use Rattle.c_layout.specs.RowTypes.{IsScalar, IsPointer, IsPromoted, UnaryRow, LogicalRow, BinaryRow, CondRow, StoreRow, CopyRow, CompoundRow, StepRow, DerefRow, MemberRow, ConvertRow}
+use Rattle.c_layout.specs.Layout.{size_in}
+use Rattle.c_layout.specs.RowTypes.{is_void, is_declared_const, IsInputType, IsScalar, IsPointer, IsPromoted, UnaryRow, LogicalRow, BinaryRow, CondRow, StoreRow, CopyRow, CompoundRow, StepRow, DerefRow, MemberRow, ConvertRow}
 use Rattle.c_layout.specs.ProperTypes.{IsProperType, PartAt}
 use Rattle.c_layout.specs.Jumps.{cases_among, defaults_among}
 
@@ -36,10 +38,10 @@ IsModifiable place = tlvalue_is_const place ≡ false
 abbrev pub object_type : TProgramTree → ℕ → CTypeTree
 object_type program o = unwrap_or (option_map (λ object. object.ty) (slice_get program.objects o)) Void
 
--- the types of arguments
+-- the types that arguments give
 unfoldable pub types_of : TExprTrees → List CTypeTree
 types_of exprs.none = []
-types_of (exprs.more item rest) = texpr_type item ∷ types_of rest
+types_of (exprs.more item rest) = given_type item ∷ types_of rest
 
 -- as many arguments as parameters, each as by `=` (C11 6.5.2.2p2)
 abbrev pub ArgumentsRow : List CTypeTree → List CTypeTree → Type 0
@@ -51,61 +53,109 @@ ArgumentsRow params args = ⊥
 abbrev pub CallRow : TProgramTree → TFunctionTree → CTypeTree → List CTypeTree → Type 0
 CallRow program function ty args = (ty ≡ function.result) × ArgumentsRow (map (λ param. object_type program param) function.params) args
 
--- a variable has its object's type, and is static or lives
-abbrev pub VarRow : Scope → ℕ → CTypeTree → Type 0
-VarRow scope o ty = IsSomeAnd (slice_get scope.program.objects o) (λ object. (ty ≡ object.ty) × (IsTrue object.is_static ⊎ Contains scope.live o))
+-- a variable has its object's type, is const where that was declared so, and is static or lives
+pub record VarRow (scope : Scope) (object : ObjectTree) (o : ℕ) (ty : CTypeTree) (is_const : Bool) : Type 0 where
+  pub type_of : ty ≡ object.ty
+  pub qualified : is_const ≡ is_declared_const object
+  pub lives : IsTrue object.is_static ⊎ Contains scope.live o
 
--- every node of an expression has the operand types and the type of its row
+-- a pointer that is null has a type of the program
+abbrev pub NullRow : Scope → CTypeTree → Type 0
+NullRow scope ty = IsPointer ty × IsProperType scope.program.structs ty
+
+-- every node of an expression has the operand types and the type of its row. The mark of a call is whether its value is wanted where the call stands:
+-- it is not where the call itself is the left of a comma, is cast to void, is the expression of a statement,
+-- or is a part of a `for` head other than its condition
 unfoldable mutual
-  pub IsTypedExpr : Scope → TExprTree → Type 0
-  IsTypedExpr scope (Const at ty value) = HasNumber ty value
-  IsTypedExpr scope (Null at ty) = IsPointer ty × IsProperType scope.program ty
-  IsTypedExpr scope (Load at place) = IsTypedPlace scope place × IsScalar (tlvalue_type place)
-  IsTypedExpr scope (AddressOf at place) = IsTypedPlace scope place
-  IsTypedExpr scope (Decay at place) = IsTypedPlace scope place × IsArray (tlvalue_type place)
-  IsTypedExpr scope (Whole at place) = IsTypedPlace scope place × IsStruct (tlvalue_type place)
-  IsTypedExpr scope (Unary at op operand) = IsTypedExpr scope operand × UnaryRow op (texpr_type operand)
-  IsTypedExpr scope (Binary at op left right) = IsTypedExpr scope left × IsTypedExpr scope right × BinaryRow scope.program.structs op (texpr_type left) (texpr_type right)
-  IsTypedExpr scope (Convert at ty operand) = IsTypedExpr scope operand × IsProperType scope.program ty × ConvertRow ty (texpr_type operand)
-  IsTypedExpr scope (Assign at place value) = IsTypedPlace scope place × IsTypedExpr scope value × IsModifiable place × StoreRow (tlvalue_type place) (texpr_type value)
-  IsTypedExpr scope (AssignStruct at extent place source) = IsTypedPlace scope place × IsTypedExpr scope source × IsModifiable place × CopyRow scope.program.structs extent (tlvalue_type place) (texpr_type source)
-  IsTypedExpr scope (Compound at op place value) = IsTypedPlace scope place × IsTypedExpr scope value × IsModifiable place × CompoundRow scope.program.structs op (tlvalue_type place) (texpr_type value)
-  IsTypedExpr scope (Step at time way stride place) = IsTypedPlace scope place × IsModifiable place × StepRow scope.program.structs stride (tlvalue_type place)
-  IsTypedExpr scope (And at left right) = IsTypedExpr scope left × IsTypedExpr scope right × LogicalRow (texpr_type left) (texpr_type right)
-  IsTypedExpr scope (Or at left right) = IsTypedExpr scope left × IsTypedExpr scope right × LogicalRow (texpr_type left) (texpr_type right)
-  IsTypedExpr scope (Cond at ty condition first second) = IsTypedExpr scope condition × IsTypedExpr scope first × IsTypedExpr scope second × IsProperType scope.program ty × CondRow (texpr_type condition) (texpr_type first) (texpr_type second) ty
-  IsTypedExpr scope (Comma at left right) = IsTypedExpr scope left × IsTypedExpr scope right
-  IsTypedExpr scope (Call at function ty used args) = AreTyped scope args × IsSomeAnd (slice_get scope.program.functions function) (λ f. CallRow scope.program f ty (types_of args))
-  IsTypedExpr scope (Any at ty) = Unit {0}
-  IsTypedExpr scope (Assume at operand) = IsTypedExpr scope operand × IsScalar (texpr_type operand)
-  IsTypedExpr scope (Assert at operand) = IsTypedExpr scope operand × IsScalar (texpr_type operand)
+  pub IsTypedExpr : Scope → Bool → TExprTree → Type 0
+  IsTypedExpr scope wanted (Const at ty value) = HasNumber ty value
+  IsTypedExpr scope wanted (Null at ty) = NullRow scope ty
+  IsTypedExpr scope wanted (Load at place) = IsTypedPlace scope place × IsScalar (tlvalue_type place)
+  IsTypedExpr scope wanted (AddressOf at place) = IsTypedPlace scope place
+  IsTypedExpr scope wanted (Decay at place) = IsTypedPlace scope place × IsArray (tlvalue_type place)
+  IsTypedExpr scope wanted (Whole at place) = IsTypedPlace scope place × IsStruct (tlvalue_type place)
+  IsTypedExpr scope wanted (Unary at op operand) = IsTypedExpr scope true operand × UnaryRow op (given_type operand)
+  IsTypedExpr scope wanted (Binary at op left right) =
+      IsTypedExpr scope true left × IsTypedExpr scope true right
+      × BinaryRow scope.program.structs op (given_type left) (given_type right)
+  IsTypedExpr scope wanted (Convert at ty operand) =
+      IsTypedExpr scope (not (is_void ty)) operand × IsProperType scope.program.structs ty × ConvertRow ty (given_type operand)
+  IsTypedExpr scope wanted (Assign at place value) =
+      IsTypedPlace scope place × IsTypedExpr scope true value × IsModifiable place × StoreRow (tlvalue_type place) (given_type value)
+  IsTypedExpr scope wanted (AssignStruct at extent place source) =
+      IsTypedPlace scope place × IsTypedExpr scope true source × IsModifiable place
+      × CopyRow scope.program.structs extent (tlvalue_type place) (given_type source)
+  IsTypedExpr scope wanted (Compound at op place value) =
+      IsTypedPlace scope place × IsTypedExpr scope true value × IsModifiable place
+      × CompoundRow scope.program.structs op (tlvalue_type place) (given_type value)
+  IsTypedExpr scope wanted (Step at time way stride place) =
+      IsTypedPlace scope place × IsModifiable place × StepRow scope.program.structs stride (tlvalue_type place)
+  IsTypedExpr scope wanted (And at left right) =
+      IsTypedExpr scope true left × IsTypedExpr scope true right × LogicalRow (given_type left) (given_type right)
+  IsTypedExpr scope wanted (Or at left right) =
+      IsTypedExpr scope true left × IsTypedExpr scope true right × LogicalRow (given_type left) (given_type right)
+  IsTypedExpr scope wanted (Cond at ty condition first second) =
+      IsTypedExpr scope true condition × IsTypedExpr scope true first × IsTypedExpr scope true second
+      × IsProperType scope.program.structs ty × CondRow (given_type condition) (given_type first) (given_type second) ty
+  IsTypedExpr scope wanted (Comma at left right) = IsTypedExpr scope false left × IsTypedExpr scope true right
+  IsTypedExpr scope wanted (Call at function ty used args) =
+      (used ≡ wanted) × AreTyped scope args
+      × IsSomeAnd (slice_get scope.program.functions function) (λ f. CallRow scope.program f ty (types_of args))
+  IsTypedExpr scope wanted (Any at ty) = IsInputType ty
+  IsTypedExpr scope wanted (Assume at operand) = IsTypedExpr scope true operand × IsScalar (given_type operand)
+  IsTypedExpr scope wanted (Assert at operand) = IsTypedExpr scope true operand × IsScalar (given_type operand)
 
   pub IsTypedPlace : Scope → TLvalueTree → Type 0
-  IsTypedPlace scope (Var at object ty is_const) = VarRow scope object ty
-  IsTypedPlace scope (Deref at kind ty is_const pointer) = IsTypedExpr scope pointer × DerefRow (texpr_type pointer) ty is_const
-  IsTypedPlace scope (Member at k offset ty is_const place) = IsTypedPlace scope place × MemberRow scope.program.structs (tlvalue_type place) k offset ty (tlvalue_is_const place) is_const
+  IsTypedPlace scope (Var at o ty is_const) = IsSomeAnd (slice_get scope.program.objects o) (λ object. VarRow scope object o ty is_const)
+  IsTypedPlace scope (Deref at kind ty is_const pointer) = IsTypedExpr scope true pointer × DerefRow (given_type pointer) ty is_const
+  IsTypedPlace scope (Member at k offset ty is_const place) =
+      IsTypedPlace scope place
+      × MemberRow scope.program.structs (tlvalue_type place) k offset ty (tlvalue_is_const place) is_const
 
   pub AreTyped : Scope → TExprTrees → Type 0
   AreTyped scope exprs.none = Unit {0}
-  AreTyped scope (exprs.more item rest) = IsTypedExpr scope item × AreTyped scope rest
+  AreTyped scope (exprs.more item rest) = IsTypedExpr scope true item × AreTyped scope rest
 
 -- the value of a condition (C11 6.8.4.1p1, 6.8.5p2)
 abbrev pub IsTypedCondition : Scope → TExprTree → Type 0
-IsTypedCondition scope e = IsTypedExpr scope e × IsScalar (texpr_type e)
+IsTypedCondition scope e = IsTypedExpr scope true e × IsScalar (given_type e)
 
 -- an item of an initialiser fills a part of an object of this type (C11 6.7.9p11 and p13)
 abbrev pub IsTypedInit : Scope → CTypeTree → TInitTree → Type 0
-IsTypedInit scope whole (Store offset ty value) = IsTypedExpr scope value × PartAt scope.program.structs whole offset ty × StoreRow ty (texpr_type value)
-IsTypedInit scope whole (Copy offset extent source) = IsTypedExpr scope source × (part : CTypeTree) × PartAt scope.program.structs whole offset part × CopyRow scope.program.structs extent part (texpr_type source)
+IsTypedInit scope whole (Store offset ty value) =
+    IsTypedExpr scope true value × PartAt scope.program.structs whole offset ty × StoreRow ty (given_type value)
+IsTypedInit scope whole (Copy offset extent source) =
+    IsTypedExpr scope true source
+    × (part : CTypeTree) × PartAt scope.program.structs whole offset part × CopyRow scope.program.structs extent part (given_type source)
+
+-- the first byte of the object that an item fills
+abbrev pub init_start : TInitTree → ℕ
+init_start (Store offset ty value) = offset
+init_start (Copy offset extent source) = offset
+
+-- the first byte behind those
+abbrev pub init_end : List StructDefTree → TInitTree → ℕ
+init_end structs (Store offset ty value) = offset + unwrap_or (size_in structs ty) 0
+init_end structs (Copy offset extent source) = offset + extent.size
+
+-- no byte is filled by both items (C11 6.7.9p19, this profile)
+abbrev pub AreApart : List StructDefTree → TInitTree → TInitTree → Type 0
+AreApart structs a b = (init_end structs a ≤ init_start b) ⊎ (init_end structs b ≤ init_start a)
+
+-- the items of an initialiser of an object
+pub record AreTypedInits (scope : Scope) (object : ℕ) (inits : List TInitTree) : Type 0 where
+  pub typed : All (λ init. IsTypedInit scope (object_type scope.program object) init) inits
+  pub apart : AllPairs (AreApart scope.program.structs) inits
 
 -- `return`, with a value as by `=` exactly where the function has a result (C11 6.8.6.4p1)
 abbrev pub ReturnRow : Scope → CTypeTree → Option TExprTree → Type 0
 ReturnRow scope result None = result ≡ Void
-ReturnRow scope result (Some value) = IsTypedExpr scope value × StoreRow result (texpr_type value)
+ReturnRow scope result (Some value) = IsTypedExpr scope true value × StoreRow result (given_type value)
 
--- where a statement stands: whether it may be a break, a continue or a case
+-- where a statement stands: the objects of the block that it is an item of, and whether it may be a break, a continue or a case
 pub record Spot : Type 0 where
   pub scope : Scope
+  pub block : List ℕ
   pub result : CTypeTree
   pub breaks : Bool
   pub continues : Bool
@@ -113,7 +163,11 @@ pub record Spot : Type 0 where
 
 -- the items of a block that lists these objects
 abbrev pub in_block : List ℕ → Spot → Spot
-in_block objects spot = record spot { scope = record { program = spot.scope.program; live = objects ++ spot.scope.live }; cases = false }
+in_block objects spot = record spot {
+  scope = record { program = spot.scope.program; live = objects ++ spot.scope.live };
+  block = objects;
+  cases = false;
+}
 
 -- the items of a switch whose block lists these objects
 abbrev pub in_switch : List ℕ → Spot → Spot
@@ -140,7 +194,8 @@ unfoldable pub AreHead : TStmtTrees → Type 0
 AreHead none = Unit {0}
 AreHead (more item rest) = IsHead item × AreHead rest
 
--- a switch takes an integer of a promoted type, which has its cases; no two of these are equal, and there is one default at most (C11 6.8.4.2p1 and p3)
+-- a switch takes an integer of a promoted type, which has its cases; no two of these are equal, and there is one default at most
+-- (C11 6.8.4.2p1 and p3)
 pub record SwitchRow (value : CTypeTree) (items : TStmtTrees) : Type 0 where
   pub ty : IntType
   pub integer : value ≡ types.Int ty
@@ -153,18 +208,20 @@ pub record SwitchRow (value : CTypeTree) (items : TStmtTrees) : Type 0 where
 unfoldable mutual
   pub IsTypedStmt : Spot → TStmtTree → Type 0
   IsTypedStmt spot (Empty at) = Unit {0}
-  IsTypedStmt spot (Expr at value) = IsTypedExpr spot.scope value
+  IsTypedStmt spot (Expr at value) = IsTypedExpr spot.scope false value
   IsTypedStmt spot (Block at kind objects items) = AreTypedItems (in_block objects spot) items
-  IsTypedStmt spot (Declare at object inits zeroes_rest) = Contains spot.scope.live object × All (λ init. IsTypedInit spot.scope (object_type spot.scope.program object) init) inits
+  IsTypedStmt spot (Declare at object inits zeroes_rest) = Contains spot.block object × AreTypedInits spot.scope object inits
   IsTypedStmt spot (Static at object) = IsSomeAnd (slice_get spot.scope.program.objects object) (λ o. IsTrue o.is_static)
-  IsTypedStmt spot (If at condition first second) = IsTypedCondition spot.scope condition × IsBlock first × IsTypedStmt spot first × IsBlock second × IsTypedStmt spot second
+  IsTypedStmt spot (If at condition first second) =
+      IsTypedCondition spot.scope condition × IsBlock first × IsTypedStmt spot first × IsBlock second × IsTypedStmt spot second
   IsTypedStmt spot (While at condition body) = IsTypedCondition spot.scope condition × IsBlock body × IsTypedStmt (in_loop spot) body
   IsTypedStmt spot (DoWhile at body condition) = IsTypedCondition spot.scope condition × IsBlock body × IsTypedStmt (in_loop spot) body
   IsTypedStmt spot (For at objects head condition step body) =
       AreHead head × AreTypedItems (in_block objects spot) head
-      × IfSome condition (IsTypedCondition (in_block objects spot).scope) × IfSome step (IsTypedExpr (in_block objects spot).scope)
+      × IfSome condition (IsTypedCondition (in_block objects spot).scope) × IfSome step (IsTypedExpr (in_block objects spot).scope false)
       × IsBlock body × IsTypedStmt (in_loop (in_block objects spot)) body
-  IsTypedStmt spot (Switch at value kind objects items) = IsTypedExpr spot.scope value × SwitchRow (texpr_type value) items × AreTypedItems (in_switch objects spot) items
+  IsTypedStmt spot (Switch at value kind objects items) =
+      IsTypedExpr spot.scope true value × SwitchRow (given_type value) items × AreTypedItems (in_switch objects spot) items
   IsTypedStmt spot (Break at) = IsTrue spot.breaks
   IsTypedStmt spot (Continue at) = IsTrue spot.continues
   IsTypedStmt spot (Goto at label) = Unit {0}

@@ -1,14 +1,16 @@
 // Sizes, alignments and offsets of types.
 #![tactic(auto, using(c_syntax::proofs::Trees::the_trees))]
 
-ghost use Rattle.std.specs.Prelude.{◌≡◌, ℕ, ◌+◌, ◌*◌, ◌^◌, ◌<◌, ◌≤◌, List, map, option_map, IfSome, Some};
-ghost use Rattle.c_syntax.specs.Types.{ctype_tree};
+ghost use Rattle.std.specs.Prelude.{◌≡◌, ℕ, ◌+◌, ◌*◌, ◌%◌, ◌^◌, ◌<◌, ◌≤◌, List, map, option_map, IfSome, IsSomeAnd, Some};
+ghost use Rattle.c_syntax.specs.Types.{CTypeTree, ctype_tree};
 ghost use Rattle.c_syntax.specs.Program.{StructDefTree, member_tree, structdef_tree};
 ghost use Rattle.c_written.specs.Integer as integer;
 ghost use Rattle.c_layout.specs.Layout as layout;
 ghost use Rattle.c_layout.specs.Layout.{align_in, laid_out, offset_named, padded, size_in, sized, space_by, space_of, spaces_by, stored, strictest, struct_space, told};
 ghost use Rattle.c_layout.specs.Kept.{IsKept, element, element_count, element_space, kept};
-ghost use Rattle.c_layout.specs.LaidOut.{MeansUnfolded};
+ghost use Rattle.c_layout.specs.LaidOut.{IsLaidOut, MeansUnfolded};
+ghost use Rattle.c_layout.specs.ProperTypes.{PartAt};
+ghost use Rattle.c_layout.specs.Rank.{NoneHoldsItself};
 
 use c_syntax::{CType, IntType, Member, StructDef, StructDefs};
 
@@ -75,10 +77,42 @@ pub fn offset_of(def: &StructDef, name: &[u8]) -> Option<u64>
     None
 }
 
+/// Where a member of a struct stands, and where it ends, in bytes from the struct's first one.
+#[derive(Clone, Copy, Debug, PartialEq, Eq)]
+pub struct Placement {
+    pub offset: u64,
+    pub end: u64,
+}
+
+/// The place of the next member of a struct, whose members so far end at `end`: the member has
+/// this size and this alignment, as `size_of` and `align_of` tell them. Offsets and ends are exact
+/// up to 2 to the 40, and any above is told as one more than that.
+pub fn next_member(end: u64, size: u64, align: u64) -> Placement
+    ensures offset { result.offset ≡ kept (padded end align) }
+    ensures end { result.end ≡ kept (layout.member_end end (record { size = Some size; align = align })) }
+{
+    let offset = padded_end(end, align);
+    Placement {
+        offset,
+        end: (offset + size.min(TOO_LARGE)).min(TOO_LARGE),
+    }
+}
+
 /// In a table of structs that is laid out, and in which no struct holds itself, each type takes what
 /// it takes where the structs in it are read by their members down to the last.
 pub fn stored_sizes_mean_unfolded()
     ensures { (structs : List StructDefTree) → MeansUnfolded structs }
+{}
+
+/// In a table of structs that is laid out, the object in which a part stands has a size where the
+/// part has one, and the part lies inside it.
+pub fn parts_lie_inside()
+    ensures { (structs : List StructDefTree) → IsLaidOut structs → (whole part : CTypeTree) (offset size : ℕ) → PartAt structs whole offset part → size_in structs part ≡ Some size → IsSomeAnd (size_in structs whole) (λ n. offset + size ≤ n) }
+{}
+
+/// In such a table, in which no struct holds itself, a part stands at a multiple of its alignment.
+pub fn parts_are_aligned()
+    ensures { (structs : List StructDefTree) → IsLaidOut structs → NoneHoldsItself structs → (whole part : CTypeTree) (offset : ℕ) → PartAt structs whole offset part → offset % align_in structs part ≡ 0 }
 {}
 
 // What a type takes, where a struct is laid out from its members.

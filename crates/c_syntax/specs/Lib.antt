@@ -1,9 +1,11 @@
-pub mod Types
-pub mod TypedExpr
-pub mod TypedStmt
-pub mod TypedParts
-pub mod Program
-pub mod Operand
 pub mod Admission
 pub mod Fact
+pub mod Failing
+pub mod GivenType
+pub mod Operand
+pub mod Program
 pub mod Sizes
+pub mod TypedExpr
+pub mod TypedParts
+pub mod TypedStmt
+pub mod Types

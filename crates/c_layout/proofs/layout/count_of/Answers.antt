@@ -9,11 +9,12 @@ use Rattle.c_layout.proofs.layout.count_of.Goals as goal
 pub loop-ty-preserved : goal.loop-ty-preserved
 loop-ty-preserved c =
     let here : ctype_tree c.loop-ty.ty.now ≡ Array (ctype_tree c.deref.result.now.ty) c.in-Array.of.value.is_const c.in-Array.n = search (rules, ctype_array) in
-    let product : c.product-count.result ≡ kept (c.loop-ty.count * c.in-Array.n) = c.product-count.ensures c.loop-ty.count c.in-Array.n refl refl in
-    ( kept_step _ c.loop-ty.count c.in-Array.n _ product
-        ∙ ap (λ t. kept (c.loop-ty.count * element_count t)) (sym here)
-        ∙ c.loop-ty.invariant.0
-    , ap kept product ∙ kept_twice _ ∙ sym product)
+    let product : c.product-count.result ≡ kept (c.loop-ty.count * c.in-Array.n) = c.product-count.ensures c.loop-ty.count c.in-Array.n refl refl in (
+      kept_step _ c.loop-ty.count c.in-Array.n _ product
+          ∙ ap (λ t. kept (c.loop-ty.count * element_count t)) (sym here)
+          ∙ c.loop-ty.invariant.0,
+      ap kept product ∙ kept_twice _ ∙ sym product,
+    )
 
 pub returns : goal.returns
 returns c =
