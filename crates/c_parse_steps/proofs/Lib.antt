@@ -5,3 +5,4 @@ pub mod Bars
 pub mod Choices
 pub mod TypeSteps
 pub mod TextSteps
+pub mod KnownNames

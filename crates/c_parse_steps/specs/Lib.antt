@@ -1,3 +1,4 @@
 pub mod Views
 pub mod Kinds
 pub mod Answers
+pub mod SameNames

@@ -4,7 +4,7 @@ ghost use Rattle.std.specs.Prelude.{◌≡◌};
 ghost use Rattle.c_grammar.specs.Classes.{names_type};
 ghost use Rattle.c_parse_steps.specs.Views.{scene_of};
 
-use c_written::Name;
+use crate::type_names::TypeNames;
 use std::alloc::Global;
 
 /// Where tokens stand.
@@ -22,7 +22,7 @@ pub enum Setting {
 #[derive(Drop)]
 pub struct Context<'a> {
     pub alloc: Global,
-    pub types: &'a [Name],
+    pub types: &'a TypeNames,
     pub setting: Setting,
 }
 
@@ -32,6 +32,6 @@ impl Context<'_> {
     pub fn names_type(&self, name: &[u8]) -> bool
         ensures { result ≡ names_type (scene_of self.now) name.now }
     {
-        self.types.iter().any(|known| name == known.as_slice())
+        self.types.contains(name)
     }
 }

@@ -14,6 +14,7 @@ mod look;
 mod tests;
 mod token;
 mod type_kind;
+mod type_names;
 mod type_node;
 
 pub use class::Class;
@@ -39,6 +40,7 @@ pub use type_kind::{
     DirectKind, Role, SpecKind, TagKind, TailKind, direct_at, spec_at, storage_word, tag_at,
     tail_at, type_word,
 };
+pub use type_names::TypeNames;
 pub use type_node::{
     array_declarator, declared_word, empty_declarator, function_declarator, grouped_declarator,
     is_given, is_type, open_array_declarator, param_of, pointer_declarator, push_declarator,

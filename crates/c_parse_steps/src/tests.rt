@@ -1,7 +1,7 @@
 // What is said of one token.
 #![tactic(auto, using(c_written::proofs::Trees::the_written_trees))]
 
-use crate::{Class, Context, Fault, Mark, Setting, comes, refused, taken};
+use crate::{Class, Context, Fault, Mark, Setting, TypeNames, comes, refused, taken};
 use c_written::{Placed, Pos, Punctuator, Token};
 use std::test::Fail;
 
@@ -45,9 +45,10 @@ const SIGNS: [(u32, Punctuator, Punctuator, &str); 7] = [
 
 #[test]
 fn signs(rt: HostRuntime) -> Result<(), Fail> {
+    let types = TypeNames::new(rt.alloc());
     let context = Context {
         alloc: rt.alloc(),
-        types: &[],
+        types: &types,
         setting: Setting::InBlock,
     };
     for (count, found, wanted, answer) in &SIGNS {
