@@ -7,11 +7,13 @@
 //! | `lex` | the kinds and places of the tokens and the place of the end, as in `k1:1 w1:5 1:9`, or the refusal |
 //! | `parse` | the tree in a short notation, as in `Int (fn f void){return (Plus a b);}`, or the refusal |
 //! | `accepts` | `a file`, or the refusal |
+//! | `layout` | what each line of the text is answered, joined by `; `: `struct char, int` adds a struct and tells its offsets, `size array 3 struct 0` its size and alignment, and `promote`, `balance`, `wrap` and `literal` what these calls answer |
 //! | `fronts` | the lengths of the fronts of the text that are files |
 #![tactic(auto)]
 
 mod case;
 mod exprs;
+mod layouts;
 mod stmts;
 mod tokens;
 mod trees;
@@ -44,6 +46,10 @@ fn answer(alloc: Global, case: &Case) -> io::Result<String> {
         b"lex" => tokens::line(alloc, text)?,
         b"parse" => trees::line(alloc, text)?,
         b"accepts" => trees::verdict(alloc, text)?,
+        b"layout" => match str::from_utf8(text) {
+            Ok(lines) => layouts::line(alloc, lines)?,
+            Err(_) => String::from_str(alloc, "no text")?,
+        },
         b"fronts" => trees::fronts(alloc, text)?,
         _ => String::from_str(alloc, "no such word")?,
     };

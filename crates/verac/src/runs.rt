@@ -38,14 +38,13 @@ pub fn run<F: Files, K: Sink>(
     // Completes: with no fault of the file or the sink there is an answer with a text, memory aside.
     ensures completes { (name : List ℕ) → IsCommand (texts words.now.items) name → (Rose (F.faults files.old name) (F.faults files.new name) → ⊥)
         → (Rose (K.faults out.old) (K.faults out.new) → ⊥) → Completes result }
-    // Prefix: at a write fault the front of such a text was written; else nothing, and at Usage nothing was opened.
+    // Prefix: at a write fault the front of such a text was written; else the sink is as it was, and at Usage nothing was opened.
     ensures prefix { result ≡ Status.WriteFault → (name bytes before : List ℕ) → IsCommand (texts words.now.items) name
         → F.told files.old name ≡ Some bytes → K.wrote out.old ≡ Some before
         → (status : Status) × (text : List ℕ) × (front : List ℕ) × IsAnswer name bytes status text × IsFront front text
         × (K.wrote out.new ≡ Some (before ++ front)) }
-    ensures nothing { OnNothing result (K.wrote out.new ≡ K.wrote out.old) }
+    ensures nothing { OnNothing result (out.new ≡ out.old) }
     ensures usage_files { result ≡ Status.Usage → files.new ≡ files.old }
-    ensures usage_out { result ≡ Status.Usage → out.new ≡ out.old }
 {
     let Some(name) = command(words) else {
         return Status::Usage;
