@@ -15,3 +15,4 @@ pub mod PieceLemmas
 pub mod Refusals
 pub mod Tokens
 pub mod Whites
+pub mod Stretches

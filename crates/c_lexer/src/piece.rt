@@ -49,7 +49,7 @@ pub fn is_blank(byte: u8) -> bool
     matches!(byte, b'\t'..=b'\r' | b' ')
 }
 
-fn begins_number(bytes: &[u8]) -> bool
+pub fn begins_number(bytes: &[u8]) -> bool
     requires { 0 < length bytes.now }
     ensures { IsTrue result ↔ BeginsNumber bytes.now }
 {
@@ -70,7 +70,7 @@ fn word(alloc: Global, bytes: &[u8]) -> Result<Piece, NoMemory>
     Ok(Piece::Token(token, n))
 }
 
-fn number(bytes: &[u8]) -> Piece
+pub fn number(bytes: &[u8]) -> Piece
     requires { BeginsNumber bytes.now }
     ensures { IsPiece bytes.now result }
 {
@@ -103,7 +103,7 @@ fn string(alloc: Global, bytes: &[u8]) -> Result<Piece, NoMemory>
 }
 
 /// What is neither a white byte nor a word, a number or a string.
-fn sign(bytes: &[u8]) -> Piece
+pub fn sign(bytes: &[u8]) -> Piece
     requires some { 0 < length bytes.now }
     requires blank { IsBlank (slice_index bytes.now 0) → ⊥ }
     requires word { IsWordByte (slice_index bytes.now 0) → ⊥ }
