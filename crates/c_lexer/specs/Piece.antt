@@ -1,5 +1,6 @@
 -- What stands at the front of a text, as the code that looks at it answers.
-use Rattle.std.specs.Prelude.{◌≡◌, ◌≢◌, ◌⊎◌, ℕ, ◌+◌, ◌^◌, ◌<◌, ◌≤◌, ◌==◌, Bool, List, [], ◌∷◌, ◌++◌, map, length, slice_index, take, drop, Option, Some, None, IsSome}
+use Rattle.std.specs.Prelude.{◌≡◌, ◌≢◌, ◌⊎◌, ℕ, ◌+◌, ◌^◌, ◌<◌, ◌≤◌, ◌==◌, Bool}
+use Rattle.std.specs.Prelude.{List, [], ◌∷◌, ◌++◌, map, length, slice_index, take, drop, Option, Some, None, IsSome}
 use Rattle.c_written.specs.declared.token.Constant.{Constant}
 use Rattle.c_written.specs.declared.token.Punctuator.{Punctuator}
 use Rattle.c_written.specs.Constant.{constant_type}
@@ -60,8 +61,10 @@ IsSpelled s spellings.NoInteger = IsInteger s → ⊥
 
 -- the constant of this value, base and suffix, where a type of its row holds it
 abbrev pub IsHeld : ℕ → ℕ → Bool → ℕ → Spelled → Type 0
-IsHeld v base u n (spellings.Constant c) = (v < 2 ^ 64) × (c.value ≡ v) × (c.decimal ≡ (base == 10)) × (c.unsigned ≡ u) × (c.longs ≡ n) × IsSome (constant_type c)
-IsHeld v base u n spellings.TooWide = (c : Constant) → v < 2 ^ 64 → c.value ≡ v → c.decimal ≡ (base == 10) → c.unsigned ≡ u → c.longs ≡ n → IsSome (constant_type c) → ⊥
+IsHeld v base u n (spellings.Constant c) =
+    (v < 2 ^ 64) × (c.value ≡ v) × (c.decimal ≡ (base == 10)) × (c.unsigned ≡ u) × (c.longs ≡ n) × IsSome (constant_type c)
+IsHeld v base u n spellings.TooWide =
+    (c : Constant) → v < 2 ^ 64 → c.value ≡ v → c.decimal ≡ (base == 10) → c.unsigned ≡ u → c.longs ≡ n → IsSome (constant_type c) → ⊥
 IsHeld v base u n spellings.NoInteger = ⊥
 
 -- no character of a literal with this quote stands at the front
