@@ -32,11 +32,11 @@ pub record IsNumberRun (text : List ℕ) (n : ℕ) : Type 0 where
   pub no_more : (k : ℕ) → n ≡ k + 1 → n < length text → GoesOn (slice_index text k) (slice_index text n) → ⊥
 
 -- the punctuator stands at the front, with so many bytes
-abbrev pub HasMark : List ℕ → ℕ → Punctuator → Type 0
-HasMark text n p = (rest : List ℕ) × (text ≡ punctuator_text p ++ rest) × (length (punctuator_text p) ≡ n)
+abbrev pub HasPunctuator : List ℕ → ℕ → Punctuator → Type 0
+HasPunctuator text n p = (rest : List ℕ) × (text ≡ punctuator_text p ++ rest) × (length (punctuator_text p) ≡ n)
 
 -- the punctuator stands at the front, and no longer one does
-pub record IsLongestMark (text : List ℕ) (p : Punctuator) : Type 0 where
+pub record IsLongestPunctuator (text : List ℕ) (p : Punctuator) : Type 0 where
   pub rest : List ℕ
   pub is : text ≡ punctuator_text p ++ rest
   pub longest : (q : Punctuator) (b : List ℕ) → text ≡ punctuator_text q ++ b → length (punctuator_text q) ≤ length (punctuator_text p)
