@@ -8,7 +8,7 @@ use Rattle.c_written.specs.declared.token.Token.{Token}
 use Rattle.c_written.specs.declared.token.Token.TheVariants as kinds
 use Rattle.c_lexer.specs.Spelling.{keyword_text, punctuator_text, IsConstant, IsLiteral, IsOneCharacter}
 use Rattle.c_lexer.specs.Cut.{IsLetter, IsDigit, IsBlank, IsWord, IsNumber, IsToken, HasForm}
-use Rattle.c_lexer.proofs.Marks.{IsMarkByte, mark_first, mark_long, mark_dot, keyword_word}
+use Rattle.c_lexer.proofs.Punctuators.{IsPunctuatorByte, punctuator_first, punctuator_long, punctuator_dot, keyword_word}
 
 -- a byte of the front is a byte of the text
 pub at_front : (text s r : List ℕ) → text ≡ s ++ r → (k : ℕ) → k < length s → get_or text k 0 ≡ get_or s k 0
@@ -34,11 +34,11 @@ letter_digit b h i = grind arith
 pub letter_dot : (b : ℕ) → IsLetter b → b ≡ 46 → ⊥
 letter_dot b h i = grind arith
 
-pub letter_mark : (b : ℕ) → IsLetter b → IsMarkByte b → ⊥
-letter_mark b h i = grind arith
+pub letter_punctuator : (b : ℕ) → IsLetter b → IsPunctuatorByte b → ⊥
+letter_punctuator b h i = grind arith
 
-pub digit_mark : (b : ℕ) → IsDigit b → IsMarkByte b → ⊥
-digit_mark b h i = grind arith
+pub digit_punctuator : (b : ℕ) → IsDigit b → IsPunctuatorByte b → ⊥
+digit_punctuator b h i = grind arith
 
 -- bytes that begin no word, no number and no punctuator
 abbrev pub IsApart : ℕ → Type 0
@@ -50,8 +50,8 @@ letter_apart b h i = grind arith
 pub digit_apart : (b : ℕ) → IsDigit b → IsApart b → ⊥
 digit_apart b h i = grind arith
 
-pub mark_apart : (b : ℕ) → IsMarkByte b → IsApart b → ⊥
-mark_apart b h i = grind arith
+pub punctuator_apart : (b : ℕ) → IsPunctuatorByte b → IsApart b → ⊥
+punctuator_apart b h i = grind arith
 
 pub dot_apart : (b : ℕ) → b ≡ 46 → IsApart b → ⊥
 dot_apart b h i = grind arith
@@ -70,19 +70,19 @@ form_long s (inl w) = w.some
 form_long s (inr (inl n)) = number_long s n
 form_long s (inr (inr (inl l))) = literal_long 39 l.0 s l.1
 form_long s (inr (inr (inr (inl l)))) = literal_long 34 l.0 s l.1
-form_long s (inr (inr (inr (inr p)))) = omega (arith, ap length p.1, (mark_long p.0).0)
+form_long s (inr (inr (inr (inr p)))) = omega (arith, ap length p.1, (punctuator_long p.0).0)
 
-pub mark_byte : (s : List ℕ) (p : Punctuator) → s ≡ punctuator_text p → IsMarkByte (get_or s 0 0)
-mark_byte s p e = subst (λ v. IsMarkByte (get_or v 0 0)) (sym e) (mark_first p)
+pub punctuator_byte : (s : List ℕ) (p : Punctuator) → s ≡ punctuator_text p → IsPunctuatorByte (get_or s 0 0)
+punctuator_byte s p e = subst (λ v. IsPunctuatorByte (get_or v 0 0)) (sym e) (punctuator_first p)
 
 pub number_apart : (s : List ℕ) → IsNumber s → IsApart (get_or s 0 0) → ⊥
 number_apart s n a = elim n.begins [ inl d ↦ digit_apart (get_or s 0 0) d.1 a | inr d ↦ dot_apart (get_or s 0 0) d.1 a ]
 
-pub number_mark : (s : List ℕ) (p : Punctuator) → IsNumber s → s ≡ punctuator_text p → ⊥
-number_mark s p n e =
+pub number_punctuator : (s : List ℕ) (p : Punctuator) → IsNumber s → s ≡ punctuator_text p → ⊥
+number_punctuator s p n e =
     elim n.begins [
-      | inl d ↦ digit_mark (get_or s 0 0) d.1 (mark_byte s p e)
-      | inr d ↦ elim (mark_dot p (sym (ap (λ v. get_or v 0 0) e) ∙ d.1)) [
+      | inl d ↦ digit_punctuator (get_or s 0 0) d.1 (punctuator_byte s p e)
+      | inr d ↦ elim (punctuator_dot p (sym (ap (λ v. get_or v 0 0) e) ∙ d.1)) [
         | inl one ↦ omega (arith, ap length e, d.0)
         | inr two ↦ (let f : get_or s 1 0 ≡ 46 = ap (λ v. get_or v 1 0) e ∙ two.1 in omega (arith, d.2.0, d.2.1))
       ]
@@ -97,14 +97,14 @@ character_form s (inl w) e = absurd (letter_apart (get_or s 0 0) w.first (inr (i
 character_form s (inr (inl n)) e = absurd (number_apart s n (inr (inr (inl e))))
 character_form s (inr (inr (inl l))) e = l
 character_form s (inr (inr (inr (inl l)))) e = absurd (omega (arith, literal_first 34 l.0 s l.1))
-character_form s (inr (inr (inr (inr p)))) e = absurd (mark_apart (get_or s 0 0) (mark_byte s p.0 p.1) (inr (inr (inl e))))
+character_form s (inr (inr (inr (inr p)))) e = absurd (punctuator_apart (get_or s 0 0) (punctuator_byte s p.0 p.1) (inr (inr (inl e))))
 
 pub string_form : (s : List ℕ) → HasForm s → get_or s 0 0 ≡ 34 → (vs : List (Option ℕ)) × IsLiteral 34 vs s
 string_form s (inl w) e = absurd (letter_apart (get_or s 0 0) w.first (inl e))
 string_form s (inr (inl n)) e = absurd (number_apart s n (inl e))
 string_form s (inr (inr (inl l))) e = absurd (omega (arith, literal_first 39 l.0 s l.1))
 string_form s (inr (inr (inr (inl l)))) e = l
-string_form s (inr (inr (inr (inr p)))) e = absurd (mark_apart (get_or s 0 0) (mark_byte s p.0 p.1) (inl e))
+string_form s (inr (inr (inr (inr p)))) e = absurd (punctuator_apart (get_or s 0 0) (punctuator_byte s p.0 p.1) (inl e))
 
 -- a byte that begins no form of a token
 abbrev pub IsNoForm : ℕ → Type 0
@@ -123,7 +123,7 @@ no_form_begins s (inl w) h = letter_apart (get_or s 0 0) w.first (no_form_apart 
 no_form_begins s (inr (inl n)) h = number_apart s n (no_form_apart (get_or s 0 0) h)
 no_form_begins s (inr (inr (inl l))) h = no_form_quote (get_or s 0 0) h (inl (literal_first 39 l.0 s l.1))
 no_form_begins s (inr (inr (inr (inl l)))) h = no_form_quote (get_or s 0 0) h (inr (literal_first 34 l.0 s l.1))
-no_form_begins s (inr (inr (inr (inr p)))) h = mark_apart (get_or s 0 0) (mark_byte s p.0 p.1) (no_form_apart (get_or s 0 0) h)
+no_form_begins s (inr (inr (inr (inr p)))) h = punctuator_apart (get_or s 0 0) (punctuator_byte s p.0 p.1) (no_form_apart (get_or s 0 0) h)
 
 -- the forms of tokens
 pub token_form : (s : List ℕ) (t : Token) → IsToken s t → HasForm s
@@ -143,15 +143,15 @@ pub number_literal : (q : ℕ) (vs : List (Option ℕ)) (s : List ℕ) → (q �
 number_literal q vs s (inl e) n l = number_apart s n (inr (inr (inl (literal_first q vs s l ∙ e))))
 number_literal q vs s (inr e) n l = number_apart s n (inl (literal_first q vs s l ∙ e))
 
-pub mark_literal : (q : ℕ) (vs : List (Option ℕ)) (s : List ℕ) (p : Punctuator) → (q ≡ 39) ⊎ (q ≡ 34) → s ≡ punctuator_text p → IsLiteral q vs s → ⊥
-mark_literal q vs s p (inl e) m l = mark_apart (get_or s 0 0) (mark_byte s p m) (inr (inr (inl (literal_first q vs s l ∙ e))))
-mark_literal q vs s p (inr e) m l = mark_apart (get_or s 0 0) (mark_byte s p m) (inl (literal_first q vs s l ∙ e))
+pub punctuator_literal : (q : ℕ) (vs : List (Option ℕ)) (s : List ℕ) (p : Punctuator) → (q ≡ 39) ⊎ (q ≡ 34) → s ≡ punctuator_text p → IsLiteral q vs s → ⊥
+punctuator_literal q vs s p (inl e) m l = punctuator_apart (get_or s 0 0) (punctuator_byte s p m) (inr (inr (inl (literal_first q vs s l ∙ e))))
+punctuator_literal q vs s p (inr e) m l = punctuator_apart (get_or s 0 0) (punctuator_byte s p m) (inl (literal_first q vs s l ∙ e))
 
 pub two_literals : (vs ws : List (Option ℕ)) (s : List ℕ) → IsLiteral 39 vs s → IsLiteral 34 ws s → ⊥
 two_literals vs ws s l m = omega (arith, literal_first 39 vs s l, literal_first 34 ws s m)
 
-pub word_mark : (s : List ℕ) (p : Punctuator) → IsWord s → s ≡ punctuator_text p → ⊥
-word_mark s p w e = letter_mark (get_or s 0 0) w.first (mark_byte s p e)
+pub word_punctuator : (s : List ℕ) (p : Punctuator) → IsWord s → s ≡ punctuator_text p → ⊥
+word_punctuator s p w e = letter_punctuator (get_or s 0 0) w.first (punctuator_byte s p e)
 
 pub keyword_is_word : (s : List ℕ) (k : Keyword) → s ≡ keyword_text k → IsWord s
 keyword_is_word s k e = subst IsWord (sym e) (keyword_word k)
@@ -162,7 +162,7 @@ token_number s (kinds.Keyword k) n h = absurd (word_number s (keyword_is_word s 
 token_number s (kinds.Number c) n h = (c, h.1, refl)
 token_number s (kinds.Character m) n h = absurd (number_literal 39 (Some h.0 ∷ []) s (inl refl) n h.1.literal)
 token_number s (kinds.Text vs) n h = absurd (number_literal 34 (map Some vs) s (inr refl) n h)
-token_number s (kinds.Punctuator p) n h = absurd (number_mark s p n h)
+token_number s (kinds.Punctuator p) n h = absurd (number_punctuator s p n h)
 
 pub token_character : (s : List ℕ) (t : Token) (vs : List (Option ℕ)) → IsLiteral 39 vs s → IsToken s t → (v : ℕ) × IsOneCharacter (Some v) s
 token_character s (kinds.Word name) vs n h = absurd (word_literal 39 vs s (inl refl) h.0 n)
@@ -170,7 +170,7 @@ token_character s (kinds.Keyword k) vs n h = absurd (word_literal 39 vs s (inl r
 token_character s (kinds.Number c) vs n h = absurd (number_literal 39 vs s (inl refl) h.0 n)
 token_character s (kinds.Character m) vs n h = (h.0, h.1)
 token_character s (kinds.Text ws) vs n h = absurd (two_literals vs (map Some ws) s n h)
-token_character s (kinds.Punctuator p) vs n h = absurd (mark_literal 39 vs s p (inl refl) h n)
+token_character s (kinds.Punctuator p) vs n h = absurd (punctuator_literal 39 vs s p (inl refl) h n)
 
 pub token_string : (s : List ℕ) (t : Token) (vs : List (Option ℕ)) → IsLiteral 34 vs s → IsToken s t → (ws : List ℕ) × IsLiteral 34 (map Some ws) s
 token_string s (kinds.Word name) vs n h = absurd (word_literal 34 vs s (inr refl) h.0 n)
@@ -178,4 +178,4 @@ token_string s (kinds.Keyword k) vs n h = absurd (word_literal 34 vs s (inr refl
 token_string s (kinds.Number c) vs n h = absurd (number_literal 34 vs s (inr refl) h.0 n)
 token_string s (kinds.Character m) vs n h = absurd (two_literals (Some h.0 ∷ []) vs s h.1.literal n)
 token_string s (kinds.Text ws) vs n h = (ws, h)
-token_string s (kinds.Punctuator p) vs n h = absurd (mark_literal 34 vs s p (inr refl) h n)
+token_string s (kinds.Punctuator p) vs n h = absurd (punctuator_literal 34 vs s p (inr refl) h n)

@@ -7,7 +7,7 @@ use Rattle.c_written.specs.declared.token.Token.{Token}
 use Rattle.c_written.specs.declared.token.Placed.{Placed}
 use Rattle.c_lexer.specs.Cut.{Front, here, white, token, IsWhite, IsNext, moved_of, start_of, IsCut}
 use Rattle.c_lexer.specs.Piece.{IsPiece, HashReason}
-use Rattle.c_lexer.specs.Uncut.{Refuses, IsRefused, IsUncut, TellsUncut, error_at}
+use Rattle.c_lexer.specs.Uncut.{Refuses, IsRefusedAt, IsUncut, TellsUncut, error_at}
 use Rattle.c_lexer.specs.declared.reason.Reason.{Reason}
 use Rattle.c_lexer.specs.declared.reason.Reason.TheVariants as reasons
 use Rattle.c_lexer.specs.declared.cut.LexError.{LexError}
@@ -44,7 +44,7 @@ front_before here = ([], refl)
 front_before {last = last} (white s rest e w d) = let b = front_before d in (s ++ b.0, e ∙ ap (λ v. s ++ v) b.1 ∙ sym (append_assoc s b.0 last))
 front_before {last = last} (token s rest e n d) = let b = front_before d in (s ++ b.0, e ∙ ap (λ v. s ++ v) b.1 ∙ sym (append_assoc s b.0 last))
 
-pub refused_here : (file : ℕ) (text rest : List ℕ) (ts : List Placed) (at pos : Pos) (reason : Reason) (n : ℕ) → Front text (start_of file) ts rest at → ((before : List ℕ) → Refuses before rest reason n) → pos ≡ moved_of at (take n rest) → IsRefused file text pos reason
+pub refused_here : (file : ℕ) (text rest : List ℕ) (ts : List Placed) (at pos : Pos) (reason : Reason) (n : ℕ) → Front text (start_of file) ts rest at → ((before : List ℕ) → Refuses before rest reason n) → pos ≡ moved_of at (take n rest) → IsRefusedAt file text pos reason
 refused_here file text rest ts at pos reason n f r e =
     let b = front_before f in
     record { ts = ts; before = b.0; rest = rest; at = at; n = n; is = b.1; front = f; refuses = r b.0; place = e }
@@ -67,16 +67,16 @@ before_is text before rest e =
     let n : length text - length rest ≡ length before = omega (arith, ap length e, length-append before rest) in
     ap (λ k. take k text) n ∙ ap (take (length before)) e ∙ take-append_seam before rest
 
-pub hash_here : (file : ℕ) (text rest front : List ℕ) (ts : List Placed) (at pos : Pos) (reason : Reason) → Front text (start_of file) ts rest at → 0 < length rest → get_or rest 0 0 ≡ 35 → front ≡ take (length text - length rest) text → HashReason front reason → pos ≡ at → IsRefused file text pos reason
+pub hash_here : (file : ℕ) (text rest front : List ℕ) (ts : List Placed) (at pos : Pos) (reason : Reason) → Front text (start_of file) ts rest at → 0 < length rest → get_or rest 0 0 ≡ 35 → front ≡ take (length text - length rest) text → HashReason front reason → pos ≡ at → IsRefusedAt file text pos reason
 hash_here file text rest front ts at pos reason f l e g h p =
     let b = front_before f in
     let same : front ≡ b.0 = g ∙ before_is text b.0 rest b.1 in
     record { ts = ts; before = b.0; rest = rest; at = at; n = 0; is = b.1; front = f; refuses = hash_refuses b.0 rest reason l e (subst (λ v. HashReason v reason) same h); place = p ∙ stays at rest }
 
-pub told : (file : ℕ) (text : List ℕ) (pos : Pos) (reason : Reason) (e : LexError) → IsRefused file text pos reason → e ≡ error_at reason pos → TellsUncut file text e
+pub told : (file : ℕ) (text : List ℕ) (pos : Pos) (reason : Reason) (e : LexError) → IsRefusedAt file text pos reason → e ≡ error_at reason pos → TellsUncut file text e
 told file text pos reason e h f = inr (pos, reason, f, uncut_of file text pos reason h)
 
-pub same_told : (file : ℕ) (text : List ℕ) (pos : Pos) (reason : Reason) (e : LexError) → IsRefused file text pos reason → e ≡ error_at reason pos → (q : Pos) (b : Reason) → IsUncut file text q b → (e ≡ error_at b q) ⊎ (e ≡ errors.NoMemory)
+pub same_told : (file : ℕ) (text : List ℕ) (pos : Pos) (reason : Reason) (e : LexError) → IsRefusedAt file text pos reason → e ≡ error_at reason pos → (q : Pos) (b : Reason) → IsUncut file text q b → (e ≡ error_at b q) ⊎ (e ≡ errors.NoMemory)
 same_told file text pos reason e h f q b u =
     let j = same_refused file text pos q reason b h u.refused in
     inl (f ∙ ap (λ z. error_at z pos) j.1 ∙ ap (λ z. error_at b z) j.0)
@@ -90,8 +90,8 @@ whole_cut file text rest ts at v f e l m n = record {
 pub rest_short : {text last : List ℕ} {at to : Pos} {ts : List Placed} → Front text at ts last to → length last ≤ length text
 rest_short {last = last} f = let b = front_before f in omega (arith, ap length b.1, length-append b.0 last)
 
-pub refused_piece : (file : ℕ) (text rest front : List ℕ) (ts : List Placed) (at pos : Pos) (reason : Reason) (n : ℕ) (p : Piece) → Front text (start_of file) ts rest at → IsPiece rest p → p ≡ pieces.Refused reason n → front ≡ take n rest → pos ≡ moved_of at front → IsRefused file text pos reason
+pub refused_piece : (file : ℕ) (text rest front : List ℕ) (ts : List Placed) (at pos : Pos) (reason : Reason) (n : ℕ) (p : Piece) → Front text (start_of file) ts rest at → IsPiece rest p → p ≡ pieces.Refused reason n → front ≡ take n rest → pos ≡ moved_of at front → IsRefusedAt file text pos reason
 refused_piece file text rest front ts at pos reason n p f h e g m = refused_here file text rest ts at pos reason n f (subst (λ v. IsPiece rest v) e h).1 (m ∙ ap (moved_of at) g)
 
-pub hash_piece : (file : ℕ) (text rest front : List ℕ) (ts : List Placed) (at : Pos) (reason : Reason) (p : Piece) → Front text (start_of file) ts rest at → IsPiece rest p → p ≡ pieces.Hash → front ≡ take (length text - length rest) text → HashReason front reason → IsRefused file text at reason
+pub hash_piece : (file : ℕ) (text rest front : List ℕ) (ts : List Placed) (at : Pos) (reason : Reason) (p : Piece) → Front text (start_of file) ts rest at → IsPiece rest p → p ≡ pieces.Hash → front ≡ take (length text - length rest) text → HashReason front reason → IsRefusedAt file text at reason
 hash_piece file text rest front ts at reason p f h e g r = let k = subst (λ v. IsPiece rest v) e h in hash_here file text rest front ts at at reason f k.0 k.1 g r refl

@@ -6,7 +6,7 @@ use Rattle.c_written.specs.declared.token.Placed.{Placed}
 use Rattle.c_written.specs.declared.token.Tokens.{Tokens}
 use Rattle.c_lexer.specs.declared.reason.Reason.{Reason}
 use Rattle.c_lexer.specs.Cut.{IsToken, moved_of, Front, here, white, token, IsCut, IsBefore}
-use Rattle.c_lexer.specs.Uncut.{Refuses, IsRefused, IsUncut, row_of}
+use Rattle.c_lexer.specs.Uncut.{Refuses, IsRefusedAt, IsUncut, row_of}
 use Rattle.c_lexer.proofs.Forms.{same_split, form_long}
 use Rattle.c_lexer.proofs.Whites.{same_white, white_long}
 use Rattle.c_lexer.proofs.Refusals.{Cause, nothing, spliced, open_comment, open_literal, directive, malformed, cause, not_both, same_longest, refused_white, refused_token, same_cause, spliced_begins}
@@ -76,7 +76,7 @@ same_rest text rest more at to before after a b n m e f g h r q =
     let j = same_cause before rest a b n m (cause before rest a n r) c in
     (ap (λ z. moved_of z (take n rest)) h ∙ ap (λ z. moved_of to (take z rest)) j.0 ∙ ap (λ z. moved_of to (take m z)) g, j.1)
 
-pub same_refused : (file : ℕ) (text : List ℕ) (p q : Pos) (a b : Reason) → IsRefused file text p a → IsRefused file text q b → (p ≡ q) × (a ≡ b)
+pub same_refused : (file : ℕ) (text : List ℕ) (p q : Pos) (a b : Reason) → IsRefusedAt file text p a → IsRefusedAt file text q b → (p ≡ q) × (a ≡ b)
 same_refused file text p q a b h i =
     elim (compare h.front i.front) [
       | inl f ↦
@@ -98,7 +98,7 @@ cause_some before text reason n (directive d) = d.some
 cause_some before text reason n (malformed s r e l m) = omega (arith, length-append s r, ap length e, form_long s l.form)
 
 -- a text that is refused has no cut
-pub refused_cut : (file : ℕ) (text : List ℕ) (p : Pos) (a : Reason) (v : Tokens) → IsRefused file text p a → IsCut file text v → ⊥
+pub refused_cut : (file : ℕ) (text : List ℕ) (p : Pos) (a : Reason) (v : Tokens) → IsRefusedAt file text p a → IsCut file text v → ⊥
 refused_cut file text p a v h c =
     let k = cause h.before h.rest a h.n h.refuses in
     let l = cause_some h.before h.rest a h.n k in
@@ -111,7 +111,7 @@ not_before : (p q : Pos) → p ≡ q → IsBefore p q → ⊥
 not_before p q e b = let l : p.line ≡ q.line = ap (λ v. v.line) e in let c : p.col ≡ q.col = ap (λ v. v.col) e in grind arith
 
 -- a refusal is the first
-pub uncut_of : (file : ℕ) (text : List ℕ) (p : Pos) (a : Reason) → IsRefused file text p a → IsUncut file text p a
+pub uncut_of : (file : ℕ) (text : List ℕ) (p : Pos) (a : Reason) → IsRefusedAt file text p a → IsUncut file text p a
 uncut_of file text p a h = record {
   refused = h;
   first_place = λ q b i. not_before q p (sym (same_refused file text p q a b h i).0);

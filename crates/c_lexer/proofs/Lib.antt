@@ -5,8 +5,8 @@ pub mod Fronts
 pub mod KeywordLemmas
 pub mod Laws
 pub mod LiteralLemmas
-pub mod MarkLemmas
-pub mod Marks
+pub mod PunctuatorLemmas
+pub mod Punctuators
 pub mod Moves
 pub mod NumberLemmas
 pub mod Opens
@@ -15,3 +15,4 @@ pub mod PieceLemmas
 pub mod Refusals
 pub mod Tokens
 pub mod Whites
+pub mod Stretches

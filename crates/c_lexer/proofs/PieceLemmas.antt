@@ -12,9 +12,9 @@ use Rattle.c_lexer.specs.declared.piece.Piece.TheVariants as pieces
 use Rattle.c_lexer.specs.Spelling.{punctuator_text, IsInteger, IsConstant, Reads, IsLiteral, IsOneCharacter, char_value}
 use Rattle.c_lexer.specs.Cut.{IsLetter, IsDigit, IsWordByte, IsBlank, GoesOn, IsWord, IsNumber, BeginsNumber, IsToken, HasForm, IsComment, IsLine, IsSplicedAt, IsWhite, blank, splice, long_splice, comment, line, BeginsComment, IsLongest, IsPrefix}
 use Rattle.c_lexer.specs.Uncut.{OpensLine, IsOpenLiteral, BeginsNothing, IsBadEscape}
-use Rattle.c_lexer.specs.Piece.{IsWordRun, IsNumberRun, IsLongestMark, IsClosedAt, IsOther, IsPiece}
-use Rattle.c_lexer.proofs.Marks.{IsMarkByte, mark_dot}
-use Rattle.c_lexer.proofs.Forms.{at_front, front_long, letter_digit, letter_dot, letter_mark, digit_mark, letter_apart, mark_byte, number_long, literal_first, form_long, token_form, character_form, string_form, no_form_begins}
+use Rattle.c_lexer.specs.Piece.{IsWordRun, IsNumberRun, IsLongestPunctuator, IsClosedAt, IsOther, IsPiece}
+use Rattle.c_lexer.proofs.Punctuators.{IsPunctuatorByte, punctuator_dot}
+use Rattle.c_lexer.proofs.Forms.{at_front, front_long, letter_digit, letter_dot, letter_punctuator, digit_punctuator, letter_apart, punctuator_byte, number_long, literal_first, form_long, token_form, character_form, string_form, no_form_begins}
 use Rattle.c_lexer.proofs.LiteralLemmas.{same_reads, swap_end}
 use Rattle.c_lexer.proofs.Whites.{comment_begins, line_begins}
 
@@ -58,7 +58,7 @@ word_longest text n w r a b e (inr (inl h)) =
     absurd (elim h.begins [ inl d ↦ letter_digit (get_or a 0 0) l d.1 | inr d ↦ letter_dot (get_or a 0 0) l d.1 ])
 word_longest text n w r a b e (inr (inr (inl h))) = absurd (letter_apart (get_or text 0 0) w (inr (inr (inl (at_front text a b e 0 (form_long a (inr (inr (inl h)))) ∙ literal_first 39 h.0 a h.1)))))
 word_longest text n w r a b e (inr (inr (inr (inl h)))) = absurd (letter_apart (get_or text 0 0) w (inl (at_front text a b e 0 (form_long a (inr (inr (inr (inl h))))) ∙ literal_first 34 h.0 a h.1)))
-word_longest text n w r a b e (inr (inr (inr (inr p)))) = absurd (letter_mark (get_or text 0 0) w (subst IsMarkByte (sym (at_front text a b e 0 (form_long a (inr (inr (inr (inr p))))))) (mark_byte a p.0 p.1)))
+word_longest text n w r a b e (inr (inr (inr (inr p)))) = absurd (letter_punctuator (get_or text 0 0) w (subst IsPunctuatorByte (sym (at_front text a b e 0 (form_long a (inr (inr (inr (inr p))))))) (punctuator_byte a p.0 p.1)))
 
 run_some : (text : List ℕ) (n : ℕ) → 0 < length text → IsWordByte (get_or text 0 0) → IsWordRun text n → 0 < n
 run_some text n l w r = elim (cases_lt 0 n) [ inl lt ↦ lt | inr ge ↦ (let z : n ≡ 0 = omega arith in absurd (r.no_more (omega arith) (subst (λ k. IsWordByte (get_or text k 0)) (sym z) w))) ]
@@ -101,10 +101,10 @@ number_run text n r a b e h =
       | inr ge ↦ ge
     ]
 
-mark_number : (text a b : List ℕ) (p : Punctuator) (n : ℕ) → text ≡ a ++ b → a ≡ punctuator_text p → BeginsNumber text → 1 ≤ n → length a ≤ n
-mark_number text a b p n e f (inl d) l = absurd (digit_mark (get_or text 0 0) d.1 (subst IsMarkByte (sym (at_front text a b e 0 (form_long a (inr (inr (inr (inr (p, f)))))))) (mark_byte a p f)))
-mark_number text a b p n e f (inr d) l =
-    elim (mark_dot p (sym (ap (λ v. get_or v 0 0) f) ∙ sym (at_front text a b e 0 (form_long a (inr (inr (inr (inr (p, f))))))) ∙ d.1)) [
+punctuator_number : (text a b : List ℕ) (p : Punctuator) (n : ℕ) → text ≡ a ++ b → a ≡ punctuator_text p → BeginsNumber text → 1 ≤ n → length a ≤ n
+punctuator_number text a b p n e f (inl d) l = absurd (digit_punctuator (get_or text 0 0) d.1 (subst IsPunctuatorByte (sym (at_front text a b e 0 (form_long a (inr (inr (inr (inr (p, f)))))))) (punctuator_byte a p f)))
+punctuator_number text a b p n e f (inr d) l =
+    elim (punctuator_dot p (sym (ap (λ v. get_or v 0 0) f) ∙ sym (at_front text a b e 0 (form_long a (inr (inr (inr (inr (p, f))))))) ∙ d.1)) [
       | inl one ↦ omega (arith, one, ap length f)
       | inr two ↦
           (let g : get_or text 1 0 ≡ 46 = at_front text a b e 1 (omega (arith, two.0, ap length f)) ∙ ap (λ v. get_or v 1 0) f ∙ two.1 in
@@ -128,7 +128,7 @@ number_longest text n w r a b e (inl h) =
 number_longest text n w r a b e (inr (inl h)) = number_run text n r a b e h
 number_longest text n w r a b e (inr (inr (inl h))) = absurd (begins_apart text 39 w (at_front text a b e 0 (form_long a (inr (inr (inl h)))) ∙ literal_first 39 h.0 a h.1) (inl refl))
 number_longest text n w r a b e (inr (inr (inr (inl h)))) = absurd (begins_apart text 34 w (at_front text a b e 0 (form_long a (inr (inr (inr (inl h))))) ∙ literal_first 34 h.0 a h.1) (inr refl))
-number_longest text n w r a b e (inr (inr (inr (inr p)))) = mark_number text a b p.0 n e p.1 w r.some
+number_longest text n w r a b e (inr (inr (inr (inr p)))) = punctuator_number text a b p.0 n e p.1 w r.some
 
 dot_on : (text : List ℕ) (n : ℕ) → 1 < length text → IsDigit (get_or text 1 0) → IsNumberRun text n → 1 < n
 dot_on text n l d r =
@@ -329,15 +329,15 @@ other_form text a b o e (inr (inr (inl h))) = absurd (o.no_character (at_front t
 other_form text a b o e (inr (inr (inr (inl h)))) = absurd (o.no_string (at_front text a b e 0 (form_long a (inr (inr (inr (inl h))))) ∙ literal_first 34 h.0 a h.1))
 other_form text a b o e (inr (inr (inr (inr p)))) = p
 
-prefix_mark : (s r : List ℕ) (p : Punctuator) → s ≡ punctuator_text p → IsPrefix s r → ⊥
-prefix_mark s r p e x = letter_mark (get_or s 0 0) (prefix_letter s r x) (mark_byte s p e)
+prefix_punctuator : (s r : List ℕ) (p : Punctuator) → s ≡ punctuator_text p → IsPrefix s r → ⊥
+prefix_punctuator s r p e x = letter_punctuator (get_or s 0 0) (prefix_letter s r x) (punctuator_byte s p e)
 
-pub mark_piece : (text : List ℕ) (p : Punctuator) (n : ℕ) → IsOther text → (BeginsComment text → ⊥) → IsLongestMark text p → n ≡ length (punctuator_text p) → IsPiece text (pieces.Token (kinds.Punctuator p) n)
-mark_piece text p n o c m e =
+pub punctuator_piece : (text : List ℕ) (p : Punctuator) (n : ℕ) → IsOther text → (BeginsComment text → ⊥) → IsLongestPunctuator text p → n ≡ length (punctuator_text p) → IsPiece text (pieces.Token (kinds.Punctuator p) n)
+punctuator_piece text p n o c m e =
     let f : take n text ≡ punctuator_text p = ap (λ k. take k text) e ∙ ap (take (length (punctuator_text p))) m.is ∙ take-append_seam (punctuator_text p) m.rest in
     token_piece text n (kinds.Punctuator p) (omega (arith, e, front_long text (punctuator_text p) m.rest m.is)) f
     (λ a b g form. let q = other_form text a b o g form in omega (arith, e, ap length q.1, m.longest q.0 b (g ∙ ap (λ v. v ++ b) q.1)))
-    c (prefix_mark (take n text) (drop n text) p f)
+    c (prefix_punctuator (take n text) (drop n text) p f)
 
 pub nothing_piece : (text : List ℕ) → 0 < length text → IsOther text → (BeginsComment text → ⊥) → ((p : Punctuator) (b : List ℕ) → text ≡ punctuator_text p ++ b → ⊥) → IsPiece text (pieces.Refused reasons.BadByte 0)
 nothing_piece text l o c none = (

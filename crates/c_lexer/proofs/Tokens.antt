@@ -6,8 +6,8 @@ use Rattle.c_written.specs.declared.token.Token.{Token}
 use Rattle.c_written.specs.declared.token.Token.TheVariants as kinds
 use Rattle.c_lexer.specs.Spelling.{IsUnsignedLetter, IsLong, IsSuffix, IsConstant, constant_suffix, IsLiteral, IsOneCharacter, char_value}
 use Rattle.c_lexer.specs.Cut.{IsToken}
-use Rattle.c_lexer.proofs.Marks.{same_keyword, same_punctuator}
-use Rattle.c_lexer.proofs.Forms.{keyword_is_word, word_number, word_literal, word_mark, number_literal, number_mark, mark_literal, two_literals}
+use Rattle.c_lexer.proofs.Punctuators.{same_keyword, same_punctuator}
+use Rattle.c_lexer.proofs.Forms.{keyword_is_word, word_number, word_literal, word_punctuator, number_literal, number_punctuator, punctuator_literal, two_literals}
 use Rattle.c_lexer.proofs.LiteralLemmas.{same_reads}
 use Rattle.c_lexer.proofs.Refusals.{literal_body, one_value}
 
@@ -87,34 +87,34 @@ same_token s (kinds.Word a) (kinds.Keyword b) h i = absurd (h.2 b i)
 same_token s (kinds.Word a) (kinds.Number b) h i = absurd (word_number s h.0 i.0)
 same_token s (kinds.Word a) (kinds.Character b) h i = absurd (word_literal 39 (Some i.0 ∷ []) s (inl refl) h.0 i.1.literal)
 same_token s (kinds.Word a) (kinds.Text b) h i = absurd (word_literal 34 (map Some b) s (inr refl) h.0 i)
-same_token s (kinds.Word a) (kinds.Punctuator b) h i = absurd (word_mark s b h.0 i)
+same_token s (kinds.Word a) (kinds.Punctuator b) h i = absurd (word_punctuator s b h.0 i)
 same_token s (kinds.Keyword a) (kinds.Word b) h i = absurd (i.2 a h)
 same_token s (kinds.Keyword a) (kinds.Keyword b) h i = ap kinds.Keyword (same_keyword s a b h i)
 same_token s (kinds.Keyword a) (kinds.Number b) h i = absurd (word_number s (keyword_is_word s a h) i.0)
 same_token s (kinds.Keyword a) (kinds.Character b) h i = absurd (word_literal 39 (Some i.0 ∷ []) s (inl refl) (keyword_is_word s a h) i.1.literal)
 same_token s (kinds.Keyword a) (kinds.Text b) h i = absurd (word_literal 34 (map Some b) s (inr refl) (keyword_is_word s a h) i)
-same_token s (kinds.Keyword a) (kinds.Punctuator b) h i = absurd (word_mark s b (keyword_is_word s a h) i)
+same_token s (kinds.Keyword a) (kinds.Punctuator b) h i = absurd (word_punctuator s b (keyword_is_word s a h) i)
 same_token s (kinds.Number a) (kinds.Word b) h i = absurd (word_number s i.0 h.0)
 same_token s (kinds.Number a) (kinds.Keyword b) h i = absurd (word_number s (keyword_is_word s b i) h.0)
 same_token s (kinds.Number a) (kinds.Number b) h i = ap kinds.Number (same_constant s a b h.1 i.1)
 same_token s (kinds.Number a) (kinds.Character b) h i = absurd (number_literal 39 (Some i.0 ∷ []) s (inl refl) h.0 i.1.literal)
 same_token s (kinds.Number a) (kinds.Text b) h i = absurd (number_literal 34 (map Some b) s (inr refl) h.0 i)
-same_token s (kinds.Number a) (kinds.Punctuator b) h i = absurd (number_mark s b h.0 i)
+same_token s (kinds.Number a) (kinds.Punctuator b) h i = absurd (number_punctuator s b h.0 i)
 same_token s (kinds.Character a) (kinds.Word b) h i = absurd (word_literal 39 (Some h.0 ∷ []) s (inl refl) i.0 h.1.literal)
 same_token s (kinds.Character a) (kinds.Keyword b) h i = absurd (word_literal 39 (Some h.0 ∷ []) s (inl refl) (keyword_is_word s b i) h.1.literal)
 same_token s (kinds.Character a) (kinds.Number b) h i = absurd (number_literal 39 (Some h.0 ∷ []) s (inl refl) i.0 h.1.literal)
 same_token s (kinds.Character a) (kinds.Character b) h i = ap kinds.Character (h.2 ∙ ap char_value (same_character s h.0 i.0 h.1 i.1) ∙ sym i.2)
 same_token s (kinds.Character a) (kinds.Text b) h i = absurd (two_literals (Some h.0 ∷ []) (map Some b) s h.1.literal i)
-same_token s (kinds.Character a) (kinds.Punctuator b) h i = absurd (mark_literal 39 (Some h.0 ∷ []) s b (inl refl) i h.1.literal)
+same_token s (kinds.Character a) (kinds.Punctuator b) h i = absurd (punctuator_literal 39 (Some h.0 ∷ []) s b (inl refl) i h.1.literal)
 same_token s (kinds.Text a) (kinds.Word b) h i = absurd (word_literal 34 (map Some a) s (inr refl) i.0 h)
 same_token s (kinds.Text a) (kinds.Keyword b) h i = absurd (word_literal 34 (map Some a) s (inr refl) (keyword_is_word s b i) h)
 same_token s (kinds.Text a) (kinds.Number b) h i = absurd (number_literal 34 (map Some a) s (inr refl) i.0 h)
 same_token s (kinds.Text a) (kinds.Character b) h i = absurd (two_literals (Some i.0 ∷ []) (map Some a) s i.1.literal h)
 same_token s (kinds.Text a) (kinds.Text b) h i = ap kinds.Text (same_string s a b h i)
-same_token s (kinds.Text a) (kinds.Punctuator b) h i = absurd (mark_literal 34 (map Some a) s b (inr refl) i h)
-same_token s (kinds.Punctuator a) (kinds.Word b) h i = absurd (word_mark s a i.0 h)
-same_token s (kinds.Punctuator a) (kinds.Keyword b) h i = absurd (word_mark s a (keyword_is_word s b i) h)
-same_token s (kinds.Punctuator a) (kinds.Number b) h i = absurd (number_mark s a i.0 h)
-same_token s (kinds.Punctuator a) (kinds.Character b) h i = absurd (mark_literal 39 (Some i.0 ∷ []) s a (inl refl) h i.1.literal)
-same_token s (kinds.Punctuator a) (kinds.Text b) h i = absurd (mark_literal 34 (map Some b) s a (inr refl) h i)
+same_token s (kinds.Text a) (kinds.Punctuator b) h i = absurd (punctuator_literal 34 (map Some a) s b (inr refl) i h)
+same_token s (kinds.Punctuator a) (kinds.Word b) h i = absurd (word_punctuator s a i.0 h)
+same_token s (kinds.Punctuator a) (kinds.Keyword b) h i = absurd (word_punctuator s a (keyword_is_word s b i) h)
+same_token s (kinds.Punctuator a) (kinds.Number b) h i = absurd (number_punctuator s a i.0 h)
+same_token s (kinds.Punctuator a) (kinds.Character b) h i = absurd (punctuator_literal 39 (Some i.0 ∷ []) s a (inl refl) h i.1.literal)
+same_token s (kinds.Punctuator a) (kinds.Text b) h i = absurd (punctuator_literal 34 (map Some b) s a (inr refl) h i)
 same_token s (kinds.Punctuator a) (kinds.Punctuator b) h i = ap kinds.Punctuator (same_punctuator s a b h i)

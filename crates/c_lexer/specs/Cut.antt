@@ -1,5 +1,6 @@
 -- The cut of a text into tokens (C11 5.1.1.2 phase 3, and 6.4), a relation on the whole text.
-use Rattle.std.specs.Prelude.{◌≡◌, ◌≢◌, ◌⊎◌, ℕ, ◌+◌, ◌-◌, ◌<◌, ◌≤◌, ◌==◌, if◌then◌else◌, List, [], ◌∷◌, ◌++◌, map, length, slice_index, codes, AllPairs, Option, Some}
+use Rattle.std.specs.Prelude.{◌≡◌, ◌≢◌, ◌⊎◌, ℕ, ◌+◌, ◌-◌, ◌<◌, ◌≤◌, ◌==◌, if◌then◌else◌}
+use Rattle.std.specs.Prelude.{List, [], ◌∷◌, ◌++◌, map, length, slice_index, codes, AllPairs, Option, Some}
 use Rattle.c_written.specs.declared.place.Pos.{Pos}
 use Rattle.c_written.specs.declared.token.Keyword.{Keyword}
 use Rattle.c_written.specs.declared.token.Punctuator.{Punctuator}
@@ -59,7 +60,12 @@ IsToken s (kinds.Punctuator p) = s ≡ punctuator_text p
 
 -- the bytes have the form of a token, also those of a number that is no constant, and of a literal with characters that are not allowed
 abbrev pub HasForm : List ℕ → Type 0
-HasForm s = IsWord s ⊎ (IsNumber s ⊎ (((vs : List (Option ℕ)) × IsLiteral 39 vs s) ⊎ (((vs : List (Option ℕ)) × IsLiteral 34 vs s) ⊎ ((p : Punctuator) × (s ≡ punctuator_text p)))))
+HasForm s =
+    IsWord s
+    ⊎ (IsNumber s
+    ⊎ (((vs : List (Option ℕ)) × IsLiteral 39 vs s)
+    ⊎ (((vs : List (Option ℕ)) × IsLiteral 34 vs s)
+    ⊎ ((p : Punctuator) × (s ≡ punctuator_text p)))))
 
 -- a comment from a slash and a star to the next star and slash (C11 6.4.9)
 pub record IsComment (s : List ℕ) : Type 0 where
@@ -125,8 +131,11 @@ moved_of at (b ∷ s) = moved_of (step at b) s
 -- from a place on, the text is white space and these tokens in turn, up to the last part, which is at the place to
 pub data Front : List ℕ → Pos → List Placed → List ℕ → Pos → Type 0 where
   here : {text : List ℕ} {at : Pos} → Front text at [] text at
-  white : {text last : List ℕ} {at to : Pos} {ts : List Placed} (s rest : List ℕ) → text ≡ s ++ rest → IsWhite s rest → Front rest (moved_of at s) ts last to → Front text at ts last to
-  token : {text last : List ℕ} {at to : Pos} {ts : List Placed} {t : Token} (s rest : List ℕ) → text ≡ s ++ rest → IsNext s rest t → Front rest (moved_of at s) ts last to → Front text at (record { pos = at; token = t } ∷ ts) last to
+  white : {text last : List ℕ} {at to : Pos} {ts : List Placed} (s rest : List ℕ)
+      → text ≡ s ++ rest → IsWhite s rest → Front rest (moved_of at s) ts last to → Front text at ts last to
+  token : {text last : List ℕ} {at to : Pos} {ts : List Placed} {t : Token} (s rest : List ℕ)
+      → text ≡ s ++ rest → IsNext s rest t → Front rest (moved_of at s) ts last to
+      → Front text at (record { pos = at; token = t } ∷ ts) last to
 
 -- the first place of a file
 abbrev pub start_of : ℕ → Pos

@@ -2,3 +2,4 @@ pub mod Spelling
 pub mod Cut
 pub mod Uncut
 pub mod Piece
+pub mod Stretch

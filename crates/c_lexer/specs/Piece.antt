@@ -1,5 +1,6 @@
 -- What stands at the front of a text, as the code that looks at it answers.
-use Rattle.std.specs.Prelude.{◌≡◌, ◌≢◌, ◌⊎◌, ℕ, ◌+◌, ◌^◌, ◌<◌, ◌≤◌, ◌==◌, Bool, List, [], ◌∷◌, ◌++◌, map, length, slice_index, take, drop, Option, Some, None, IsSome}
+use Rattle.std.specs.Prelude.{◌≡◌, ◌≢◌, ◌⊎◌, ℕ, ◌+◌, ◌^◌, ◌<◌, ◌≤◌, ◌==◌, Bool}
+use Rattle.std.specs.Prelude.{List, [], ◌∷◌, ◌++◌, map, length, slice_index, take, drop, Option, Some, None, IsSome}
 use Rattle.c_written.specs.declared.token.Constant.{Constant}
 use Rattle.c_written.specs.declared.token.Punctuator.{Punctuator}
 use Rattle.c_written.specs.Constant.{constant_type}
@@ -31,11 +32,11 @@ pub record IsNumberRun (text : List ℕ) (n : ℕ) : Type 0 where
   pub no_more : (k : ℕ) → n ≡ k + 1 → n < length text → GoesOn (slice_index text k) (slice_index text n) → ⊥
 
 -- the punctuator stands at the front, with so many bytes
-abbrev pub HasMark : List ℕ → ℕ → Punctuator → Type 0
-HasMark text n p = (rest : List ℕ) × (text ≡ punctuator_text p ++ rest) × (length (punctuator_text p) ≡ n)
+abbrev pub HasPunctuator : List ℕ → ℕ → Punctuator → Type 0
+HasPunctuator text n p = (rest : List ℕ) × (text ≡ punctuator_text p ++ rest) × (length (punctuator_text p) ≡ n)
 
 -- the punctuator stands at the front, and no longer one does
-pub record IsLongestMark (text : List ℕ) (p : Punctuator) : Type 0 where
+pub record IsLongestPunctuator (text : List ℕ) (p : Punctuator) : Type 0 where
   pub rest : List ℕ
   pub is : text ≡ punctuator_text p ++ rest
   pub longest : (q : Punctuator) (b : List ℕ) → text ≡ punctuator_text q ++ b → length (punctuator_text q) ≤ length (punctuator_text p)
@@ -60,8 +61,10 @@ IsSpelled s spellings.NoInteger = IsInteger s → ⊥
 
 -- the constant of this value, base and suffix, where a type of its row holds it
 abbrev pub IsHeld : ℕ → ℕ → Bool → ℕ → Spelled → Type 0
-IsHeld v base u n (spellings.Constant c) = (v < 2 ^ 64) × (c.value ≡ v) × (c.decimal ≡ (base == 10)) × (c.unsigned ≡ u) × (c.longs ≡ n) × IsSome (constant_type c)
-IsHeld v base u n spellings.TooWide = (c : Constant) → v < 2 ^ 64 → c.value ≡ v → c.decimal ≡ (base == 10) → c.unsigned ≡ u → c.longs ≡ n → IsSome (constant_type c) → ⊥
+IsHeld v base u n (spellings.Constant c) =
+    (v < 2 ^ 64) × (c.value ≡ v) × (c.decimal ≡ (base == 10)) × (c.unsigned ≡ u) × (c.longs ≡ n) × IsSome (constant_type c)
+IsHeld v base u n spellings.TooWide =
+    (c : Constant) → v < 2 ^ 64 → c.value ≡ v → c.decimal ≡ (base == 10) → c.unsigned ≡ u → c.longs ≡ n → IsSome (constant_type c) → ⊥
 IsHeld v base u n spellings.NoInteger = ⊥
 
 -- no character of a literal with this quote stands at the front

@@ -1,5 +1,6 @@
 -- How keywords, punctuators, integer constants and literals are spelled (C11 6.4).
-use Rattle.std.specs.Prelude.{◌≡◌, ◌≢◌, ◌⊎◌, ℕ, ◌+◌, ◌-◌, ◌*◌, ◌^◌, ◌<◌, ◌≤◌, ◌==◌, ◌||◌, ℤ, pos, ◌-ℤ◌, if◌then◌else◌, Bool, true, false, List, [], ◌∷◌, ◌++◌, length, drop, take, slice_index, codes, nat_lt, nat_le, Option, Some, None, IsSome}
+use Rattle.std.specs.Prelude.{◌≡◌, ◌≢◌, ◌⊎◌, ℕ, ◌+◌, ◌-◌, ◌*◌, ◌^◌, ◌<◌, ◌≤◌, ◌==◌, ◌||◌, ℤ, pos, ◌-ℤ◌, if◌then◌else◌, Bool, true, false}
+use Rattle.std.specs.Prelude.{List, [], ◌∷◌, ◌++◌, length, drop, take, slice_index, codes, nat_lt, nat_le, Option, Some, None, IsSome}
 use Rattle.c_written.specs.declared.token.Keyword.{Keyword}
 use Rattle.c_written.specs.declared.token.Keyword.TheVariants as keywords
 use Rattle.c_written.specs.declared.token.Punctuator.{Punctuator}
@@ -105,7 +106,13 @@ punctuator_text punctuators.Comma = codes ","
 
 -- the value of a hexadecimal digit (C11 6.4.4.1), and 16 for any other byte
 unfoldable pub digit_value : ℕ → ℕ
-digit_value b = if nat_lt b 48 then 16 else (if nat_lt b 58 then b - 48 else (if nat_lt b 65 then 16 else (if nat_lt b 71 then b - 55 else (if nat_lt b 97 then 16 else (if nat_lt b 103 then b - 87 else 16)))))
+digit_value b =
+    if nat_lt b 48 then 16 else
+    (if nat_lt b 58 then b - 48 else
+    (if nat_lt b 65 then 16 else
+    (if nat_lt b 71 then b - 55 else
+    (if nat_lt b 97 then 16 else
+    (if nat_lt b 103 then b - 87 else 16)))))
 
 -- the digits to this base at the front of a text
 abbrev pub digits_of : ℕ → List ℕ → List ℕ
@@ -213,8 +220,10 @@ pub record IsEscape (s : List ℕ) : Type 0 where
 -- after its quote, from one character on, the text of a literal is these characters up to the last part; an escape that is not allowed has no value
 pub data Reads : ℕ → List ℕ → List (Option ℕ) → List ℕ → Type 0 where
   here : {quote : ℕ} {text : List ℕ} → Reads quote text [] text
-  plain : {quote b : ℕ} {text last : List ℕ} {vs : List (Option ℕ)} → b ≢ quote → b ≢ 92 → b ≢ 10 → Reads quote text vs last → Reads quote (b ∷ text) (Some b ∷ vs) last
-  escape : {quote : ℕ} {text last : List ℕ} {vs : List (Option ℕ)} → IsEscape text → Reads quote (drop (escape_length text) text) vs last → Reads quote (92 ∷ text) (escape_value text ∷ vs) last
+  plain : {quote b : ℕ} {text last : List ℕ} {vs : List (Option ℕ)}
+      → b ≢ quote → b ≢ 92 → b ≢ 10 → Reads quote text vs last → Reads quote (b ∷ text) (Some b ∷ vs) last
+  escape : {quote : ℕ} {text last : List ℕ} {vs : List (Option ℕ)}
+      → IsEscape text → Reads quote (drop (escape_length text) text) vs last → Reads quote (92 ∷ text) (escape_value text ∷ vs) last
 
 -- a literal with this quote and these characters
 abbrev pub IsLiteral : ℕ → List (Option ℕ) → List ℕ → Type 0

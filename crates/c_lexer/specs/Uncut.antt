@@ -8,7 +8,8 @@ use Rattle.c_lexer.specs.declared.reason.Reason.TheVariants as reasons
 use Rattle.c_lexer.specs.declared.cut.LexError.{LexError}
 use Rattle.c_lexer.specs.declared.cut.LexError.TheVariants as errors
 use Rattle.c_lexer.specs.Spelling.{IsInteger, IsConstant, IsEscape, escape_value, Reads, IsLiteral, IsOneCharacter}
-use Rattle.c_lexer.specs.Cut.{IsBlank, IsNumber, HasForm, IsComment, IsLine, IsSplicedAt, IsWhite, BeginsComment, IsLongest, IsPrefix, Front, start_of, moved_of, IsBefore}
+use Rattle.c_lexer.specs.Cut.{IsBlank, IsNumber, HasForm, IsComment, IsLine, IsSplicedAt, IsWhite, BeginsComment, IsLongest, IsPrefix}
+use Rattle.c_lexer.specs.Cut.{Front, start_of, moved_of, IsBefore}
 
 -- what follows is the first of its physical line but for white bytes: each byte before it is white, or has a line end after it
 abbrev pub OpensLine : List ℕ → Type 0
@@ -81,7 +82,7 @@ Refuses before text reasons.Directive n = BeginsDirective before text × (n ≡ 
 Refuses before text reason n = (s : List ℕ) × (rest : List ℕ) × (text ≡ s ++ rest) × IsLongest s rest × IsMalformed s rest reason n
 
 -- a row of the refusals refuses this place
-pub record IsRefused (file : ℕ) (text : List ℕ) (pos : Pos) (reason : Reason) : Type 0 where
+pub record IsRefusedAt (file : ℕ) (text : List ℕ) (pos : Pos) (reason : Reason) : Type 0 where
   pub ts : List Placed
   pub before : List ℕ
   pub rest : List ℕ
@@ -103,9 +104,9 @@ row_of reasons.Directive = 6
 
 -- the first place that is refused, and the first row that refuses it
 pub record IsUncut (file : ℕ) (text : List ℕ) (pos : Pos) (reason : Reason) : Type 0 where
-  pub refused : IsRefused file text pos reason
-  pub first_place : (p : Pos) (r : Reason) → IsRefused file text p r → IsBefore p pos → ⊥
-  pub first_row : (r : Reason) → IsRefused file text pos r → row_of reason ≤ row_of r
+  pub refused : IsRefusedAt file text pos reason
+  pub first_place : (p : Pos) (r : Reason) → IsRefusedAt file text p r → IsBefore p pos → ⊥
+  pub first_row : (r : Reason) → IsRefusedAt file text pos r → row_of reason ≤ row_of r
 
 -- the error that tells of a refusal
 abbrev pub error_at : Reason → Pos → LexError

@@ -120,7 +120,7 @@ fn error_at(reason: Reason, pos: Pos) -> LexError
 }
 
 /// Why a `#` behind these bytes is refused.
-fn hash_reason(before: &[u8]) -> Reason
+pub fn hash_reason(before: &[u8]) -> Reason
     ensures { HashReason before.now result }
 {
     if opens_line(before) {
@@ -159,7 +159,7 @@ pub fn one_uncut()
 {}
 
 /// A text that has a cut has no place that is refused.
-pub fn cut_or_uncut()
+pub fn cut_nor_uncut()
     ensures { (file : ℕ) (text : List ℕ) (v : Tokens) (p : Pos) (r : Reason) → IsCut file text v → IsUncut file text p r → ⊥ }
 {}
 

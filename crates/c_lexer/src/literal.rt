@@ -1,9 +1,9 @@
 // Character constants and string literals.
 
-ghost use Rattle.std.specs.Prelude.{◌≡◌, ◌≢◌, ℕ, ◌+◌, ◌<◌, ◌≤◌, List, [], ◌∷◌, map, length, take, drop, slice_index, Option, MatchOption, IfOk, IsTrue, ◌↔◌, ◌⊎◌};
+ghost use Rattle.std.specs.Prelude.{◌≡◌, ◌≢◌, ℕ, ◌+◌, ◌<◌, ◌≤◌, List, [], ◌∷◌, map, length, take, drop, slice_index, Option, Some, MatchOption, IfOk, IsTrue, ◌↔◌, ◌⊎◌};
 ghost use Rattle.c_lexer.specs.Spelling.{digits_of, byte_of, octal_digits, simple_escape, escape_length, escape_value, char_value, IsEscape, Reads, IsLiteral};
 ghost use Rattle.c_written.specs.declared.token.Token.TheVariants.{Character};
-ghost use Rattle.c_lexer.specs.Uncut.{IsOpenLiteral};
+ghost use Rattle.c_lexer.specs.Uncut.{IsBadEscape, IsOpenLiteral};
 ghost use Rattle.c_lexer.specs.Piece.{Stops, IsCharacter, IsClosedAt, HasCharacters, OneOf};
 
 use crate::digits::{digits_of, value_of};
@@ -165,6 +165,22 @@ pub fn read_characters(alloc: Global, literal: &[u8]) -> Result<Characters, NoMe
         rest = after;
     }
     Ok(Characters::All(values))
+}
+
+/// The place of the first escape of a string literal that is not allowed, where there is one.
+pub fn bad_escape(literal: &[u8]) -> Option<usize>
+    requires { (vs : List (Option ℕ)) × IsLiteral 34 vs literal.now }
+    ensures { MatchOption result ((us : List ℕ) × IsLiteral 34 (map Some us) literal.now) (λ n. (n ≤ length literal.now) × IsBadEscape 34 literal.now n) }
+{
+    let (_, body) = literal.split_at(1);
+    let mut rest = body;
+    while let Some((value, after)) = character(b'"', rest) {
+        if value.is_none() {
+            return Some(literal.len() - rest.len());
+        }
+        rest = after;
+    }
+    None
 }
 
 fn is_quote(text: &[u8]) -> bool

@@ -8,8 +8,8 @@ use crate::comment::{comment_len, line_len, spliced_at};
 use crate::literal::{
     Characters, OneCharacter, character_token, literal_len, read_characters, read_one,
 };
-use crate::mark::punctuator;
 use crate::number::{Spelled, number_len, read_number};
+use crate::punctuation::punctuator;
 use crate::reason::Reason;
 use crate::word::{is_digit, is_letter, is_prefix, word_len, word_token};
 use c_written::{Bytes, Token};
@@ -49,7 +49,7 @@ pub fn is_blank(byte: u8) -> bool
     matches!(byte, b'\t'..=b'\r' | b' ')
 }
 
-fn begins_number(bytes: &[u8]) -> bool
+pub fn begins_number(bytes: &[u8]) -> bool
     requires { 0 < length bytes.now }
     ensures { IsTrue result ↔ BeginsNumber bytes.now }
 {
@@ -70,7 +70,7 @@ fn word(alloc: Global, bytes: &[u8]) -> Result<Piece, NoMemory>
     Ok(Piece::Token(token, n))
 }
 
-fn number(bytes: &[u8]) -> Piece
+pub fn number(bytes: &[u8]) -> Piece
     requires { BeginsNumber bytes.now }
     ensures { IsPiece bytes.now result }
 {
@@ -103,7 +103,7 @@ fn string(alloc: Global, bytes: &[u8]) -> Result<Piece, NoMemory>
 }
 
 /// What is neither a white byte nor a word, a number or a string.
-fn sign(bytes: &[u8]) -> Piece
+pub fn sign(bytes: &[u8]) -> Piece
     requires some { 0 < length bytes.now }
     requires blank { IsBlank (slice_index bytes.now 0) → ⊥ }
     requires word { IsWordByte (slice_index bytes.now 0) → ⊥ }
@@ -115,7 +115,7 @@ fn sign(bytes: &[u8]) -> Piece
         b'\'' => constant(bytes),
         b'\\' => splice(bytes),
         b'#' => Piece::Hash,
-        _ => slash_or_mark(bytes),
+        _ => slash_or_punctuator(bytes),
     }
 }
 
@@ -158,7 +158,7 @@ fn holds(bytes: &[u8], index: usize, byte: u8) -> bool
 }
 
 /// A comment or a punctuator.
-fn slash_or_mark(bytes: &[u8]) -> Piece
+fn slash_or_punctuator(bytes: &[u8]) -> Piece
     requires some { 0 < length bytes.now }
     requires other { IsOther bytes.now }
     ensures { IsPiece bytes.now result }
@@ -168,7 +168,7 @@ fn slash_or_mark(bytes: &[u8]) -> Piece
     } else if bytes[0] == b'/' && holds(bytes, 1, b'/') {
         line(bytes)
     } else {
-        mark(bytes)
+        punctuation(bytes)
     }
 }
 
@@ -198,7 +198,7 @@ fn line(bytes: &[u8]) -> Piece
 }
 
 /// A punctuator, or a byte that begins nothing.
-fn mark(bytes: &[u8]) -> Piece
+fn punctuation(bytes: &[u8]) -> Piece
     requires some { 0 < length bytes.now }
     requires other { IsOther bytes.now }
     requires comment { BeginsComment bytes.now → ⊥ }

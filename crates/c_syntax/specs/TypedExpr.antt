@@ -66,7 +66,8 @@ unfoldable mutual
   texpr_tree (exprs.Step' at time way stride place_box place) = Step at time way stride (tlvalue_tree place)
   texpr_tree (exprs.And' at left_box left right_box right) = And at (texpr_tree left) (texpr_tree right)
   texpr_tree (exprs.Or' at left_box left right_box right) = Or at (texpr_tree left) (texpr_tree right)
-  texpr_tree (exprs.Cond' at ty condition_box condition first_box first second_box second) = Cond at (ctype_tree ty) (texpr_tree condition) (texpr_tree first) (texpr_tree second)
+  texpr_tree (exprs.Cond' at ty condition_box condition first_box first second_box second) =
+      Cond at (ctype_tree ty) (texpr_tree condition) (texpr_tree first) (texpr_tree second)
   texpr_tree (exprs.Comma' at left_box left right_box right) = Comma at (texpr_tree left) (texpr_tree right)
   texpr_tree (exprs.Call' at function ty used args_shape args) = Call at function (ctype_tree ty) used (texpr_rows args)
   texpr_tree (exprs.Any at ty) = Any at ty

@@ -54,7 +54,8 @@ unfoldable mutual
   tstmt_tree (stmts.If' at condition first_box first second_box second) = If at (texpr_tree condition) (tstmt_tree first) (tstmt_tree second)
   tstmt_tree (stmts.While' at condition body_box body) = While at (texpr_tree condition) (tstmt_tree body)
   tstmt_tree (stmts.DoWhile' at body_box body condition) = DoWhile at (tstmt_tree body) (texpr_tree condition)
-  tstmt_tree (stmts.For' at objects head_shape head condition step body_box body) = For at objects (tstmt_rows head) (option_map texpr_tree condition) (option_map texpr_tree step) (tstmt_tree body)
+  tstmt_tree (stmts.For' at objects head_shape head condition step body_box body) =
+      For at objects (tstmt_rows head) (option_map texpr_tree condition) (option_map texpr_tree step) (tstmt_tree body)
   tstmt_tree (stmts.Switch' at value kind objects items_shape items) = Switch at (texpr_tree value) kind objects (tstmt_rows items)
   tstmt_tree (stmts.Break at) = Break at
   tstmt_tree (stmts.Continue at) = Continue at

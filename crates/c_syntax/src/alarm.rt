@@ -7,21 +7,37 @@ use std::marker::Model;
 /// The causes of undefined behaviour, in the order of their numbers, from 1.
 #[derive(Clone, Copy, Debug, PartialEq, Eq)]
 pub enum WrongKind {
+    /// `INT_MAX + 1`
     Overflow,
+    /// `a / 0`
     DivideByZero,
+    /// `INT_MIN / -1`
     Quotient,
+    /// `a << 32`, where `a` is an int.
     ShiftAmount,
+    /// `-1 << 1`, `1 << 31`
     ShiftResult,
+    /// A load of bytes that have no value.
     Indeterminate,
+    /// A load of bytes that are no value of its type, as half of a pointer.
     Fragment,
+    /// `*p`, where `p` is null.
     NullUse,
+    /// `*p`, where what `p` points to has ended.
     Dangling,
+    /// `a + 5`, where `a` has three elements.
     Bounds,
+    /// `a[3]`, where `a` has three elements.
     Access,
+    /// A load of an int at an odd address.
     Alignment,
+    /// A store to a string literal or a const object.
     ReadOnly,
+    /// `p < q`, where they point to two objects.
     Unrelated,
+    /// A use of the value of a call that returned none.
     NoValue,
+    /// An assertion whose operand is 0.
     AssertFailed,
 }
 
@@ -56,19 +72,24 @@ pub struct Pointers {
 /// number is `rem`.
 #[derive(Debug, Drop)]
 pub enum Shown {
+    /// A whole number.
     Number {
         lo: Option<i128>,
         hi: Option<i128>,
         modulus: i128,
         rem: i128,
     },
+    /// One pointer.
     One(Pointers),
+    /// The two pointers of a comparison or a difference.
     Pair(Pointers, Pointers),
+    /// What a load may have met: no value, a value, or neither.
     Marks {
         undef: bool,
         value: bool,
         broken: bool,
     },
+    /// How a call may have ended: with a value, or without.
     Ends {
         value: bool,
         none: bool,
@@ -79,19 +100,28 @@ pub enum Shown {
 /// an object.
 #[derive(Clone, Copy, Debug, PartialEq, Eq)]
 pub enum Spot {
+    /// The null pointer.
     Null,
+    /// Into an object that has ended.
     Dead,
+    /// `&a[1]`, as the number of `a` and 4.
     At(u64, i128),
 }
 
 /// An operand that fails the check of an alarm.
 #[derive(Clone, Copy, Debug, PartialEq, Eq)]
 pub enum Example {
+    /// `2147483648`, of an overflow.
     Number(i128),
+    /// The pointer of an access.
     Point(Spot),
+    /// The two pointers of a comparison or a difference.
     Points(Spot, Spot),
+    /// A byte without a value.
     Undef,
+    /// Bytes that are no value of the type.
     Broken,
+    /// A call that returned no value.
     Nothing,
 }
 
@@ -106,16 +136,19 @@ pub struct Cell {
 /// What is known where an alarm is raised. In an AtMost `sx` and `sy` are 1 or -1.
 #[derive(Debug, Drop)]
 pub enum Fact {
+    /// `lo <= x <= hi`
     Between {
         x: Cell,
         lo: i128,
         hi: i128,
     },
+    /// `x` is `rem` modulo `modulus`.
     Class {
         x: Cell,
         rem: i128,
         modulus: i128,
     },
+    /// `sx * x + sy * y <= bound`
     AtMost {
         sx: i8,
         x: Cell,
@@ -123,6 +156,7 @@ pub enum Fact {
         y: Cell,
         bound: i128,
     },
+    /// The pointer `x` is one of a set.
     PointsTo {
         x: Cell,
         set: Pointers,

@@ -1,4 +1,19 @@
-//! What the layers of Verac speak of: places, types, tokens, trees and alarms.
+//! What the layers of Verac speak of: types, typed programs and alarms, and what is written, whose
+//! names this crate gives too.
+//!
+//! In a typed tree each conversion of C stands as a node, each place knows the type of what stands in
+//! it, and names have become numbers. So whoever runs or analyses a program looks nothing up. Two trees
+//! that mean the same may differ in pointers and capacities. So contracts speak of their *pure trees*:
+//! `texpr_tree` is that of a `TExpr`. A type shares its target, so that a copy of a type of any length
+//! is one step.
+//!
+//! For example, `a + 1` of an int `a` is a `Binary` that adds at int, of a `Load` of the `Var` of `a`, and a
+//! `Const` of 1. Its `ty()` answers int.
+//!
+//! The pure trees stand in `specs/Types.antt`, `TypedExpr.antt`, `TypedStmt.antt` and `Program.antt`; where a
+//! node stands and what type it has in `specs/TypedParts.antt`, which `TExpr::pos`, `TExpr::ty` and the like
+//! promise. Each `copy` promises the tree of its source, and `same_type` tells whether two types have one
+//! tree. How large a tree is stands in `specs/Sizes.antt`, and what an alarm shows in `specs/Admission.antt`.
 #![tactic(auto)]
 
 mod alarm;

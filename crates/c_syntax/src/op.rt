@@ -6,43 +6,81 @@
 /// condition and `Switch` for the value that a `switch` takes.
 #[derive(Clone, Copy, Debug, PartialEq, Eq)]
 pub enum Op {
+    /// `+`
     Plus,
+    /// `-`
     Minus,
+    /// `~`
     Complement,
+    /// `!`
     Not,
+    /// `*`
     Multiply,
+    /// `/`
     Divide,
+    /// `%`
     Remainder,
+    /// `<<`
     ShiftLeft,
+    /// `>>`
     ShiftRight,
+    /// `<`
     Less,
+    /// `>`
     Greater,
+    /// `<=`
     AtMost,
+    /// `>=`
     AtLeast,
+    /// `==`
     Equal,
+    /// `!=`
     Unequal,
+    /// `&`
     BitAnd,
+    /// `^`
     BitXor,
+    /// `|`
     BitOr,
+    /// `&&`
     And,
+    /// `||`
     Or,
+    /// `?:`
     Cond,
+    /// `=`
     Assign,
+    /// `*=`
     AssignMultiply,
+    /// `/=`
     AssignDivide,
+    /// `%=`
     AssignRemainder,
+    /// `+=`
     AssignPlus,
+    /// `-=`
     AssignMinus,
+    /// `<<=`
     AssignShiftLeft,
+    /// `>>=`
     AssignShiftRight,
+    /// `&=`
     AssignBitAnd,
+    /// `^=`
     AssignBitXor,
+    /// `|=`
     AssignBitOr,
+    /// `++`
     Increment,
+    /// `--`
     Decrement,
+    /// `,`
     Comma,
+    /// `.`
     Dot,
+    /// `->`
     Arrow,
+    /// `a[i]`
     Index,
     Call,
     Return,

@@ -5,31 +5,47 @@ use crate::IntType;
 /// An operator on two integers of one type, which is the type of its result.
 #[derive(Clone, Copy, Debug, PartialEq, Eq)]
 pub enum Arithmetic {
+    /// `a * b`
     Multiply,
+    /// `a / b`
     Divide,
+    /// `a % b`
     Remainder,
+    /// `a + b`
     Add,
+    /// `a - b`
     Subtract,
+    /// `a & b`
     BitAnd,
+    /// `a ^ b`
     BitXor,
+    /// `a | b`
     BitOr,
 }
 
 /// The way of a shift.
 #[derive(Clone, Copy, Debug, PartialEq, Eq)]
 pub enum Shift {
+    /// `a << b`
     Left,
+    /// `a >> b`
     Right,
 }
 
 /// An order or an equality.
 #[derive(Clone, Copy, Debug, PartialEq, Eq)]
 pub enum Comparison {
+    /// `a < b`
     Less,
+    /// `a > b`
     Greater,
+    /// `a <= b`
     AtMost,
+    /// `a >= b`
     AtLeast,
+    /// `a == b`
     Equal,
+    /// `a != b`
     Unequal,
 }
 
@@ -37,9 +53,13 @@ pub enum Comparison {
 /// takes an integer or a pointer and gives an int.
 #[derive(Clone, Copy, Debug, PartialEq, Eq)]
 pub enum TUnaryOp {
+    /// `+a`
     Plus(IntType),
+    /// `-a`
     Minus(IntType),
+    /// `~a`
     Complement(IntType),
+    /// `!a`
     Not,
 }
 
@@ -59,6 +79,7 @@ pub enum TBinaryOp {
     PointerPlusInt { element: u64 },
     /// The right operand is the pointer.
     IntPlusPointer { element: u64 },
+    /// `p - 1`
     PointerMinusInt { element: u64 },
     /// How many elements lie between the two, as a long.
     PointerMinusPointer { element: u64 },
@@ -68,7 +89,9 @@ pub enum TBinaryOp {
 /// element of so many bytes.
 #[derive(Clone, Copy, Debug, PartialEq, Eq)]
 pub enum Stride {
+    /// `i++`, where `i` is an int.
     Int(IntType),
+    /// `p++`, where `p` points to elements of so many bytes.
     Element(u64),
 }
 
@@ -76,15 +99,20 @@ pub enum Stride {
 /// old one.
 #[derive(Clone, Copy, Debug, PartialEq, Eq)]
 pub enum StepTime {
+    /// `++a`
     Before,
+    /// `a++`
     After,
 }
 
 /// How the address of a place was written: `*p`, `a[i]` or `p->m`.
 #[derive(Clone, Copy, Debug, PartialEq, Eq)]
 pub enum DerefKind {
+    /// `*p`
     Star,
+    /// `a[i]`
     Index,
+    /// `p->m`
     Arrow,
 }
 

@@ -38,7 +38,9 @@ pub struct TFunction {
 /// of this object.
 #[derive(Clone, Copy, Debug, PartialEq, Eq)]
 pub enum InitByte {
+    /// A byte of a number.
     Num(u8),
+    /// A byte of a pointer.
     Piece { object: u64, offset: i64, k: u8 },
 }
 

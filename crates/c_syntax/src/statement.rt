@@ -14,7 +14,9 @@ use std::marker::Model;
 /// `switch` has below it.
 #[derive(Clone, Copy, Debug, PartialEq, Eq)]
 pub enum BlockKind {
+    /// `{ a = 1; }`
     Written,
+    /// The block round `a = 1;` in `if (b) a = 1;`.
     Added,
 }
 
@@ -40,9 +42,11 @@ pub enum TInit {
 #[cycle(statements)]
 #[derive(Drop)]
 pub enum TStmt {
+    /// `;`
     Empty {
         pos: Pos,
     },
+    /// `f(a);`
     Expr {
         pos: Pos,
         value: TExpr,
@@ -74,11 +78,13 @@ pub enum TStmt {
         then: Box<TStmt>,
         otherwise: Box<TStmt>,
     },
+    /// `while (a) { .. }`
     While {
         pos: Pos,
         condition: TExpr,
         body: Box<TStmt>,
     },
+    /// `do { .. } while (a);`
     DoWhile {
         pos: Pos,
         body: Box<TStmt>,
@@ -103,9 +109,11 @@ pub enum TStmt {
         objects: Numbers,
         items: TStmts,
     },
+    /// `break;`
     Break {
         pos: Pos,
     },
+    /// `continue;`
     Continue {
         pos: Pos,
     },
@@ -114,10 +122,12 @@ pub enum TStmt {
         pos: Pos,
         label: u64,
     },
+    /// `return a;`, `return;`
     Return {
         pos: Pos,
         value: Option<TExpr>,
     },
+    /// `again:`
     Label {
         pos: Pos,
         label: u64,
@@ -127,6 +137,7 @@ pub enum TStmt {
         pos: Pos,
         value: i128,
     },
+    /// `default:`
     Default {
         pos: Pos,
     },

@@ -32,6 +32,7 @@ pub enum TExpr {
         pos: Pos,
         place: Box<TLvalue>,
     },
+    /// `&a`
     AddressOf {
         pos: Pos,
         place: Box<TLvalue>,
@@ -46,11 +47,13 @@ pub enum TExpr {
         pos: Pos,
         place: Box<TLvalue>,
     },
+    /// `-a`
     Unary {
         pos: Pos,
         op: TUnaryOp,
         operand: Box<TExpr>,
     },
+    /// `a + b`
     Binary {
         pos: Pos,
         op: TBinaryOp,
@@ -69,6 +72,7 @@ pub enum TExpr {
         place: Box<TLvalue>,
         value: Box<TExpr>,
     },
+    /// `s = t`, where both are structs.
     AssignStruct {
         pos: Pos,
         extent: Extent,
@@ -91,11 +95,13 @@ pub enum TExpr {
         stride: Stride,
         place: Box<TLvalue>,
     },
+    /// `a && b`
     And {
         pos: Pos,
         left: Box<TExpr>,
         right: Box<TExpr>,
     },
+    /// `a || b`
     Or {
         pos: Pos,
         left: Box<TExpr>,
@@ -109,6 +115,7 @@ pub enum TExpr {
         then: Box<TExpr>,
         otherwise: Box<TExpr>,
     },
+    /// `a, b`
     Comma {
         pos: Pos,
         left: Box<TExpr>,
@@ -128,10 +135,12 @@ pub enum TExpr {
         pos: Pos,
         ty: IntType,
     },
+    /// Goes on only where the operand is not 0.
     Assume {
         pos: Pos,
         operand: Box<TExpr>,
     },
+    /// Goes wrong where the operand is 0.
     Assert {
         pos: Pos,
         operand: Box<TExpr>,

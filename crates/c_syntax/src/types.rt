@@ -12,11 +12,17 @@ use std::rc::Rc;
 #[cycle(types)]
 #[derive(Debug)]
 pub enum CType {
+    /// `void`
     Void,
+    /// `unsigned long`
     Int(IntType),
+    /// `const int *`, whose target is const.
     Pointer(Rc<Target>),
+    /// `int [3]`, of three elements.
     Array(Rc<Target>, u64),
+    /// `struct s`, by its number.
     Struct(u64),
+    /// A function, by its number.
     Function(u64),
 }
 

@@ -5,7 +5,8 @@ use Rattle.c_written.specs.declared.int_type.IntType.TheVariants as types
 use Rattle.c_written.specs.declared.token.Constant.{Constant}
 use Rattle.c_written.specs.Integer.{greatest}
 
--- of a signed type and its unsigned one, those that a constant may have: the unsigned one with the suffix u, the signed one without it, and both without it where the base is 8 or 16
+-- of a signed type and its unsigned one, those that a constant may have: the unsigned one with the suffix u, the signed one
+-- without it, and both without it where the base is 8 or 16
 abbrev pub signed_or_not : Constant → IntType → IntType → List IntType
 signed_or_not c t u = if c.unsigned then u ∷ [] else (if c.decimal then t ∷ [] else t ∷ u ∷ [])
 

@@ -1,7 +1,8 @@
 -- How large a tree is: a node counts one, an item of a list one, and each what it holds. So what stands in a node or a list is smaller than it.
 use Rattle.std.specs.Prelude.{ℕ, ◌+◌, List, [], ◌∷◌, Option, Some, None}
 use Rattle.c_written.specs.Written as written
-use Rattle.c_written.specs.Written.{ExprTree, SpecTree, MemberDeclTree, EnumeratorTree, DeclaratorTree, ParamTree, ExprTrees, SpecTrees, MemberDeclTrees, EnumeratorTrees, DeclaratorTrees, ParamTrees}
+use Rattle.c_written.specs.Written.{ExprTree, SpecTree, MemberDeclTree, EnumeratorTree, DeclaratorTree, ParamTree, ExprTrees, SpecTrees}
+use Rattle.c_written.specs.Written.{MemberDeclTrees, EnumeratorTrees, DeclaratorTrees, ParamTrees}
 use Rattle.c_written.specs.WrittenDecl as decls
 use Rattle.c_written.specs.WrittenDecl.{InitTree, InitTrees, InitDeclaratorTree, DeclTree}
 use Rattle.c_written.specs.WrittenFile as files

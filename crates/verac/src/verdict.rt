@@ -6,7 +6,7 @@ ghost use Rattle.verac.specs.Program.{IsProgram};
 ghost use Rattle.verac.specs.Verdict.{IsRefused};
 
 use c_grammar::{file_nor_refused, one_file, one_refusal};
-use c_lexer::{cut_or_uncut, one_cut, one_uncut};
+use c_lexer::{cut_nor_uncut, one_cut, one_uncut};
 
 /// Bytes are one program at most.
 pub fn one_program()
@@ -22,7 +22,7 @@ pub fn one_verdict()
 {
     one_cut();
     one_uncut();
-    cut_or_uncut();
+    cut_nor_uncut();
     one_refusal();
     file_nor_refused();
 }
@@ -32,7 +32,7 @@ pub fn program_nor_refused()
     ensures { (bytes : List ℕ) (program : ProgramTree) (r : Refusal) → length bytes ≤ 4194304 → IsProgram bytes program → IsRefused bytes r → ⊥ }
 {
     one_cut();
-    cut_or_uncut();
+    cut_nor_uncut();
     one_file();
     file_nor_refused();
 }

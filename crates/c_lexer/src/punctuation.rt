@@ -3,14 +3,14 @@
 ghost use Rattle.std.specs.Prelude.{◌≡◌, ◌≢◌, ℕ, List, [], ◌∷◌, ◌++◌, length, MatchOption};
 ghost use Rattle.c_written.specs.declared.token.Punctuator.{Punctuator};
 ghost use Rattle.c_lexer.specs.Spelling.{punctuator_text};
-ghost use Rattle.c_lexer.specs.Piece.{HasMark, IsLongestMark};
+ghost use Rattle.c_lexer.specs.Piece.{HasPunctuator, IsLongestPunctuator};
 
 use c_written::Punctuator;
 
 /// The longest punctuator at the front, with its length.
 pub fn punctuator(bytes: &[u8]) -> Option<(Punctuator, usize)>
     ensures { MatchOption result ((p : Punctuator) (b : List ℕ) → bytes.now ≡ punctuator_text p ++ b → ⊥)
-        (λ x. IsLongestMark bytes.now x.0 × (x.1 ≡ length (punctuator_text x.0))) }
+        (λ x. IsLongestPunctuator bytes.now x.0 × (x.1 ≡ length (punctuator_text x.0))) }
 {
     if let Some(found) = three(bytes) {
         Some((found, 3))
@@ -24,9 +24,9 @@ pub fn punctuator(bytes: &[u8]) -> Option<(Punctuator, usize)>
 }
 
 /// The punctuator of three bytes at the front.
-#[tactic(auto, using(crate::proofs::MarkLemmas::from_three, crate::proofs::MarkLemmas::no_three, crate::proofs::MarkLemmas::too_short))]
+#[tactic(auto, using(crate::proofs::PunctuatorLemmas::from_three, crate::proofs::PunctuatorLemmas::no_three, crate::proofs::PunctuatorLemmas::too_short))]
 fn three(bytes: &[u8]) -> Option<Punctuator>
-    ensures { MatchOption result ((p : Punctuator) → HasMark bytes.now 3 p → ⊥) (λ p. HasMark bytes.now 3 p) }
+    ensures { MatchOption result ((p : Punctuator) → HasPunctuator bytes.now 3 p → ⊥) (λ p. HasPunctuator bytes.now 3 p) }
 {
     match bytes {
         [first, second, third, ..] => of_three(*first, *second, *third),
@@ -35,9 +35,9 @@ fn three(bytes: &[u8]) -> Option<Punctuator>
 }
 
 /// The punctuator of two bytes at the front.
-#[tactic(auto, using(crate::proofs::MarkLemmas::from_two, crate::proofs::MarkLemmas::no_two, crate::proofs::MarkLemmas::too_short))]
+#[tactic(auto, using(crate::proofs::PunctuatorLemmas::from_two, crate::proofs::PunctuatorLemmas::no_two, crate::proofs::PunctuatorLemmas::too_short))]
 fn two(bytes: &[u8]) -> Option<Punctuator>
-    ensures { MatchOption result ((p : Punctuator) → HasMark bytes.now 2 p → ⊥) (λ p. HasMark bytes.now 2 p) }
+    ensures { MatchOption result ((p : Punctuator) → HasPunctuator bytes.now 2 p → ⊥) (λ p. HasPunctuator bytes.now 2 p) }
 {
     match bytes {
         [first, second, ..] => of_two(*first, *second),
@@ -46,9 +46,9 @@ fn two(bytes: &[u8]) -> Option<Punctuator>
 }
 
 /// The punctuator of one byte at the front.
-#[tactic(auto, using(crate::proofs::MarkLemmas::from_one, crate::proofs::MarkLemmas::no_one, crate::proofs::MarkLemmas::too_short))]
+#[tactic(auto, using(crate::proofs::PunctuatorLemmas::from_one, crate::proofs::PunctuatorLemmas::no_one, crate::proofs::PunctuatorLemmas::too_short))]
 fn one(bytes: &[u8]) -> Option<Punctuator>
-    ensures { MatchOption result ((p : Punctuator) → HasMark bytes.now 1 p → ⊥) (λ p. HasMark bytes.now 1 p) }
+    ensures { MatchOption result ((p : Punctuator) → HasPunctuator bytes.now 1 p → ⊥) (λ p. HasPunctuator bytes.now 1 p) }
 {
     match bytes {
         [first, ..] => of_one(*first),
