@@ -18,11 +18,11 @@ use Rattle.c_written.specs.declared.written.TypeWord.TheVariants as type_words
 use Rattle.c_written.specs.declared.written.UnaryOp.TheVariants as unaries
 use Rattle.c_written.specs.Written.{ExprTree}
 use Rattle.c_written.specs.Written as trees
-use Rattle.c_grammar.specs.Parts.{Scene, Closing, by_semicolon, by_parenthesis, Level, Commas, Ors, Ands, BitOrs, BitXors, BitAnds, Equalities, Relations, Shifts, Sums, Products, Joint, comma, binary, Role, Naming, OfMember, OfParameter, OfTypeName, ExprPart, Run, More, Assignment, Assigned, Conditional, Chosen, Cast, Operand, Unary, Sized, Postfix, Suffixes, Primary, Texts, SpecPart, Spec, Structure, StructureTagged, Enumeration, EnumerationTagged, DeclaratorPart, Declarator, Pointed, Direct, Tails, Size, Parameters, MoreParameters, StmtPart, Statement, Else, DeclPart, Declaration, Declared, Initial, Ending, OuterPart, Outer, OuterDeclared, OuterInitial, Part, AnExpr, ASpec, ADeclarator, AStmt, ADecl, AnOuter, AfterType, Arguments, MoreArguments, Specs, MoreSpecs, Members, MoreMembers, AMember, MoreDeclarators, Enumerators, MoreEnumerators, NextEnumerator, AnEnumerator, EnumeratorValue, Parameter, Initialiser, Initialisers, MoreInitialisers, NextInitialiser, Optionally, ForStart, Items, Item, Outers, Value}
+use Rattle.c_grammar.specs.Parts.{Scene, Closing, by_semicolon, by_parenthesis, by_bracket, by_colon, Level, Commas, Ors, Ands, BitOrs, BitXors, BitAnds, Equalities, Relations, Shifts, Sums, Products, Joint, comma, binary, Role, Naming, OfMember, OfParameter, OfTypeName, ExprPart, Run, More, Assignment, Assigned, Conditional, Chosen, Cast, Operand, Unary, Sized, Postfix, Suffixes, Primary, Texts, SpecPart, Spec, Structure, StructureTagged, Enumeration, EnumerationTagged, DeclaratorPart, Declarator, Pointed, Direct, Tails, Size, GroupEnd, Parameters, MoreParameters, StmtPart, Statement, Else, DeclPart, Declaration, Declared, Initial, Ending, OuterPart, Outer, OuterDeclared, OuterInitial, Part, AnExpr, ASpec, ADeclarator, AStmt, ADecl, AnOuter, Close, MemberName, AfterType, Arguments, MoreArguments, Specs, MoreSpecs, Members, MoreMembers, AMember, MoreDeclarators, Enumerators, MoreEnumerators, NextEnumerator, AnEnumerator, EnumeratorValue, Parameter, Initialiser, Initialisers, MoreInitialisers, NextInitialiser, Optionally, ForStart, Items, Item, Outers, Value}
 use Rattle.c_grammar.specs.Classes.{names_type, level_of}
 use Rattle.c_grammar.specs.Process.{Process}
 use Rattle.c_grammar.specs.Made.{ends_open}
-use Rattle.c_grammar.specs.Ahead.{spec_ahead, type_ahead, label_ahead, is_close}
+use Rattle.c_grammar.specs.Ahead.{spec_ahead, type_ahead, label_ahead, is_close, is_colon}
 use Rattle.c_grammar.specs.ExprRules as exprs
 use Rattle.c_grammar.specs.TypeRules as types
 use Rattle.c_grammar.specs.FileRules as files
@@ -270,6 +270,7 @@ declarator_choice w (Direct r) (t ∷ ts) = direct_choice w r t.token
 declarator_choice w (Tails r is_plain d) [] = this (type_rule types.tails_end)
 declarator_choice w (Tails r is_plain d) (t ∷ ts) = tails_choice w r is_plain d t.token
 declarator_choice w (Size r at d) ts = if first_is is_right_bracket ts then this (type_rule types.no_size) else this (type_rule types.size)
+declarator_choice w (GroupEnd d) ts = this (type_rule types.group_end)
 declarator_choice w (Parameters at d) ts = if first_is is_close ts then this (type_rule types.no_parameters) else this (type_rule types.parameters)
 declarator_choice w (MoreParameters at d before) ts = if first_is is_close ts then this (type_rule types.parameters_end) else this (type_rule types.parameters_more)
 
@@ -329,6 +330,8 @@ outer_choice w (OuterInitial s d) ts = if first_is is_brace ts then this (file_r
 abbrev pub is_closing : Closing → Token → Bool
 is_closing by_semicolon t = is_semicolon t
 is_closing by_parenthesis t = is_close t
+is_closing by_bracket t = is_right_bracket t
+is_closing by_colon t = is_colon t
 
 -- what the descent goes on with
 abbrev pub choose : (w : Scene) (p : Part) → List Placed → Option (ARule w p)
@@ -338,6 +341,8 @@ choose w (ADeclarator p) ts = declarator_choice w p ts
 choose w (AStmt p) ts = stmt_choice w p ts
 choose w (ADecl p) ts = decl_choice w p ts
 choose w (AnOuter p) ts = outer_choice w p ts
+choose w (Close p) ts = this (expr_rule exprs.closes)
+choose w MemberName ts = this (expr_rule exprs.member_name)
 choose w AfterType ts = this (expr_rule exprs.after_type)
 choose w Arguments ts = if first_is is_close ts then this (expr_rule exprs.no_arguments) else this (expr_rule exprs.arguments)
 choose w (MoreArguments before) ts = if first_is is_close ts then this (expr_rule exprs.arguments_end) else this (expr_rule exprs.arguments_more)

@@ -95,6 +95,10 @@ may_omit OfMember = false
 may_omit OfParameter = true
 may_omit OfTypeName = true
 
+abbrev pub may_name : Role → Bool
+may_name OfTypeName = false
+may_name _ = true
+
 abbrev pub in_member : Role → Bool
 in_member OfMember = true
 in_member _ = false
@@ -107,7 +111,7 @@ expr_construct w _ ts = None
 
 -- the construct of a declarator's part that the first token bears
 abbrev pub declarator_construct : Scene → DeclaratorPart → List Placed → Option Construct
-declarator_construct w (Declarator r) ts = where_true (first_is (is_type_name w) ts) constructs.TypedefAgain
+declarator_construct w (Declarator r) ts = where_true (first_is (is_type_name w) ts && may_name r) constructs.TypedefAgain
 declarator_construct w (Direct r) ts = where_true (may_omit r && params_ahead w ts) constructs.FunctionPointer
 declarator_construct w (Tails r is_plain d) ts = where_true (first_is is_open ts && (not is_plain && is_given d)) constructs.FunctionPointer
 declarator_construct w (Size r at d) ts = where_true (first_is is_right_bracket ts && in_member r) constructs.FlexibleArray

@@ -8,7 +8,7 @@ use Rattle.c_written.specs.declared.written.Tag.{Tag}
 use Rattle.c_written.specs.declared.written.TypeWord.{TypeWord}
 use Rattle.c_written.specs.Written.{SpecTree, SpecTrees, no_specs, more_specs, specs_then, DeclaratorTree, Absent, DeclaratorTrees, no_declarators, more_declarators, declarators_then, MemberDeclTree, MemberDeclTrees, no_members, more_members, memberdecls_then, EnumeratorTree, EnumeratorTrees, no_enumerators, more_enumerators, enumerators_then, ParamTree, ParamTrees, no_params, more_params, params_then}
 use Rattle.c_written.specs.Written as trees
-use Rattle.c_grammar.specs.Parts.{Scene, Role, Naming, OfMember, OfParameter, OfTypeName, Conditional, Spec, Structure, StructureTagged, Enumeration, EnumerationTagged, Declarator, Pointed, Direct, Tails, Size, Parameters, MoreParameters, Part, AnExpr, ASpec, ADeclarator, Specs, MoreSpecs, Members, MoreMembers, AMember, MoreDeclarators, Enumerators, MoreEnumerators, NextEnumerator, AnEnumerator, EnumeratorValue, Parameter, Value}
+use Rattle.c_grammar.specs.Parts.{Scene, Role, Naming, OfMember, OfParameter, OfTypeName, Conditional, Spec, Structure, StructureTagged, Enumeration, EnumerationTagged, Declarator, Pointed, Direct, Tails, Size, GroupEnd, Parameters, MoreParameters, Part, AnExpr, ASpec, ADeclarator, Specs, MoreSpecs, Members, MoreMembers, AMember, MoreDeclarators, Enumerators, MoreEnumerators, NextEnumerator, AnEnumerator, EnumeratorValue, Parameter, Value}
 use Rattle.c_grammar.specs.Classes.{keyword, sign, word, any_word, type_name, name_of, storage_word, type_word}
 use Rattle.c_grammar.specs.Process.{Process, give, token, part, only}
 use Rattle.c_grammar.specs.Made.{specs_pos, is_given, param_of, function_of}
@@ -66,7 +66,8 @@ pub data TypeRule : Scene → (p : Part) → Process (Value p) → Type 0 where
   pointed : {w : Scene} {r : Role} {at : Pos} {is_const : Bool} → TypeRule w (ADeclarator (Pointed r at is_const)) (part 0 w (ADeclarator (Declarator r)) (λ inner. give (trees.Pointer at is_const inner)))
   direct : {w : Scene} {r : Role} → TypeRule w (ADeclarator (Declarator r)) (part 0 w (ADeclarator (Direct r)) give)
   declared_name : {w : Scene} {r : Role} → MayName r → TypeRule w (ADeclarator (Direct r)) (token 0 word (λ t. part 0 w (ADeclarator (Tails r true (trees.Name t.pos (name_of t.token)))) give))
-  grouped : {w : Scene} {r : Role} → TypeRule w (ADeclarator (Direct r)) (token 1 (sign signs.LeftParenthesis) (λ t. part 1 w (ADeclarator (Declarator r)) (λ inner. only (λ rest. is_given inner) (token 0 (sign signs.RightParenthesis) (λ close. part 0 w (ADeclarator (Tails r false (trees.Grouped t.pos inner))) give)))))
+  grouped : {w : Scene} {r : Role} → TypeRule w (ADeclarator (Direct r)) (token 1 (sign signs.LeftParenthesis) (λ t. part 1 w (ADeclarator (Declarator r)) (λ inner. part 1 w (ADeclarator (GroupEnd inner)) (λ whole. part 0 w (ADeclarator (Tails r false (trees.Grouped t.pos whole))) give))))
+  group_end : {w : Scene} {inner : DeclaratorTree} → TypeRule w (ADeclarator (GroupEnd inner)) (only (λ rest. is_given inner) (token 0 (sign signs.RightParenthesis) (λ t. give inner)))
   no_name : {w : Scene} {r : Role} → MayOmit r → TypeRule w (ADeclarator (Direct r)) (only (no_group_ahead w) (part 0 w (ADeclarator (Tails r false Absent)) give))
   tails_end : {w : Scene} {r : Role} {is_plain : Bool} {d : DeclaratorTree} → TypeRule w (ADeclarator (Tails r is_plain d)) (give d)
   array : {w : Scene} {r : Role} {is_plain : Bool} {d : DeclaratorTree} → TypeRule w (ADeclarator (Tails r is_plain d)) (token 1 (sign signs.LeftBracket) (λ t. part 1 w (ADeclarator (Size r t.pos d)) (λ inner. part 0 w (ADeclarator (Tails r false inner)) give)))
