@@ -223,10 +223,12 @@ spec_choice w Spec [] = None
 spec_choice w Spec (t ∷ ts) = spec_token_choice w t.token
 spec_choice w (Structure at) [] = None
 spec_choice w (Structure at) (t ∷ ts) = structure_choice w at t.token
-spec_choice w (StructureTagged at tag) ts = if first_is is_brace ts then this (type_rule types.structure_tagged_body) else this (type_rule types.structure_named)
+spec_choice w (StructureTagged at tag) ts =
+    if first_is is_brace ts then this (type_rule types.structure_tagged_body) else this (type_rule types.structure_named)
 spec_choice w (Enumeration at) [] = None
 spec_choice w (Enumeration at) (t ∷ ts) = enumeration_choice w at t.token
-spec_choice w (EnumerationTagged at tag) ts = if first_is is_brace ts then this (type_rule types.enumeration_tagged_body) else this (type_rule types.enumeration_named)
+spec_choice w (EnumerationTagged at tag) ts =
+    if first_is is_brace ts then this (type_rule types.enumeration_tagged_body) else this (type_rule types.enumeration_named)
 
 abbrev pub is_star : Token → Bool
 is_star (kinds.Punctuator signs.Star) = true
@@ -272,7 +274,8 @@ declarator_choice w (Tails r is_plain d) (t ∷ ts) = tails_choice w r is_plain 
 declarator_choice w (Size r at d) ts = if first_is is_right_bracket ts then this (type_rule types.no_size) else this (type_rule types.size)
 declarator_choice w (GroupEnd d) ts = this (type_rule types.group_end)
 declarator_choice w (Parameters at d) ts = if first_is is_close ts then this (type_rule types.no_parameters) else this (type_rule types.parameters)
-declarator_choice w (MoreParameters at d before) ts = if first_is is_close ts then this (type_rule types.parameters_end) else this (type_rule types.parameters_more)
+declarator_choice w (MoreParameters at d before) ts =
+    if first_is is_close ts then this (type_rule types.parameters_end) else this (type_rule types.parameters_more)
 
 abbrev pub statement_word_choice : (w : Scene) (b : Bool) → Keyword → Option (ARule w (AStmt (Statement b)))
 statement_word_choice w b keywords.Case = this (file_rule files.case)
@@ -301,7 +304,8 @@ is_else_word _ = false
 abbrev pub stmt_choice : (w : Scene) (p : StmtPart) → List Placed → Option (ARule w (AStmt p))
 stmt_choice w (Statement b) [] = this (file_rule files.expression)
 stmt_choice w (Statement b) (t ∷ ts) = if label_ahead w (t ∷ ts) then this (file_rule files.label) else statement_choice w b t.token
-stmt_choice w (Else at condition first) ts = if first_is is_else_word ts && not (ends_open first) then this (file_rule files.with_else) else this (file_rule files.no_else)
+stmt_choice w (Else at condition first) ts =
+    if first_is is_else_word ts && not (ends_open first) then this (file_rule files.with_else) else this (file_rule files.no_else)
 
 abbrev pub is_semicolon : Token → Bool
 is_semicolon (kinds.Punctuator signs.Semicolon) = true
@@ -354,16 +358,20 @@ choose w AMember ts = this (type_rule types.member)
 choose w (MoreDeclarators s before) ts = if first_is is_semicolon ts then this (type_rule types.declarators_end) else this (type_rule types.declarators_more)
 choose w Enumerators ts = this (type_rule types.enumerators)
 choose w (MoreEnumerators before) ts = if first_is is_right_brace ts then this (type_rule types.enumerators_end) else this (type_rule types.enumerators_more)
-choose w (NextEnumerator before) ts = if first_is is_right_brace ts then this (type_rule types.enumerators_comma_end) else this (type_rule types.enumerators_next)
+choose w (NextEnumerator before) ts =
+    if first_is is_right_brace ts then this (type_rule types.enumerators_comma_end) else this (type_rule types.enumerators_next)
 choose w AnEnumerator ts = this (type_rule types.enumerator)
 choose w (EnumeratorValue at name) ts = if first_is is_assign ts then this (type_rule types.enumerator_valued) else this (type_rule types.enumerator_plain)
 choose w Parameter ts = this (type_rule types.parameter)
 choose w Initialiser ts = if first_is is_brace ts then this (file_rule files.braces) else this (file_rule files.value)
 choose w Initialisers ts = this (file_rule files.initialisers)
 choose w (MoreInitialisers before) ts = if first_is is_right_brace ts then this (file_rule files.initialisers_end) else this (file_rule files.initialisers_more)
-choose w (NextInitialiser before) ts = if first_is is_right_brace ts then this (file_rule files.initialisers_comma_end) else this (file_rule files.initialisers_next)
+choose w (NextInitialiser before) ts =
+    if first_is is_right_brace ts then this (file_rule files.initialisers_comma_end) else this (file_rule files.initialisers_next)
 choose w (Optionally p) ts = if first_is (is_closing p) ts then this (expr_rule exprs.nothing_before) else this (expr_rule exprs.something_before)
-choose w ForStart ts = if first_is is_semicolon ts then this (file_rule files.for_nothing) else (if spec_ahead w ts then this (file_rule files.for_declares) else this (file_rule files.for_value))
+choose w ForStart ts =
+    if first_is is_semicolon ts then this (file_rule files.for_nothing)
+    else (if spec_ahead w ts then this (file_rule files.for_declares) else this (file_rule files.for_value))
 choose w (Items before) ts = if first_is is_right_brace ts then this (file_rule files.items_end) else this (file_rule files.items_more)
 choose w Item ts = if spec_ahead w ts then this (file_rule files.item_declares) else this (file_rule files.item_does)
 choose w (Outers before) [] = this (file_rule files.file_end)
