@@ -469,7 +469,7 @@ fn repeated(
     Ok(text)
 }
 
-const DEEP: [(&str, &str, usize, &str, &str, &str, &str); 27] = [
+const DEEP: [(&str, &str, usize, &str, &str, &str, &str); 28] = [
     (
         "int main(void){return ",
         "(",
@@ -480,6 +480,15 @@ const DEEP: [(&str, &str, usize, &str, &str, &str, &str); 27] = [
         "a.c:1:222: refused: nesting above 200",
     ),
     ("int main(void){return ", "(", 199, "0", ")", ";}", ""),
+    (
+        "int main(void){return ",
+        "(",
+        199,
+        "x{",
+        "",
+        "",
+        "a.c:1:223: refused: nesting above 200",
+    ),
     (
         "int main(void){return ",
         "(",
@@ -651,28 +660,33 @@ const OVER: [(&str, usize); 8] = [
 ];
 
 // The row, if there is one, whose bracket is not refused for this where so many forms are unfinished before it.
-fn differs<'a>(
+fn differs(
     alloc: Global,
-    rows: &[(&'a str, usize)],
+    rows: &[(&str, usize)],
     forms: usize,
     what: &str,
-) -> Result<&'a str, Fail> {
+) -> Result<String, Fail> {
     for (end, own) in rows {
-        let text = repeated(alloc, "void f(void)", "{", forms - *own, end, "", "")?;
+        let blocks = forms.saturating_sub(*own);
+        let text = repeated(alloc, "void f(void)", "{", blocks, end, "", "")?;
         let wanted = format!(in alloc; "a.c:1:{}: refused: {what}", text.len())?;
-        if line(alloc, text.as_bytes())?.as_str() != wanted.as_str() {
-            return Ok(end);
+        let found = line(alloc, text.as_bytes())?;
+        if found.as_str() != wanted.as_str() {
+            return Ok(String::from_str(alloc, end)?);
         }
     }
-    Ok("")
+    Ok(String::new(alloc))
 }
 
 #[test]
 fn untaken(rt: HostRuntime) -> Result<(), Fail> {
     let alloc = rt.alloc();
-    assert_eq!(rt; differs(alloc, &UNTAKEN, 200, "nesting above 200")?, "");
-    assert_eq!(rt; differs(alloc, &UNTAKEN, 199, "syntax")?, "");
-    assert_eq!(rt; differs(alloc, &OVER, 199, "syntax")?, "");
+    let deep = differs(alloc, &UNTAKEN, 200, "nesting above 200")?;
+    assert_eq!(rt; deep.as_str(), "");
+    let whole = differs(alloc, &UNTAKEN, 199, "syntax")?;
+    assert_eq!(rt; whole.as_str(), "");
+    let over = differs(alloc, &OVER, 199, "syntax")?;
+    assert_eq!(rt; over.as_str(), "");
     Ok(())
 }
 
