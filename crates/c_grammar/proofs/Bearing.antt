@@ -16,7 +16,7 @@ use Rattle.c_grammar.specs.TypeRules as types
 use Rattle.c_grammar.specs.FileRules.{FileRule}
 use Rattle.c_grammar.specs.FileRules as files
 use Rattle.c_grammar.specs.Grammar.{Produces, expr_rule, type_rule, file_rule, Spells, by}
-use Rattle.c_grammar.specs.Refused.{part_construct, where_true, first_is, is_type_name, may_omit}
+use Rattle.c_grammar.specs.Refused.{part_construct, where_true, first_is, is_type_name, may_name, may_omit}
 use Rattle.c_grammar.proofs.Table.{AtFirst}
 use Rattle.c_grammar.proofs.Sweep.{and_left, and_right}
 use Rattle.c_grammar.proofs.Sets.{class_of, inside_true, not_true}
@@ -132,7 +132,7 @@ open_no_type w (t ∷ ts) h = go t.token (and_left (is_open t.token) (spec_ahead
     go _ h = refl
 
 direct_bears : (w : Scene) (r : Role) (ts : List Placed) → bears_itself w (ADeclarator (Direct r)) ts ≡ true → part_construct w (ADeclarator (Declarator r)) ts ≡ None
-direct_bears w r ts h = ap (λ b. where_true b constructs.TypedefAgain) (open_no_type w ts (and_right (may_omit r) (params_ahead w ts) (where_given (may_omit r && params_ahead w ts) constructs.FunctionPointer h)))
+direct_bears w r ts h = ap (λ b. where_true (b && may_name r) constructs.TypedefAgain) (open_no_type w ts (and_right (may_omit r) (params_ahead w ts) (where_given (may_omit r && params_ahead w ts) constructs.FunctionPointer h)))
 
 nameless_bears : {A : Type 0} (b : Bool) (c : Construct) → is_given_option (where_true (b && false) c) ≡ true → A
 nameless_bears true c h = never h

@@ -9,7 +9,7 @@ use Rattle.c_grammar.specs.Parts.{Setting, AtFile, InBlock, InSwitch, Scene, Lev
 use Rattle.c_grammar.specs.Classes.{Class, keyword, sign, names_type}
 use Rattle.c_grammar.specs.Made.{is_word, has_type, is_given, ends_open}
 use Rattle.c_grammar.specs.Ahead.{is_open, is_colon, is_plain_word, is_spec_word, spec_ahead, close_ahead, params_ahead}
-use Rattle.c_grammar.specs.Refused.{token_construct, keyword_construct, sign_construct, part_construct, where_true, may_omit, in_member, is_brace, begins_designator, is_right_bracket, is_type_name}
+use Rattle.c_grammar.specs.Refused.{token_construct, keyword_construct, sign_construct, part_construct, where_true, may_name, may_omit, in_member, is_brace, begins_designator, is_right_bracket, is_type_name}
 use Rattle.c_grammar.specs.Choice.{is_else_word}
 use Rattle.c_grammar.proofs.Sweep.{and_left, and_right}
 use Rattle.c_grammar.proofs.Sets.{class_of, word_class, inside, inside_true, not_true}
@@ -83,7 +83,7 @@ bears_class w (AnExpr Operand) t ts c e = brace_class w t.token (where_some (is_
 bears_class w (AnExpr (Suffixes base)) t ts c e = open_class w t.token (and_left (is_open t.token) (not (is_word base)) (where_some (is_open t.token && not (is_word base)) _ c e))
 bears_class w (AnExpr Unary) t ts c e = absurd (none_some c e)
 bears_class w (AnExpr _) t ts c e = absurd (none_some c e)
-bears_class w (ADeclarator (Declarator r)) t ts c e = typedef_class w t.token (where_some (is_type_name w t.token) _ c e)
+bears_class w (ADeclarator (Declarator r)) t ts c e = typedef_class w t.token (and_left (is_type_name w t.token) (may_name r) (where_some (is_type_name w t.token && may_name r) _ c e))
 bears_class w (ADeclarator (Direct r)) t ts c e = open_class w t.token (and_left (is_open t.token) (spec_ahead w ts || close_ahead ts) (and_right (may_omit r) (params_ahead w (t ∷ ts)) (where_some (may_omit r && params_ahead w (t ∷ ts)) _ c e)))
 bears_class w (ADeclarator (Tails r is_plain d)) t ts c e = open_class w t.token (and_left (is_open t.token) (not is_plain && is_given d) (where_some (is_open t.token && (not is_plain && is_given d)) _ c e))
 bears_class w (ADeclarator (Size r at d)) t ts c e = bracket_class w t.token (and_left (is_right_bracket t.token) (in_member r) (where_some (is_right_bracket t.token && in_member r) _ c e))

@@ -17,7 +17,7 @@ use Rattle.c_grammar.proofs.Table.{Leads, leads_token, leads_part, leads_behind,
 use Rattle.c_grammar.proofs.Sets.{class_of, same_class, covers, fits_covers, inside, inside_true}
 use Rattle.c_grammar.proofs.Firsts.{firsts, begins, expr_first}
 use Rattle.c_grammar.proofs.Shapes.{operand_full}
-use Rattle.c_grammar.proofs.Own.{never, joint_own, assign_own, unary_own, pre_step_own, post_step_own, closing_own, storage_own, type_word_own}
+use Rattle.c_grammar.proofs.Own.{never, joint_own, assign_own, unary_own, pre_step_own, post_step_own, closing_own, close_own, storage_own, type_word_own}
 
 -- what is left of a production begins in the set
 abbrev pub Enters : {A : Type 0} → Scene → (Class → Bool) → Process A → Type 0
@@ -64,6 +64,7 @@ expr_enters exprs.no_suffix = tt
 expr_enters (exprs.post_step way) = post_step_own way
 expr_enters exprs.arguments = (refl, refl, λ a e. never e)
 expr_enters exprs.texts_end = tt
+expr_enters (exprs.closes {p}) = close_own p
 expr_enters (exprs.nothing_before {p}) = closing_own p
 expr_enters exprs.something_before = (refl, refl, λ a e. never e)
 expr_enters _ = refl
@@ -85,6 +86,7 @@ type_enters types.enumerators_next = (refl, refl, λ a e. never e)
 type_enters types.enumerator_plain = tt
 type_enters types.pointed = (refl, refl, λ a e. tt)
 type_enters types.direct = (refl, refl, λ a e. tt)
+type_enters types.group_end = λ ts i. refl
 type_enters (types.no_name h) = λ ts i. (refl, refl, λ a e. tt)
 type_enters types.tails_end = tt
 type_enters types.size = (refl, refl, λ a e. never e)

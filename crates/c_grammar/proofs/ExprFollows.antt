@@ -1,7 +1,7 @@
 -- What follows the parts of the productions of expressions.
 use Rattle.std.proofs.Common.{◌≡◌, refl, true, not, lit≤}
 use Rattle.c_written.specs.Written.{ExprTree}
-use Rattle.c_grammar.specs.Parts.{Scene, Part, Closing, by_semicolon, by_parenthesis, Level, Commas, Ors, More, AnExpr, Value}
+use Rattle.c_grammar.specs.Parts.{Scene, Part, Closing, by_semicolon, by_parenthesis, by_bracket, by_colon, Level, Commas, Ors, More, AnExpr, Value}
 use Rattle.c_grammar.specs.Classes.{sign, closing_sign}
 use Rattle.c_grammar.specs.Process.{Process}
 use Rattle.c_grammar.specs.Ahead.{is_spec_word}
@@ -32,10 +32,14 @@ run_itself _ = refl
 closing_plain : (p : Closing) → covers (λ c. not (by_token is_bracket c)) (sign (closing_sign p)) ≡ true
 closing_plain by_semicolon = refl
 closing_plain by_parenthesis = refl
+closing_plain by_bracket = refl
+closing_plain by_colon = refl
 
 closing_misses : (p : Closing) → covers (λ c. not (run_nexts Commas c)) (sign (closing_sign p)) ≡ true
 closing_misses by_semicolon = refl
 closing_misses by_parenthesis = refl
+closing_misses by_bracket = refl
+closing_misses by_colon = refl
 
 pub expr_follows : {w : Scene} {p : Part} {q : Process (Value p)} → ExprRule w p q → WellFollowed begins continues w p q
 unfolding is_spec_word
@@ -48,23 +52,23 @@ expr_follows exprs.assigned = nested (lit≤ tt) (λ t f. last refl (λ a. refl)
 expr_follows (exprs.compound op) = nested (lit≤ tt) (λ t f. last refl (λ a. refl))
 expr_follows exprs.conditional = between refl (λ a. (refl, refl, λ b e. tt)) (λ a v. refl) (λ a. lit≤ tt) (λ a. last refl (λ b. refl))
 expr_follows exprs.not_chosen = well_give
-expr_follows exprs.chosen = nested (lit≤ tt) (λ t f. ahead refl (λ a. refl) (λ a. refl) (λ a. tt) (λ a. plain refl (λ c g. last refl (λ b. refl))))
-expr_follows exprs.cast = well_only (nested (lit≤ tt) (λ t f. between refl (λ a. (refl, refl, λ b e. refl)) (λ a v. refl) (λ a. lit≤ tt) (λ a. ahead refl (λ b. refl) (λ b. refl) (λ b. tt) (λ b. plain refl (λ c g. last refl (λ d. refl))))))
+expr_follows exprs.chosen = nested (lit≤ tt) (λ t f. ahead refl (λ a. (refl, refl, λ b e. never e)) (λ a. refl) (λ a. lit≤ tt) (λ a. silent (λ b c. refl) (λ b. lit≤ tt) (λ b. last refl (λ d. refl))))
+expr_follows exprs.cast = well_only (nested (lit≤ tt) (λ t f. between refl (λ a. (refl, refl, λ b e. (refl, refl, λ c g. never g))) (λ a v. refl) (λ a. lit≤ tt) (λ a. ahead refl (λ b. (refl, refl, λ c e. never e)) (λ b. refl) (λ b. lit≤ tt) (λ b. silent (λ c d. refl) (λ c. lit≤ tt) (λ c. last refl (λ d. refl))))))
 expr_follows exprs.no_cast = well_only (last refl (λ a. refl))
 expr_follows exprs.operand_cast = last refl (λ a. refl)
 expr_follows (exprs.unary op) = nested (lit≤ tt) (λ t f. last refl (λ a. refl))
 expr_follows (exprs.pre_step way) = nested (lit≤ tt) (λ t f. last refl (λ a. refl))
 expr_follows exprs.size_of = plain refl (λ t f. last refl (λ a. refl))
-expr_follows exprs.size_of_type = well_only (nested (lit≤ tt) (λ t f. between refl (λ a. (refl, refl, λ b e. refl)) (λ a v. refl) (λ a. lit≤ tt) (λ a. ahead refl (λ b. refl) (λ b. refl) (λ b. tt) (λ b. plain refl (λ c g. last refl (λ d. refl))))))
+expr_follows exprs.size_of_type = well_only (nested (lit≤ tt) (λ t f. between refl (λ a. (refl, refl, λ b e. (refl, refl, λ c g. never g))) (λ a v. refl) (λ a. lit≤ tt) (λ a. ahead refl (λ b. (refl, refl, λ c e. never e)) (λ b. refl) (λ b. lit≤ tt) (λ b. silent (λ c d. refl) (λ c. lit≤ tt) (λ c. last refl (λ d. refl))))))
 expr_follows exprs.size_of_expr = well_only (last refl (λ a. refl))
 expr_follows exprs.after_type = well_give
 expr_follows exprs.no_prefix = last refl (λ a. refl)
 expr_follows exprs.postfix = between refl (λ a. (refl, refl, λ b e. tt)) (λ a v. refl) (λ a. lit≤ tt) (λ a. last refl (λ b. refl))
 expr_follows exprs.no_suffix = well_give
-expr_follows exprs.index = nested (lit≤ tt) (λ t f. ahead refl (λ a. refl) (λ a. refl) (λ a. tt) (λ a. plain refl (λ c g. last refl (λ b. refl))))
+expr_follows exprs.index = nested (lit≤ tt) (λ t f. ahead refl (λ a. (refl, refl, λ b e. never e)) (λ a. refl) (λ a. lit≤ tt) (λ a. silent (λ b c. refl) (λ b. lit≤ tt) (λ b. last refl (λ d. refl))))
 expr_follows exprs.call = nested (lit≤ tt) (λ t f. silent (λ a c. refl) (λ a. lit≤ tt) (λ a. last refl (λ b. refl)))
-expr_follows exprs.dot = plain refl (λ t f. plain refl (λ m g. last refl (λ a. refl)))
-expr_follows exprs.arrow = plain refl (λ t f. plain refl (λ m g. last refl (λ a. refl)))
+expr_follows exprs.dot = plain refl (λ t f. silent (λ a c. refl) (λ a. lit≤ tt) (λ a. last refl (λ b. refl)))
+expr_follows exprs.arrow = plain refl (λ t f. silent (λ a c. refl) (λ a. lit≤ tt) (λ a. last refl (λ b. refl)))
 expr_follows (exprs.post_step way) = nested (lit≤ tt) (λ t f. last refl (λ a. refl))
 expr_follows exprs.no_arguments = plain refl (λ t f. well_give)
 expr_follows exprs.arguments = ahead refl (λ a. (refl, refl, λ b e. never e)) (λ a. refl) (λ a. lit≤ tt) (λ a. closed (λ b c. refl))
@@ -76,6 +80,8 @@ expr_follows exprs.a_character = plain refl (λ t f. well_give)
 expr_follows exprs.a_text = plain refl (λ t f. last refl (λ a. refl))
 expr_follows exprs.texts_end = well_give
 expr_follows exprs.texts_more = plain refl (λ t f. last refl (λ a. refl))
-expr_follows exprs.enclosed = nested (lit≤ tt) (λ t f. ahead refl (λ a. refl) (λ a. refl) (λ a. tt) (λ a. plain refl (λ c g. well_give)))
+expr_follows exprs.enclosed = nested (lit≤ tt) (λ t f. ahead refl (λ a. (refl, refl, λ b e. never e)) (λ a. refl) (λ a. lit≤ tt) (λ a. closed (λ b c. refl)))
+expr_follows (exprs.closes {p}) = plain (closing_plain p) (λ t f. well_give)
+expr_follows exprs.member_name = plain refl (λ t f. well_give)
 expr_follows (exprs.nothing_before {p}) = plain (closing_plain p) (λ t f. well_give)
 expr_follows (exprs.something_before {p}) = ahead refl (λ a. closing_misses p) (λ a. refl) (λ a. tt) (λ a. plain (closing_plain p) (λ t f. well_give))

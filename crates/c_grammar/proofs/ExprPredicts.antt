@@ -11,7 +11,7 @@ use Rattle.c_written.specs.declared.written.AssignOp.TheVariants as assigns
 use Rattle.c_written.specs.declared.written.UnaryOp.{UnaryOp}
 use Rattle.c_written.specs.declared.written.UnaryOp.TheVariants as unaries
 use Rattle.c_written.specs.Written.{ExprTree}
-use Rattle.c_grammar.specs.Parts.{Scene, Closing, by_semicolon, by_parenthesis, Part, Level, Commas, AnExpr, More, Assigned, Suffixes, Unary, Run, Assignment, Optionally, Value}
+use Rattle.c_grammar.specs.Parts.{Scene, Closing, by_semicolon, by_parenthesis, by_bracket, by_colon, Part, Level, Commas, AnExpr, More, Assigned, Suffixes, Unary, Run, Assignment, Optionally, Value}
 use Rattle.c_grammar.specs.Classes.{Fits, word, number, character, text, unary_sign, step_sign, closing_sign, level_of, assign_sign}
 use Rattle.c_grammar.specs.Process.{Process}
 use Rattle.c_grammar.specs.Ahead.{type_ahead}
@@ -23,7 +23,7 @@ use Rattle.c_grammar.proofs.Table.{Leads, IsChoice}
 use Rattle.c_grammar.proofs.Sets.{class_of, not_true}
 use Rattle.c_grammar.proofs.Firsts.{begins, primary_first}
 use Rattle.c_grammar.proofs.Own.{never, joint_read}
-use Rattle.c_grammar.proofs.Led.{led, full_begins, seen, pick, skip, not_close, not_semicolon}
+use Rattle.c_grammar.proofs.Led.{led, full_begins, seen, pick, skip, not_close, not_semicolon, not_right_bracket, not_colon}
 
 same_itself : (a : Level) → same_level a a ≡ Some refl
 same_itself Commas = refl
@@ -78,10 +78,14 @@ texts_read w at before _ h = absurd h
 nothing_read : (w : Scene) (p : Closing) (t : Placed) (ts : List Placed) → t.token ≡ kinds.Punctuator (closing_sign p) → choose w (Optionally p) (t ∷ ts) ≡ this (expr_rule exprs.nothing_before)
 nothing_read w by_semicolon t ts e = seen w (Optionally by_semicolon) t ts e
 nothing_read w by_parenthesis t ts e = seen w (Optionally by_parenthesis) t ts e
+nothing_read w by_bracket t ts e = seen w (Optionally by_bracket) t ts e
+nothing_read w by_colon t ts e = seen w (Optionally by_colon) t ts e
 
 not_closing : (w : Scene) (p : Closing) (t : Token) → begins w (AnExpr (Run Commas)) t ≡ true → is_closing p t ≡ false
 not_closing w by_semicolon t h = not_semicolon (begins w (AnExpr (Run Commas))) refl t h
 not_closing w by_parenthesis t h = not_close (begins w (AnExpr (Run Commas))) refl t h
+not_closing w by_bracket t h = not_right_bracket (begins w (AnExpr (Run Commas))) refl t h
+not_closing w by_colon t h = not_colon (begins w (AnExpr (Run Commas))) refl t h
 
 pub expr_predicts : {w : Scene} {p : Part} {q : Process (Value p)} → ExprRule w p q → (t : Placed) (ts : List Placed) → Leads begins w p q (t ∷ ts) → IsChoice w p (t ∷ ts) q
 expr_predicts exprs.run t ts l = (expr_rule exprs.run, refl)
@@ -113,6 +117,8 @@ expr_predicts (exprs.a_character {w}) t ts l = (expr_rule exprs.a_character, cha
 expr_predicts (exprs.a_text {w}) t ts l = (expr_rule exprs.a_text, text_read w t.token (led l))
 expr_predicts exprs.texts_end t ts l = absurd (led l)
 expr_predicts (exprs.texts_more {w} {at} {before}) t ts l = (expr_rule exprs.texts_more, texts_read w at before t.token (led l))
+expr_predicts exprs.closes t ts l = (expr_rule exprs.closes, refl)
+expr_predicts exprs.member_name t ts l = (expr_rule exprs.member_name, refl)
 expr_predicts (exprs.nothing_before {w} {p}) t ts l = (expr_rule exprs.nothing_before, nothing_read w p t ts (led l))
 expr_predicts (exprs.something_before {w} {p}) t ts l = (expr_rule exprs.something_before, skip _ _ _ (not_closing w p t.token (full_begins refl l)))
 expr_predicts {w} {p} r t ts l = (expr_rule r, seen w p t ts (led l))

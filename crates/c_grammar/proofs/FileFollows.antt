@@ -10,7 +10,7 @@ use Rattle.c_grammar.specs.Classes.{Class}
 use Rattle.c_grammar.specs.Process.{Process, give, part}
 use Rattle.c_grammar.specs.Made.{ends_open}
 use Rattle.c_grammar.specs.Ahead.{is_spec_word}
-use Rattle.c_grammar.specs.FileRules.{FileRule}
+use Rattle.c_grammar.specs.FileRules.{FileRule, substatement}
 use Rattle.c_grammar.specs.FileRules as files
 use Rattle.c_grammar.specs.Grammar.{Derives, by, expr_rule, type_rule, file_rule, Spells}
 use Rattle.c_grammar.specs.Choice.{is_else_word}
@@ -52,8 +52,8 @@ if_quiet : (w : Scene) (b : Bool) (at : Pos) (condition : ExprTree) (first : Stm
 unfolding ends_open
 if_quiet w b at condition first ts v s quiet = behind_whole w (within w) (AStmt (Statement b)) (AStmt (Statement false)) first (trees.If at condition first) ts refl (else_open (ends_open first)) (subst (λ v. Quiet continues w (AStmt (Statement b)) v ts) (sym (spelled (spelled s).2) ∙ else_none (spelled s).1) quiet)
 
-if_follows : {w : Scene} {b : Bool} {at : Pos} {condition : ExprTree} → WellFollowed begins continues w (AStmt (Statement b)) (part 1 (within w) (AStmt (Statement false)) (λ first. part 0 w (AStmt (Else at condition first)) give))
-if_follows {w} {b} {at} {condition} = well_part (λ first. (behind_leads w (within w) (AStmt (Statement b)) (AStmt (Statement false)) first (part 0 w (AStmt (Else at condition first)) give) refl (refl, else_apart (ends_open first), λ v e. tt), if_quiet w b at condition first)) (λ first. lit≤ tt) (λ first. last refl (λ v. else_itself (ends_open v)))
+if_follows : {w : Scene} {b : Bool} {at : Pos} {condition : ExprTree} → WellFollowed begins continues w (AStmt (Statement b)) (substatement (within w) false (λ first. part 0 w (AStmt (Else at condition first)) give))
+if_follows {w} {b} {at} {condition} = well_only (well_part (λ first. (behind_leads w (within w) (AStmt (Statement b)) (AStmt (Statement false)) first (part 0 w (AStmt (Else at condition first)) give) refl (refl, else_apart (ends_open first), λ v e. tt), if_quiet w b at condition first)) (λ first. lit≤ tt) (λ first. last refl (λ v. else_itself (ends_open v))))
 
 pub file_follows : {w : Scene} {p : Part} {q : Process (Value p)} → FileRule w p q → WellFollowed begins continues w p q
 unfolding is_spec_word ends_open
@@ -71,19 +71,19 @@ file_follows files.not_initialised = closed (λ b c. refl)
 file_follows files.initialised = plain refl (λ t f. ahead refl (λ i. (refl, refl, λ b e. never e)) (λ i. refl) (λ i. lit≤ tt) (λ i. closed (λ b c. refl)))
 file_follows files.declaration_end = plain refl (λ t f. well_give)
 file_follows files.declaration_more = plain refl (λ t f. ahead refl (λ d. (refl, refl, λ b e. never e)) (λ d. refl) (λ d. lit≤ tt) (λ d. closed (λ b c. refl)))
-file_follows files.label = well_only (plain refl (λ t f. plain refl (λ c g. last refl (λ body. else_itself (ends_open body)))))
-file_follows files.case = plain refl (λ t f. ahead refl (λ v. refl) (λ v. refl) (λ v. tt) (λ v. plain refl (λ c g. last refl (λ body. else_itself (ends_open body)))))
-file_follows files.otherwise = plain refl (λ t f. plain refl (λ c g. last refl (λ body. else_itself (ends_open body))))
+file_follows files.label = well_only (plain refl (λ t f. plain refl (λ c g. well_only (last refl (λ body. else_itself (ends_open body))))))
+file_follows files.case = plain refl (λ t f. ahead refl (λ v. refl) (λ v. refl) (λ v. tt) (λ v. plain refl (λ c g. well_only (last refl (λ body. else_itself (ends_open body))))))
+file_follows files.otherwise = plain refl (λ t f. plain refl (λ c g. well_only (last refl (λ body. else_itself (ends_open body)))))
 file_follows files.block = nested (lit≤ tt) (λ t f. closed (λ a c. refl))
 file_follows files.empty = plain refl (λ t f. well_give)
 file_follows files.expression = well_only (ahead refl (λ v. refl) (λ v. refl) (λ v. tt) (λ v. plain refl (λ t f. well_give)))
-file_follows files.conditional_statement = plain refl (λ t f. nested (lit≤ tt) (λ o g. ahead refl (λ v. refl) (λ v. refl) (λ v. tt) (λ v. plain refl (λ c h. if_follows))))
+file_follows files.conditional_statement = plain refl (λ t f. nested (lit≤ tt) (λ o g. ahead refl (λ v. (refl, refl, λ x e. never e)) (λ v. refl) (λ v. lit≤ tt) (λ v. silent (λ c d. refl) (λ c. lit≤ tt) (λ c. if_follows))))
 file_follows files.no_else = well_give
-file_follows files.with_else = well_only (plain refl (λ t f. last refl (λ body. else_itself (ends_open body))))
-file_follows files.choice = plain refl (λ t f. nested (lit≤ tt) (λ o g. ahead refl (λ v. refl) (λ v. refl) (λ v. tt) (λ v. plain refl (λ c h. last refl (λ body. else_itself (ends_open body))))))
-file_follows files.while_loop = plain refl (λ t f. nested (lit≤ tt) (λ o g. ahead refl (λ v. refl) (λ v. refl) (λ v. tt) (λ v. plain refl (λ c h. last refl (λ body. else_itself (ends_open body))))))
-file_follows files.do_loop = plain refl (λ t f. ahead refl (λ body. refl) (λ body. refl) (λ body. tt) (λ body. plain refl (λ l g. nested (lit≤ tt) (λ o h. ahead refl (λ v. refl) (λ v. refl) (λ v. tt) (λ v. plain refl (λ c i. plain refl (λ e j. well_give)))))))
-file_follows files.for_loop = plain refl (λ t f. nested (lit≤ tt) (λ o g. silent (λ a c. refl) (λ a. lit≤ tt) (λ a. silent (λ b c. refl) (λ b. lit≤ tt) (λ b. silent (λ d c. refl) (λ d. lit≤ tt) (λ d. last refl (λ body. else_itself (ends_open body)))))))
+file_follows files.with_else = well_only (plain refl (λ t f. well_only (last refl (λ body. else_itself (ends_open body)))))
+file_follows files.choice = plain refl (λ t f. nested (lit≤ tt) (λ o g. ahead refl (λ v. (refl, refl, λ x e. never e)) (λ v. refl) (λ v. lit≤ tt) (λ v. silent (λ c d. refl) (λ c. lit≤ tt) (λ c. well_only (last refl (λ body. else_itself (ends_open body)))))))
+file_follows files.while_loop = plain refl (λ t f. nested (lit≤ tt) (λ o g. ahead refl (λ v. (refl, refl, λ x e. never e)) (λ v. refl) (λ v. lit≤ tt) (λ v. silent (λ c d. refl) (λ c. lit≤ tt) (λ c. well_only (last refl (λ body. else_itself (ends_open body)))))))
+file_follows files.do_loop = plain refl (λ t f. well_only (ahead refl (λ body. refl) (λ body. refl) (λ body. tt) (λ body. plain refl (λ l g. nested (lit≤ tt) (λ o h. ahead refl (λ v. (refl, refl, λ x e. never e)) (λ v. refl) (λ v. lit≤ tt) (λ v. silent (λ c d. refl) (λ c. tt) (λ c. plain refl (λ e j. well_give))))))))
+file_follows files.for_loop = plain refl (λ t f. nested (lit≤ tt) (λ o g. silent (λ a c. refl) (λ a. lit≤ tt) (λ a. silent (λ b c. refl) (λ b. lit≤ tt) (λ b. silent (λ d c. refl) (λ d. lit≤ tt) (λ d. well_only (last refl (λ body. else_itself (ends_open body))))))))
 file_follows files.jump = plain refl (λ t f. plain refl (λ n g. plain refl (λ e h. well_give)))
 file_follows files.next_turn = plain refl (λ t f. plain refl (λ e g. well_give))
 file_follows files.leave = plain refl (λ t f. plain refl (λ e g. well_give))

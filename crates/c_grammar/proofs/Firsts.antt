@@ -6,7 +6,7 @@ use Rattle.c_written.specs.declared.token.Punctuator.{Punctuator}
 use Rattle.c_written.specs.declared.token.Punctuator.TheVariants as signs
 use Rattle.c_written.specs.declared.token.Token.{Token}
 use Rattle.c_written.specs.declared.token.Token.TheVariants as kinds
-use Rattle.c_grammar.specs.Parts.{Level, Commas, Ors, Ands, BitOrs, BitXors, BitAnds, Equalities, Relations, Shifts, Sums, Products, Joint, ExprPart, Run, More, Assignment, Assigned, Conditional, Chosen, Cast, Operand, Unary, Sized, Postfix, Suffixes, Primary, Texts, SpecPart, Spec, Structure, StructureTagged, Enumeration, EnumerationTagged, DeclaratorPart, Declarator, Pointed, Direct, Tails, Size, Parameters, MoreParameters, StmtPart, Statement, Else, DeclPart, Declaration, Declared, Initial, Ending, OuterPart, Outer, OuterDeclared, OuterInitial, Part, AnExpr, ASpec, ADeclarator, AStmt, ADecl, AnOuter, AfterType, Arguments, MoreArguments, Specs, MoreSpecs, Members, MoreMembers, AMember, MoreDeclarators, Enumerators, MoreEnumerators, NextEnumerator, AnEnumerator, EnumeratorValue, Parameter, Initialiser, Initialisers, MoreInitialisers, NextInitialiser, Optionally, ForStart, Items, Item, Outers, Value}
+use Rattle.c_grammar.specs.Parts.{Level, Commas, Ors, Ands, BitOrs, BitXors, BitAnds, Equalities, Relations, Shifts, Sums, Products, Joint, ExprPart, Run, More, Assignment, Assigned, Conditional, Chosen, Cast, Operand, Unary, Sized, Postfix, Suffixes, Primary, Texts, SpecPart, Spec, Structure, StructureTagged, Enumeration, EnumerationTagged, DeclaratorPart, Declarator, Pointed, Direct, Tails, Size, GroupEnd, Parameters, MoreParameters, StmtPart, Statement, Else, DeclPart, Declaration, Declared, Initial, Ending, OuterPart, Outer, OuterDeclared, OuterInitial, Part, AnExpr, ASpec, ADeclarator, AStmt, ADecl, AnOuter, Close, MemberName, AfterType, Arguments, MoreArguments, Specs, MoreSpecs, Members, MoreMembers, AMember, MoreDeclarators, Enumerators, MoreEnumerators, NextEnumerator, AnEnumerator, EnumeratorValue, Parameter, Initialiser, Initialisers, MoreInitialisers, NextInitialiser, Optionally, ForStart, Items, Item, Outers, Value}
 use Rattle.c_grammar.specs.Classes.{Class, keyword, sign, word, type_name, number, character, text, level_of}
 use Rattle.c_grammar.specs.Made.{ends_open}
 use Rattle.c_grammar.specs.Ahead.{is_spec_word, is_close, is_colon}
@@ -195,6 +195,7 @@ declarator_firsts (Pointed r at is_const) c = declarator_first c || by_token is_
 declarator_firsts (Direct r) c = direct_first c
 declarator_firsts (Tails r is_plain d) c = by_sign is_tail c
 declarator_firsts (Size r at d) c = expr_first c || by_token is_right_bracket c
+declarator_firsts (GroupEnd d) c = by_token is_close c
 declarator_firsts (Parameters at d) c = parameter_first c || by_token is_close c
 declarator_firsts (MoreParameters at d before) c = separates is_close c
 
@@ -224,6 +225,8 @@ firsts (ADeclarator p) c = declarator_firsts p c
 firsts (AStmt p) c = stmt_firsts p c
 firsts (ADecl p) c = decl_firsts p c
 firsts (AnOuter p) c = outer_firsts p c
+firsts (Close p) c = by_token (is_closing p) c
+firsts MemberName c = is_plain c || is_typedef_name c
 firsts AfterType c = by_token is_brace c
 firsts Arguments c = expr_first c || by_token is_close c
 firsts (MoreArguments before) c = separates is_close c
@@ -304,6 +307,7 @@ declarator_nexts (Pointed r at is_const) c = declarator_next c
 declarator_nexts (Direct r) c = direct_next c
 declarator_nexts (Tails r is_plain d) c = by_sign is_tail c
 declarator_nexts (Size r at d) c = false
+declarator_nexts (GroupEnd d) c = false
 declarator_nexts (Parameters at d) c = false
 declarator_nexts (MoreParameters at d before) c = false
 
@@ -315,6 +319,8 @@ nexts (ADeclarator p) v c = declarator_nexts p c
 nexts (AStmt p) v c = by_token is_else_word c && ends_open v
 nexts (ADecl p) v c = false
 nexts (AnOuter p) v c = false
+nexts (Close p) v c = false
+nexts MemberName v c = false
 nexts AfterType v c = by_token is_brace c
 nexts Arguments v c = false
 nexts (MoreArguments before) v c = false

@@ -8,7 +8,7 @@ use Rattle.c_written.specs.declared.token.Token.TheVariants as kinds
 use Rattle.c_grammar.specs.Parts.{Scene, Part, Value}
 use Rattle.c_grammar.specs.Classes.{Fits}
 use Rattle.c_grammar.specs.Process.{Process, give, token, part, only}
-use Rattle.c_grammar.specs.Ahead.{begins_spec, is_close}
+use Rattle.c_grammar.specs.Ahead.{begins_spec, is_close, is_colon}
 use Rattle.c_grammar.specs.Refused.{may_be_empty, is_brace, is_right_bracket}
 use Rattle.c_grammar.specs.Choice.{choose, is_star, is_const_word, is_semicolon, is_assign, is_right_brace}
 use Rattle.c_grammar.proofs.Table.{Leads, leads_token, leads_part, leads_behind, leads_only}
@@ -97,6 +97,10 @@ not_right_bracket f e _ h = refl
 pub not_star : (f : Token → Bool) → f (kinds.Punctuator signs.Star) ≡ false → (t : Token) → f t ≡ true → is_star t ≡ false
 not_star f e (kinds.Punctuator signs.Star) h = absurd (true≢false (sym h ∙ e))
 not_star f e _ h = refl
+
+pub not_colon : (f : Token → Bool) → f (kinds.Punctuator signs.Colon) ≡ false → (t : Token) → f t ≡ true → is_colon t ≡ false
+not_colon f e (kinds.Punctuator signs.Colon) h = absurd (true≢false (sym h ∙ e))
+not_colon f e _ h = refl
 
 pub not_semicolon : (f : Token → Bool) → f (kinds.Punctuator signs.Semicolon) ≡ false → (t : Token) → f t ≡ true → is_semicolon t ≡ false
 not_semicolon f e (kinds.Punctuator signs.Semicolon) h = absurd (true≢false (sym h ∙ e))

@@ -11,7 +11,7 @@ use Rattle.c_written.specs.declared.written.TypeWord.{TypeWord}
 use Rattle.c_written.specs.declared.written.TypeWord.TheVariants as type_words
 use Rattle.c_written.specs.declared.written.UnaryOp.{UnaryOp}
 use Rattle.c_written.specs.declared.written.UnaryOp.TheVariants as unaries
-use Rattle.c_grammar.specs.Parts.{Closing, by_semicolon, by_parenthesis, Level, Joint, comma, binary}
+use Rattle.c_grammar.specs.Parts.{Closing, by_semicolon, by_parenthesis, by_bracket, by_colon, Level, Joint, comma, binary}
 use Rattle.c_grammar.specs.Classes.{sign, keyword, unary_sign, step_sign, joint_sign, closing_sign, level_of, assign_sign, storage_word, type_word}
 use Rattle.c_grammar.specs.Ahead.{is_spec_word}
 use Rattle.c_grammar.specs.Choice.{joint_of_sign, is_closing}
@@ -52,6 +52,14 @@ post_step_own ways.Down = refl
 pub closing_own : (p : Closing) → (expr_first (sign (closing_sign p)) || by_token (is_closing p) (sign (closing_sign p))) ≡ true
 closing_own by_semicolon = refl
 closing_own by_parenthesis = refl
+closing_own by_bracket = refl
+closing_own by_colon = refl
+
+pub close_own : (p : Closing) → by_token (is_closing p) (sign (closing_sign p)) ≡ true
+close_own by_semicolon = refl
+close_own by_parenthesis = refl
+close_own by_bracket = refl
+close_own by_colon = refl
 
 pub storage_own : (s : StorageWord) → spec_first (keyword (storage_word s)) ≡ true
 unfolding is_spec_word

@@ -52,6 +52,7 @@ type_shape types.enumerators_next = shape_part refl
 type_shape types.enumerator_plain = shape_give refl
 type_shape (types.pointed {at} {is_const}) = shape_chain (λ inner. trees.Pointer at is_const inner) refl
 type_shape types.direct = shape_chain (λ inner. inner) refl
+type_shape types.group_end = shape_only shape_token
 type_shape (types.no_name types.of_parameter) = shape_only (shape_chain (λ inner. inner) refl)
 type_shape (types.no_name types.of_type_name) = shape_only (shape_chain (λ inner. inner) refl)
 type_shape types.tails_end = shape_give refl

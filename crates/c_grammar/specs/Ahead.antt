@@ -74,6 +74,15 @@ label_ahead w (t ∷ rest) = is_plain_word w t.token && colon_ahead rest
 abbrev pub no_label_ahead : Scene → List Placed → Bool
 no_label_ahead w ts = not (label_ahead w ts)
 
+abbrev pub is_left_bracket : Token → Bool
+is_left_bracket (kinds.Punctuator signs.LeftBracket) = true
+is_left_bracket _ = false
+
+-- of the brackets `[` alone begins no statement
+abbrev pub no_left_bracket : List Placed → Bool
+no_left_bracket [] = true
+no_left_bracket (t ∷ rest) = not (is_left_bracket t.token)
+
 -- no token is left
 abbrev pub at_end : List Placed → Bool
 at_end [] = true

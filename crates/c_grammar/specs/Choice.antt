@@ -18,11 +18,11 @@ use Rattle.c_written.specs.declared.written.TypeWord.TheVariants as type_words
 use Rattle.c_written.specs.declared.written.UnaryOp.TheVariants as unaries
 use Rattle.c_written.specs.Written.{ExprTree}
 use Rattle.c_written.specs.Written as trees
-use Rattle.c_grammar.specs.Parts.{Scene, Closing, by_semicolon, by_parenthesis, Level, Commas, Ors, Ands, BitOrs, BitXors, BitAnds, Equalities, Relations, Shifts, Sums, Products, Joint, comma, binary, Role, Naming, OfMember, OfParameter, OfTypeName, ExprPart, Run, More, Assignment, Assigned, Conditional, Chosen, Cast, Operand, Unary, Sized, Postfix, Suffixes, Primary, Texts, SpecPart, Spec, Structure, StructureTagged, Enumeration, EnumerationTagged, DeclaratorPart, Declarator, Pointed, Direct, Tails, Size, Parameters, MoreParameters, StmtPart, Statement, Else, DeclPart, Declaration, Declared, Initial, Ending, OuterPart, Outer, OuterDeclared, OuterInitial, Part, AnExpr, ASpec, ADeclarator, AStmt, ADecl, AnOuter, AfterType, Arguments, MoreArguments, Specs, MoreSpecs, Members, MoreMembers, AMember, MoreDeclarators, Enumerators, MoreEnumerators, NextEnumerator, AnEnumerator, EnumeratorValue, Parameter, Initialiser, Initialisers, MoreInitialisers, NextInitialiser, Optionally, ForStart, Items, Item, Outers, Value}
+use Rattle.c_grammar.specs.Parts.{Scene, Closing, by_semicolon, by_parenthesis, by_bracket, by_colon, Level, Commas, Ors, Ands, BitOrs, BitXors, BitAnds, Equalities, Relations, Shifts, Sums, Products, Joint, comma, binary, Role, Naming, OfMember, OfParameter, OfTypeName, ExprPart, Run, More, Assignment, Assigned, Conditional, Chosen, Cast, Operand, Unary, Sized, Postfix, Suffixes, Primary, Texts, SpecPart, Spec, Structure, StructureTagged, Enumeration, EnumerationTagged, DeclaratorPart, Declarator, Pointed, Direct, Tails, Size, GroupEnd, Parameters, MoreParameters, StmtPart, Statement, Else, DeclPart, Declaration, Declared, Initial, Ending, OuterPart, Outer, OuterDeclared, OuterInitial, Part, AnExpr, ASpec, ADeclarator, AStmt, ADecl, AnOuter, Close, MemberName, AfterType, Arguments, MoreArguments, Specs, MoreSpecs, Members, MoreMembers, AMember, MoreDeclarators, Enumerators, MoreEnumerators, NextEnumerator, AnEnumerator, EnumeratorValue, Parameter, Initialiser, Initialisers, MoreInitialisers, NextInitialiser, Optionally, ForStart, Items, Item, Outers, Value}
 use Rattle.c_grammar.specs.Classes.{names_type, level_of}
 use Rattle.c_grammar.specs.Process.{Process}
 use Rattle.c_grammar.specs.Made.{ends_open}
-use Rattle.c_grammar.specs.Ahead.{spec_ahead, type_ahead, label_ahead, is_close}
+use Rattle.c_grammar.specs.Ahead.{spec_ahead, type_ahead, label_ahead, is_close, is_colon}
 use Rattle.c_grammar.specs.ExprRules as exprs
 use Rattle.c_grammar.specs.TypeRules as types
 use Rattle.c_grammar.specs.FileRules as files
@@ -223,10 +223,12 @@ spec_choice w Spec [] = None
 spec_choice w Spec (t ∷ ts) = spec_token_choice w t.token
 spec_choice w (Structure at) [] = None
 spec_choice w (Structure at) (t ∷ ts) = structure_choice w at t.token
-spec_choice w (StructureTagged at tag) ts = if first_is is_brace ts then this (type_rule types.structure_tagged_body) else this (type_rule types.structure_named)
+spec_choice w (StructureTagged at tag) ts =
+    if first_is is_brace ts then this (type_rule types.structure_tagged_body) else this (type_rule types.structure_named)
 spec_choice w (Enumeration at) [] = None
 spec_choice w (Enumeration at) (t ∷ ts) = enumeration_choice w at t.token
-spec_choice w (EnumerationTagged at tag) ts = if first_is is_brace ts then this (type_rule types.enumeration_tagged_body) else this (type_rule types.enumeration_named)
+spec_choice w (EnumerationTagged at tag) ts =
+    if first_is is_brace ts then this (type_rule types.enumeration_tagged_body) else this (type_rule types.enumeration_named)
 
 abbrev pub is_star : Token → Bool
 is_star (kinds.Punctuator signs.Star) = true
@@ -270,8 +272,10 @@ declarator_choice w (Direct r) (t ∷ ts) = direct_choice w r t.token
 declarator_choice w (Tails r is_plain d) [] = this (type_rule types.tails_end)
 declarator_choice w (Tails r is_plain d) (t ∷ ts) = tails_choice w r is_plain d t.token
 declarator_choice w (Size r at d) ts = if first_is is_right_bracket ts then this (type_rule types.no_size) else this (type_rule types.size)
+declarator_choice w (GroupEnd d) ts = this (type_rule types.group_end)
 declarator_choice w (Parameters at d) ts = if first_is is_close ts then this (type_rule types.no_parameters) else this (type_rule types.parameters)
-declarator_choice w (MoreParameters at d before) ts = if first_is is_close ts then this (type_rule types.parameters_end) else this (type_rule types.parameters_more)
+declarator_choice w (MoreParameters at d before) ts =
+    if first_is is_close ts then this (type_rule types.parameters_end) else this (type_rule types.parameters_more)
 
 abbrev pub statement_word_choice : (w : Scene) (b : Bool) → Keyword → Option (ARule w (AStmt (Statement b)))
 statement_word_choice w b keywords.Case = this (file_rule files.case)
@@ -300,7 +304,8 @@ is_else_word _ = false
 abbrev pub stmt_choice : (w : Scene) (p : StmtPart) → List Placed → Option (ARule w (AStmt p))
 stmt_choice w (Statement b) [] = this (file_rule files.expression)
 stmt_choice w (Statement b) (t ∷ ts) = if label_ahead w (t ∷ ts) then this (file_rule files.label) else statement_choice w b t.token
-stmt_choice w (Else at condition first) ts = if first_is is_else_word ts && not (ends_open first) then this (file_rule files.with_else) else this (file_rule files.no_else)
+stmt_choice w (Else at condition first) ts =
+    if first_is is_else_word ts && not (ends_open first) then this (file_rule files.with_else) else this (file_rule files.no_else)
 
 abbrev pub is_semicolon : Token → Bool
 is_semicolon (kinds.Punctuator signs.Semicolon) = true
@@ -329,6 +334,8 @@ outer_choice w (OuterInitial s d) ts = if first_is is_brace ts then this (file_r
 abbrev pub is_closing : Closing → Token → Bool
 is_closing by_semicolon t = is_semicolon t
 is_closing by_parenthesis t = is_close t
+is_closing by_bracket t = is_right_bracket t
+is_closing by_colon t = is_colon t
 
 -- what the descent goes on with
 abbrev pub choose : (w : Scene) (p : Part) → List Placed → Option (ARule w p)
@@ -338,6 +345,8 @@ choose w (ADeclarator p) ts = declarator_choice w p ts
 choose w (AStmt p) ts = stmt_choice w p ts
 choose w (ADecl p) ts = decl_choice w p ts
 choose w (AnOuter p) ts = outer_choice w p ts
+choose w (Close p) ts = this (expr_rule exprs.closes)
+choose w MemberName ts = this (expr_rule exprs.member_name)
 choose w AfterType ts = this (expr_rule exprs.after_type)
 choose w Arguments ts = if first_is is_close ts then this (expr_rule exprs.no_arguments) else this (expr_rule exprs.arguments)
 choose w (MoreArguments before) ts = if first_is is_close ts then this (expr_rule exprs.arguments_end) else this (expr_rule exprs.arguments_more)
@@ -349,16 +358,20 @@ choose w AMember ts = this (type_rule types.member)
 choose w (MoreDeclarators s before) ts = if first_is is_semicolon ts then this (type_rule types.declarators_end) else this (type_rule types.declarators_more)
 choose w Enumerators ts = this (type_rule types.enumerators)
 choose w (MoreEnumerators before) ts = if first_is is_right_brace ts then this (type_rule types.enumerators_end) else this (type_rule types.enumerators_more)
-choose w (NextEnumerator before) ts = if first_is is_right_brace ts then this (type_rule types.enumerators_comma_end) else this (type_rule types.enumerators_next)
+choose w (NextEnumerator before) ts =
+    if first_is is_right_brace ts then this (type_rule types.enumerators_comma_end) else this (type_rule types.enumerators_next)
 choose w AnEnumerator ts = this (type_rule types.enumerator)
 choose w (EnumeratorValue at name) ts = if first_is is_assign ts then this (type_rule types.enumerator_valued) else this (type_rule types.enumerator_plain)
 choose w Parameter ts = this (type_rule types.parameter)
 choose w Initialiser ts = if first_is is_brace ts then this (file_rule files.braces) else this (file_rule files.value)
 choose w Initialisers ts = this (file_rule files.initialisers)
 choose w (MoreInitialisers before) ts = if first_is is_right_brace ts then this (file_rule files.initialisers_end) else this (file_rule files.initialisers_more)
-choose w (NextInitialiser before) ts = if first_is is_right_brace ts then this (file_rule files.initialisers_comma_end) else this (file_rule files.initialisers_next)
+choose w (NextInitialiser before) ts =
+    if first_is is_right_brace ts then this (file_rule files.initialisers_comma_end) else this (file_rule files.initialisers_next)
 choose w (Optionally p) ts = if first_is (is_closing p) ts then this (expr_rule exprs.nothing_before) else this (expr_rule exprs.something_before)
-choose w ForStart ts = if first_is is_semicolon ts then this (file_rule files.for_nothing) else (if spec_ahead w ts then this (file_rule files.for_declares) else this (file_rule files.for_value))
+choose w ForStart ts =
+    if first_is is_semicolon ts then this (file_rule files.for_nothing)
+    else (if spec_ahead w ts then this (file_rule files.for_declares) else this (file_rule files.for_value))
 choose w (Items before) ts = if first_is is_right_brace ts then this (file_rule files.items_end) else this (file_rule files.items_more)
 choose w Item ts = if spec_ahead w ts then this (file_rule files.item_declares) else this (file_rule files.item_does)
 choose w (Outers before) [] = this (file_rule files.file_end)

@@ -20,7 +20,7 @@ use Rattle.c_written.specs.declared.written.TypeWord.{TypeWord}
 use Rattle.c_written.specs.declared.written.TypeWord.TheVariants as type_words
 use Rattle.c_written.specs.declared.written.UnaryOp.{UnaryOp}
 use Rattle.c_written.specs.declared.written.UnaryOp.TheVariants as unaries
-use Rattle.c_grammar.specs.Parts.{Scene, Closing, by_semicolon, by_parenthesis, Joint, comma, binary, Level, Commas, Ors, Ands, BitOrs, BitXors, BitAnds, Equalities, Relations, Shifts, Sums, Products}
+use Rattle.c_grammar.specs.Parts.{Scene, Closing, by_semicolon, by_parenthesis, by_bracket, by_colon, Joint, comma, binary, Level, Commas, Ors, Ands, BitOrs, BitXors, BitAnds, Equalities, Relations, Shifts, Sums, Products}
 
 pub data Class : Type 0 where
   keyword : Keyword → Class
@@ -143,10 +143,12 @@ joint_sign (binary binaries.BitOr) = signs.Bar
 joint_sign (binary binaries.And) = signs.And
 joint_sign (binary binaries.Or) = signs.Or
 
--- how the end of an expression that may be missing is written
+-- how what ends an expression or a type name is written
 abbrev pub closing_sign : Closing → Punctuator
 closing_sign by_semicolon = signs.Semicolon
 closing_sign by_parenthesis = signs.RightParenthesis
+closing_sign by_bracket = signs.RightBracket
+closing_sign by_colon = signs.Colon
 
 -- the rank of a joint
 abbrev pub level_of : Joint → Level

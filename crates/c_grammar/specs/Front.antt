@@ -29,19 +29,27 @@ deeper n at = record { scene = at.scene; count = n + at.count; next = at.next; b
 mutual
   -- A part is read from the first tokens up to the second, and stands open at a place.
   pub data Front : Scene → Part → List Placed → List Placed → Place → Type 0 where
-    in_part : {w : Scene} {p : Part} {q : Process (Value p)} {ts rest : List Placed} {at : Place} → Produces w p q → Reads false w p q ts rest at → Front w p ts rest at
+    in_part : {w : Scene} {p : Part} {q : Process (Value p)} {ts rest : List Placed} {at : Place} → Produces w p q → Reads false w p q ts rest at
+        → Front w p ts rest at
 
   -- What is left of a production is read so: its tokens and parts are whole, in their order, up to one
   -- that is not there yet, or a part that itself stands open. The mark tells whether something of the
   -- production was read before.
   pub data Reads : Bool → Scene → (p : Part) → Process (Value p) → List Placed → List Placed → Place → Type 0 where
-    at_token : {b : Bool} {w : Scene} {p : Part} {n : ℕ} {c : Class} {k : Placed → Process (Value p)} {ts : List Placed} → Reads b w p (token n c k) ts ts (record { scene = w; count = 0; next = a_token n c; begun = b })
-    at_part : {b : Bool} {w s : Scene} {p i : Part} {n : ℕ} {k : Value i → Process (Value p)} {ts : List Placed} → Reads b w p (part n s i k) ts ts (record { scene = s; count = n; next = a_part i; begun = b })
-    at_test : {b : Bool} {w : Scene} {p : Part} {f : List Placed → Bool} {q : Process (Value p)} {ts : List Placed} → f ts ≡ false → Reads b w p (only f q) ts ts (record { scene = w; count = 0; next = a_test; begun = b })
-    behind_token : {b : Bool} {w : Scene} {p : Part} {n : ℕ} {c : Class} {k : Placed → Process (Value p)} {t : Placed} {ts rest : List Placed} {at : Place} → Fits w c t.token → Reads true w p (k t) ts rest at → Reads b w p (token n c k) (t ∷ ts) rest at
-    inside : {b : Bool} {w s : Scene} {p i : Part} {n : ℕ} {k : Value i → Process (Value p)} {ts rest : List Placed} {at : Place} → Front s i ts rest at → Reads b w p (part n s i k) ts rest (deeper n at)
-    behind_part : {b : Bool} {w s : Scene} {p i : Part} {n : ℕ} {k : Value i → Process (Value p)} {a : Value i} {ts mid rest : List Placed} {at : Place} → Derives s i ts mid a → Reads true w p (k a) mid rest at → Reads b w p (part n s i k) ts rest at
-    where_so : {b : Bool} {w : Scene} {p : Part} {f : List Placed → Bool} {q : Process (Value p)} {ts rest : List Placed} {at : Place} → f ts ≡ true → Reads b w p q ts rest at → Reads b w p (only f q) ts rest at
+    at_token : {b : Bool} {w : Scene} {p : Part} {n : ℕ} {c : Class} {k : Placed → Process (Value p)} {ts : List Placed}
+        → Reads b w p (token n c k) ts ts (record { scene = w; count = 0; next = a_token n c; begun = b })
+    at_part : {b : Bool} {w s : Scene} {p i : Part} {n : ℕ} {k : Value i → Process (Value p)} {ts : List Placed}
+        → Reads b w p (part n s i k) ts ts (record { scene = s; count = n; next = a_part i; begun = b })
+    at_test : {b : Bool} {w : Scene} {p : Part} {f : List Placed → Bool} {q : Process (Value p)} {ts : List Placed} → f ts ≡ false
+        → Reads b w p (only f q) ts ts (record { scene = w; count = 0; next = a_test; begun = b })
+    behind_token : {b : Bool} {w : Scene} {p : Part} {n : ℕ} {c : Class} {k : Placed → Process (Value p)} {t : Placed} {ts rest : List Placed} {at : Place}
+        → Fits w c t.token → Reads true w p (k t) ts rest at → Reads b w p (token n c k) (t ∷ ts) rest at
+    inside : {b : Bool} {w s : Scene} {p i : Part} {n : ℕ} {k : Value i → Process (Value p)} {ts rest : List Placed} {at : Place}
+        → Front s i ts rest at → Reads b w p (part n s i k) ts rest (deeper n at)
+    behind_part : {b : Bool} {w s : Scene} {p i : Part} {n : ℕ} {k : Value i → Process (Value p)} {a : Value i} {ts mid rest : List Placed} {at : Place}
+        → Derives s i ts mid a → Reads true w p (k a) mid rest at → Reads b w p (part n s i k) ts rest at
+    where_so : {b : Bool} {w : Scene} {p : Part} {f : List Placed → Bool} {q : Process (Value p)} {ts rest : List Placed} {at : Place}
+        → f ts ≡ true → Reads b w p q ts rest at → Reads b w p (only f q) ts rest at
 
 -- A file is read from the first tokens up to the second, and stands open at the place.
 abbrev pub StandsAt : List Placed → List Placed → Place → Type 0

@@ -23,9 +23,12 @@ mutual
   -- So is what is left of a production of the part.
   pub data Spells : Scene → (p : Part) → Process (Value p) → List Placed → List Placed → Value p → Type 0 where
     ended : {w : Scene} {p : Part} {v : Value p} {ts : List Placed} → Spells w p (give v) ts ts v
-    token_then : {w : Scene} {p : Part} {n : ℕ} {c : Class} {k : Placed → Process (Value p)} {t : Placed} {ts rest : List Placed} {v : Value p} → Fits w c t.token → Spells w p (k t) ts rest v → Spells w p (token n c k) (t ∷ ts) rest v
-    part_then : {w s : Scene} {p i : Part} {n : ℕ} {k : Value i → Process (Value p)} {a : Value i} {ts mid rest : List Placed} {v : Value p} → Derives s i ts mid a → Spells w p (k a) mid rest v → Spells w p (part n s i k) ts rest v
-    where_so : {w : Scene} {p : Part} {f : List Placed → Bool} {q : Process (Value p)} {ts rest : List Placed} {v : Value p} → f ts ≡ true → Spells w p q ts rest v → Spells w p (only f q) ts rest v
+    token_then : {w : Scene} {p : Part} {n : ℕ} {c : Class} {k : Placed → Process (Value p)} {t : Placed} {ts rest : List Placed} {v : Value p}
+        → Fits w c t.token → Spells w p (k t) ts rest v → Spells w p (token n c k) (t ∷ ts) rest v
+    part_then : {w s : Scene} {p i : Part} {n : ℕ} {k : Value i → Process (Value p)} {a : Value i} {ts mid rest : List Placed} {v : Value p}
+        → Derives s i ts mid a → Spells w p (k a) mid rest v → Spells w p (part n s i k) ts rest v
+    where_so : {w : Scene} {p : Part} {f : List Placed → Bool} {q : Process (Value p)} {ts rest : List Placed} {v : Value p} → f ts ≡ true
+        → Spells w p q ts rest v → Spells w p (only f q) ts rest v
 
 -- no typedef name yet, outside of functions
 abbrev pub at_start : Scene

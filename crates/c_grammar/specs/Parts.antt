@@ -57,10 +57,12 @@ pub data Role : Type 0 where
   OfParameter : Role
   OfTypeName : Role
 
--- what ends an expression that may be missing
+-- what ends an expression or a type name
 pub data Closing : Type 0 where
   by_semicolon : Closing
   by_parenthesis : Closing
+  by_bracket : Closing
+  by_colon : Closing
 
 pub data ExprPart : Type 0 where
   -- operands of a rank, and joints between them
@@ -106,6 +108,8 @@ pub data DeclaratorPart : Type 0 where
   Tails : Role → Bool → DeclaratorTree → DeclaratorPart
   -- what follows `[`
   Size : Role → Pos → DeclaratorTree → DeclaratorPart
+  -- the `)` behind a declarator that stands in parentheses
+  GroupEnd : DeclaratorTree → DeclaratorPart
   -- what follows the `(` of parameters
   Parameters : Pos → DeclaratorTree → DeclaratorPart
   MoreParameters : Pos → DeclaratorTree → ParamTrees → DeclaratorPart
@@ -140,6 +144,10 @@ pub data Part : Type 0 where
   AStmt : StmtPart → Part
   ADecl : DeclPart → Part
   AnOuter : OuterPart → Part
+  -- what ends an expression or a type name, where a form stays open up to it
+  Close : Closing → Part
+  -- the name of a member, behind `.` or `->`
+  MemberName : Part
   -- what follows the type name of a sizeof: nothing
   AfterType : Part
   -- what follows the `(` of a call
@@ -185,6 +193,8 @@ Value (ADeclarator p) = DeclaratorTree
 Value (AStmt p) = StmtTree
 Value (ADecl p) = DeclTree
 Value (AnOuter p) = OuterTree
+Value (Close p) = Unit {0}
+Value MemberName = List ℕ
 Value AfterType = Unit {0}
 Value Arguments = ExprTrees
 Value (MoreArguments before) = ExprTrees

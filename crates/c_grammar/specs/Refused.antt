@@ -95,6 +95,10 @@ may_omit OfMember = false
 may_omit OfParameter = true
 may_omit OfTypeName = true
 
+abbrev pub may_name : Role → Bool
+may_name OfTypeName = false
+may_name _ = true
+
 abbrev pub in_member : Role → Bool
 in_member OfMember = true
 in_member _ = false
@@ -107,7 +111,7 @@ expr_construct w _ ts = None
 
 -- the construct of a declarator's part that the first token bears
 abbrev pub declarator_construct : Scene → DeclaratorPart → List Placed → Option Construct
-declarator_construct w (Declarator r) ts = where_true (first_is (is_type_name w) ts) constructs.TypedefAgain
+declarator_construct w (Declarator r) ts = where_true (first_is (is_type_name w) ts && may_name r) constructs.TypedefAgain
 declarator_construct w (Direct r) ts = where_true (may_omit r && params_ahead w ts) constructs.FunctionPointer
 declarator_construct w (Tails r is_plain d) ts = where_true (first_is is_open ts && (not is_plain && is_given d)) constructs.FunctionPointer
 declarator_construct w (Size r at d) ts = where_true (first_is is_right_bracket ts && in_member r) constructs.FlexibleArray
@@ -197,17 +201,21 @@ nesting_limit = 200
 pub data Bears (front : List Placed) (t : Placed) (rest : List Placed) (c : Construct) : Type 0 where
   of_token : (at : Place) → StandsAt (front ++ t ∷ rest) (t ∷ rest) at → IsNeeded at → token_construct at.scene t.token ≡ Some c → Bears front t rest c
   -- the token is read at the place
-  of_read : (at : Place) (n : ℕ) (k : Class) → StandsAt (front ++ t ∷ rest) (t ∷ rest) at → at.next ≡ a_token n k → Fits at.scene k t.token → token_construct at.scene t.token ≡ Some c → Bears front t rest c
+  of_read : (at : Place) (n : ℕ) (k : Class) → StandsAt (front ++ t ∷ rest) (t ∷ rest) at → at.next ≡ a_token n k → Fits at.scene k t.token
+      → token_construct at.scene t.token ≡ Some c → Bears front t rest c
   of_place : (at : Place) → StandsAt (front ++ t ∷ rest) (t ∷ rest) at → next_construct at.scene at.next (t ∷ rest) ≡ Some c → Bears front t rest c
 
 -- With the first token behind the front more forms are unfinished than may be.
 pub data IsDeep (front : List Placed) (t : Placed) (rest : List Placed) : Type 0 where
   -- the token is read at the place
-  is_read : (at : Place) (n : ℕ) (c : Class) → StandsAt (front ++ t ∷ rest) (t ∷ rest) at → at.next ≡ a_token n c → Fits at.scene c t.token → nesting_limit < at.count + n → IsDeep front t rest
+  is_read : (at : Place) (n : ℕ) (c : Class) → StandsAt (front ++ t ∷ rest) (t ∷ rest) at → at.next ≡ a_token n c → Fits at.scene c t.token
+      → nesting_limit < at.count + n → IsDeep front t rest
   -- the token is a bracket, whether it may come or not
-  opens : (at : Place) → StandsAt (front ++ t ∷ rest) (t ∷ rest) at → IsNeeded at → is_bracket t.token ≡ true → nesting_limit < at.count + 1 → IsDeep front t rest
+  opens : (at : Place) → StandsAt (front ++ t ∷ rest) (t ∷ rest) at → IsNeeded at → is_bracket t.token ≡ true → nesting_limit < at.count + 1
+      → IsDeep front t rest
   -- the token bears a construct of the place
-  bears : (at : Place) (c : Construct) → StandsAt (front ++ t ∷ rest) (t ∷ rest) at → next_construct at.scene at.next (t ∷ rest) ≡ Some c → nesting_limit < at.count + forms_begun at.next t.token → IsDeep front t rest
+  bears : (at : Place) (c : Construct) → StandsAt (front ++ t ∷ rest) (t ∷ rest) at → next_construct at.scene at.next (t ∷ rest) ≡ Some c
+      → nesting_limit < at.count + forms_begun at.next t.token → IsDeep front t rest
 
 -- why a token, or the end, is refused
 pub data Why : Type 0 where
@@ -227,7 +235,8 @@ Because front (t ∷ rest) TooDeep = IsDeep front t rest
 
 -- no token of the front is refused
 abbrev pub NoneRefused : List Placed → List Placed → Type 0
-NoneRefused front rest = (before : List Placed) (t : Placed) (behind : List Placed) → front ≡ before ++ t ∷ behind → (why : Why) → Because before (t ∷ behind ++ rest) why → ⊥
+NoneRefused front rest = (before : List Placed) (t : Placed) (behind : List Placed) → front ≡ before ++ t ∷ behind → (why : Why)
+    → Because before (t ∷ behind ++ rest) why → ⊥
 
 -- The tokens are a file with this tree, and none is refused.
 abbrev pub IsFile : List Placed → FileTree → Type 0

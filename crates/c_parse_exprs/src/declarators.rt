@@ -12,12 +12,12 @@ use crate::exprs::conditional;
 use crate::types::specs;
 use c_parse_leaves::{
     calls_no_name, closed, consts, declared_name, handed, is_no_tail, no_parameters, no_size,
-    params_come,
+    params_come, type_name_comes,
 };
 use c_parse_steps::{
     Class, Context, DirectKind, Fault, Mark, Role, TailKind, array_declarator, barred, comes,
     direct_at, function_declarator, grouped_declarator, is_given, param_of, plain_word_ahead,
-    pointer_declarator, push_param, refused, tail_at, taken, type_name_ahead,
+    pointer_declarator, push_param, refused, tail_at, taken,
 };
 use c_written::{Construct, Declarator, Param, Placed, Pos, Punctuator};
 
@@ -32,7 +32,7 @@ pub fn declarator<'a>(
     ensures goes { Answers count (scene_of context.now) (part.ADeclarator (part.Declarator (role_view role))) tokens.now (λ d. boxed_declarator d) result }
     ensures shorter { IfOk result (λ x. length x.1.now ≤ length tokens.now) }
 {
-    if type_name_ahead(context, tokens) {
+    if type_name_comes(context, role, tokens) {
         return Err(barred(count, Construct::TypedefAgain, tokens));
     }
     if comes(Mark::Star, tokens) {
@@ -49,7 +49,7 @@ fn pointer<'a>(
     count: u32,
     tokens: &'a [Placed],
 ) -> Result<(Box<Declarator>, &'a [Placed]), Fault<'a>>
-    requires { DeclaratorStarts (scene_of context.now) tokens.now }
+    requires { DeclaratorStarts (scene_of context.now) (role_view role) tokens.now }
     ensures goes { Answers count (scene_of context.now) (part.ADeclarator (part.Declarator (role_view role))) tokens.now (λ d. boxed_declarator d) result }
     ensures shorter { IfOk result (λ x. length x.1.now < length tokens.now) }
 {
@@ -134,10 +134,10 @@ fn grouped<'a>(
     let (opening, behind) = read!(taken(context, count, 1, opens, tokens));
     let (inner, rest) = read!(declarator(context, role, count + 1, behind));
     if !is_given(&inner) {
-        return Err(refused(context, count, rest));
+        return Err(refused(context, count + 1, rest));
     }
     let whole = grouped_declarator(context.alloc, opening.pos, inner);
-    let (first, behind) = read!(closed(context, count, 0, closes, whole, rest));
+    let (first, behind) = read!(closed(context, count + 1, 0, closes, whole, rest));
     tails(context, role, count, false, first, behind)
 }
 

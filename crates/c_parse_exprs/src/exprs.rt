@@ -213,7 +213,8 @@ fn chosen<'a>(
     let question = Class::Sign(Punctuator::Question);
     let (at, behind) = read!(taken(context, count, 1, question, tokens));
     let (then, rest) = read!(run(context, Level::Commas, count + 1, behind));
-    let (_colon, behind) = read!(taken(context, count, 1, Class::Sign(Punctuator::Colon), rest));
+    let colon = Class::Sign(Punctuator::Colon);
+    let (_colon, behind) = read!(taken(context, count + 1, 0, colon, rest));
     let (otherwise, rest) = read!(conditional(context, count + 1, behind));
     handed(
         cond_expr(context.alloc, at.pos, condition, then, otherwise),
@@ -253,7 +254,7 @@ fn cast_form<'a>(
     let (at, behind) = read!(taken(context, count, 1, opens, tokens));
     let (words, rest) = read!(specs(context, count + 2, behind));
     let (shape, rest) = read!(declarator(context, Role::OfTypeName, count + 2, rest));
-    let (_close, behind) = read!(taken(context, count, 1, closes, rest));
+    let (_close, behind) = read!(taken(context, count + 2, 0, closes, rest));
     let (inner, rest) = read!(cast_operand(context, count + 1, behind));
     handed(cast_expr(context.alloc, at.pos, words, shape, inner), rest)
 }
@@ -379,7 +380,7 @@ fn sized_type<'a>(
     let (_opening, behind) = read!(taken(context, count, 1, opens, tokens));
     let (words, rest) = read!(specs(context, count + 1, behind));
     let (shape, rest) = read!(declarator(context, Role::OfTypeName, count + 1, rest));
-    let (_close, rest) = read!(taken(context, count, 0, closes, rest));
+    let (_close, rest) = read!(taken(context, count + 1, 0, closes, rest));
     if comes(Mark::Brace, rest) {
         return Err(barred(count, Construct::CompoundLiteral, rest));
     }
@@ -468,7 +469,7 @@ fn index<'a>(
     let (at, behind) = read!(taken(context, count, 2, opens, tokens));
     let (place, rest) = read!(run(context, Level::Commas, count + 2, behind));
     let whole = index_expr(context.alloc, at.pos, base, place);
-    closed(context, count, 1, closes, whole, rest)
+    closed(context, count + 2, 0, closes, whole, rest)
 }
 
 /// The arguments of a call.
@@ -523,7 +524,7 @@ fn enclosed<'a>(
     let (opening, behind) = read!(taken(context, count, 1, opens, tokens));
     let (inner, rest) = read!(run(context, Level::Commas, count + 1, behind));
     let whole = enclosed_expr(context.alloc, opening.pos, inner);
-    closed(context, count, 0, closes, whole, rest)
+    closed(context, count + 1, 0, closes, whole, rest)
 }
 
 /// The arguments of a call, up to the parenthesis that closes them.

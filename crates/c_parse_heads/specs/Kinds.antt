@@ -1,4 +1,4 @@
--- How the head of a `for` is read.
+-- How the head of a `for`, and a statement that is a part of another one, are read.
 use Rattle.std.specs.Prelude.{ℕ, Bool, false, List, Option, option_map, Result}
 use Rattle.std.specs.declared.alloc.Global.{Global}
 use Rattle.std.specs.declared.boxed.Box.{Box}
@@ -8,8 +8,9 @@ use Rattle.c_written.specs.declared.token.Placed.{Placed}
 use Rattle.c_written.specs.declared.written.Expr.{Expr}
 use Rattle.c_written.specs.Written.{ExprTree, expr_tree}
 use Rattle.c_written.specs.WrittenFile.{StmtTree, For, forstart_tree, stmt_tree}
-use Rattle.c_grammar.specs.Parts.{Scene, within, Statement, AStmt}
-use Rattle.c_grammar.specs.Process.{Process, give, part}
+use Rattle.c_grammar.specs.Parts.{Scene, Setting, within, Statement, AStmt, Part, Value}
+use Rattle.c_grammar.specs.FileRules.{substatement}
+use Rattle.c_grammar.specs.Process.{Process, give}
 use Rattle.c_grammar.specs.Descent.{Goes, Follows}
 use Rattle.c_parse_steps.specs.declared.fault.Fault.{Fault}
 use Rattle.c_parse_steps.specs.Answers.{Steps}
@@ -25,7 +26,11 @@ boxed_option e = option_map expr_tree e.value
 
 -- what is left of a for behind its head
 abbrev pub for_rest : Scene → ForHead → Process StmtTree
-for_rest scene head = part 1 (within scene) (AStmt (Statement false)) (λ body. give (For head.pos (forstart_tree head.start.value) (boxed_option head.condition) (boxed_option head.step) body))
+for_rest scene head = substatement (within scene) false (λ body. give (For head.pos (forstart_tree head.start.value) (boxed_option head.condition) (boxed_option head.step) body))
+
+-- The result is how the descent reads a statement that is a part of another one, where the tokens stand so.
+abbrev pub Substatements : ℕ → Scene → Setting → Bool → List Placed → Result (Box Stmt Global × Bor (List Placed)) Fault → Type 0
+Substatements count scene setting is_of_switch tokens r = (p : Part) (k : StmtTree → Process (Value p)) → Steps (λ o. Follows count scene p (substatement (record { types = scene.types; setting = setting }) is_of_switch k) tokens o) (λ s rest o. Follows count scene p (k (boxed_tree s)) rest o) r
 
 -- The result is how the descent reads the head of a for.
 abbrev pub ForHeads : ℕ → Scene → List Placed → Result (ForHead × Bor (List Placed)) Fault → Type 0

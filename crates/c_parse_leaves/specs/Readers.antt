@@ -9,9 +9,9 @@ use Rattle.c_written.specs.declared.token.Punctuator.{Punctuator}
 use Rattle.c_written.specs.declared.written.Expr.{Expr}
 use Rattle.c_written.specs.Written.{DeclaratorTree, Name, ExprTree}
 use Rattle.c_written.specs.declared.written.Declarator.{Declarator}
-use Rattle.c_grammar.specs.Parts.{Scene, Part, Value, ExprPart, AnExpr}
+use Rattle.c_grammar.specs.Parts.{Scene, Part, Value, ExprPart, AnExpr, MemberName}
 use Rattle.c_grammar.specs.Process.{Process, token, part}
-use Rattle.c_grammar.specs.Classes.{sign, word, any_word, name_of}
+use Rattle.c_grammar.specs.Classes.{sign, word, name_of}
 use Rattle.c_grammar.specs.Descent.{Follows}
 use Rattle.c_parse_steps.specs.declared.fault.Fault.{Fault}
 use Rattle.c_parse_steps.specs.declared.kind.PrimaryKind.TheVariants as primaries
@@ -28,7 +28,7 @@ ReadsBehind count scene s x tokens r = (p : Part) (k : Pos → ExprTree → Proc
 
 -- a sign, and the name of a member behind it
 abbrev pub ReadsMember : ℕ → Scene → Punctuator → List Placed → Result ((Pos × List ℕ) × Bor (List Placed)) Fault → Type 0
-ReadsMember count scene s tokens r = (p : Part) (k : Pos → List ℕ → Process (Value p)) → Steps (λ o. Follows count scene p (token 1 (sign s) (λ t. token 1 any_word (λ word. k t.pos (name_of word.token)))) tokens o) (λ a rest o. Follows count scene p (k a.0 a.1) rest o) r
+ReadsMember count scene s tokens r = (p : Part) (k : Pos → List ℕ → Process (Value p)) → Steps (λ o. Follows count scene p (token 1 (sign s) (λ t. part 1 scene MemberName (λ name. k t.pos name))) tokens o) (λ a rest o. Follows count scene p (k a.0 a.1) rest o) r
 
 -- the word that a declarator declares
 abbrev pub ReadsName : ℕ → Scene → List Placed → Result (Box Declarator Global × Bor (List Placed)) Fault → Type 0

@@ -16,4 +16,5 @@ pub use suffix::{calls_no_word, is_no_suffix, no_arguments, simple_suffix, word_
 pub use tag::{enumeration_head, enumeration_of, structure_head, structure_of};
 pub use tail::{
     calls_no_name, consts, declared_name, is_no_tail, no_parameters, no_size, params_come,
+    type_name_comes,
 };

@@ -89,7 +89,7 @@ fn member<'a>(
     ensures shorter { IfOk result (λ x. length x.1.now < length tokens.now) }
 {
     let (at, behind) = taken(context, count, 1, Class::Sign(sign), tokens)?;
-    let (word, rest) = taken(context, count, 1, Class::AnyWord, behind)?;
+    let (word, rest) = taken(context, count + 1, 0, Class::AnyWord, behind)?;
     let name = name_of(context.alloc, &word.token)?;
     Ok(((at.pos, name), rest))
 }

@@ -7,7 +7,7 @@ ghost use Rattle.c_grammar.specs.Ahead.{is_close, is_open, params_ahead};
 ghost use Rattle.c_grammar.specs.Parts as part;
 ghost use Rattle.c_grammar.specs.Made.{is_given};
 ghost use Rattle.c_grammar.specs.Choice.{is_const_word};
-ghost use Rattle.c_grammar.specs.Refused.{first_is, may_omit};
+ghost use Rattle.c_grammar.specs.Refused.{first_is, is_type_name, may_name, may_omit};
 ghost use Rattle.c_parse_steps.specs.Answers.{Answers, Consts, SizeIsMissing};
 ghost use Rattle.c_parse_steps.specs.Kinds.{is_no_tail};
 ghost use Rattle.c_parse_steps.specs.Views.{boxed_declarator, role_view, scene_of};
@@ -15,7 +15,7 @@ ghost use Rattle.c_parse_leaves.specs.Readers.{ReadsName};
 
 use c_parse_steps::{
     Class, Context, Fault, Mark, Role, TailKind, comes, empty_declarator, is_given, name_of,
-    open_array_declarator, params_ahead, taken,
+    open_array_declarator, params_ahead, taken, type_name_ahead,
 };
 use c_written::{Declarator, Keyword, Placed, Pos, Punctuator};
 
@@ -92,6 +92,13 @@ pub fn no_parameters<'a>(
     let (_close, rest) = taken(context, count, 0, closes, tokens)?;
     let whole = empty_declarator(context.alloc, at, inner)?;
     Ok((whole, rest))
+}
+
+/// A typedef name comes where a name may be declared.
+pub fn type_name_comes(context: &Context<'_>, role: Role, tokens: &[Placed]) -> bool
+    ensures { result ≡ (first_is (is_type_name (scene_of context.now)) tokens.now && may_name (role_view role)) }
+{
+    type_name_ahead(context, tokens) && role.may_name()
 }
 
 /// Parameters come where a name is missing.

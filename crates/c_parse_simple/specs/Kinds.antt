@@ -11,7 +11,7 @@ use Rattle.c_written.specs.declared.token.Token.{Token}
 use Rattle.c_written.specs.declared.token.Token.TheVariants as kinds
 use Rattle.c_written.specs.declared.written.Expr.{Expr}
 use Rattle.c_written.specs.Written.{ExprTree}
-use Rattle.c_grammar.specs.Parts.{Scene, Closing, by_semicolon, by_parenthesis, AnExpr, Part, Value}
+use Rattle.c_grammar.specs.Parts.{Scene, Closing, by_semicolon, by_parenthesis, AnExpr, Close, Part, Value}
 use Rattle.c_grammar.specs.Ahead.{label_ahead}
 use Rattle.c_grammar.specs.Classes.{sign}
 use Rattle.c_grammar.specs.Process.{Process, token, part}
@@ -59,7 +59,7 @@ StatementStarts scene tokens kind = (label_ahead scene tokens ≡ false) × (sta
 
 -- an expression between parentheses, and what follows it
 abbrev pub in_parentheses : {A : Type 0} → Scene → (ExprTree → Process A) → Process A
-in_parentheses scene k = token 1 (sign signs.LeftParenthesis) (λ opening. part 1 scene (AnExpr Expression) (λ value. token 0 (sign signs.RightParenthesis) (λ close. k value)))
+in_parentheses scene k = token 1 (sign signs.LeftParenthesis) (λ opening. part 1 scene (AnExpr Expression) (λ value. part 1 scene (Close by_parenthesis) (λ close. k value)))
 
 -- The result is how the descent reads an expression between parentheses.
 pub data Conditions (count : ℕ) (scene : Scene) (tokens : List Placed) : Result (Box Expr Global × Bor (List Placed)) Fault → Type 0 where

@@ -4,7 +4,7 @@
 mod stmt_kind;
 mod stmt_leaf;
 
-pub use stmt_kind::{StatementKind, ends_open, statement_at};
+pub use stmt_kind::{StatementKind, ends_open, no_left_bracket, statement_at};
 pub use stmt_leaf::{
     Closing, condition, empty, expression, goto, leave, next_turn, optional, return_statement,
     unboxed,

@@ -3,10 +3,11 @@
 
 ghost use Rattle.std.specs.Prelude.{◌≡◌};
 ghost use Rattle.c_written.specs.WrittenFile.{stmt_tree};
+ghost use Rattle.c_grammar.specs.Ahead.{no_left_bracket};
 ghost use Rattle.c_grammar.specs.Made.{ends_open};
 ghost use Rattle.c_parse_simple.specs.Kinds.{statement_at, statement_of, statement_of_word};
 
-use c_parse_steps::first;
+use c_parse_steps::{first, sign_at};
 use c_written::{Keyword, Placed, Punctuator, Stmt, Token};
 
 /// What a statement is by its first token, where it is no labelled one.
@@ -70,6 +71,13 @@ fn statement_of_word(keyword: Keyword) -> StatementKind
         Keyword::Return => StatementKind::Return,
         _ => StatementKind::Expression,
     }
+}
+
+/// Whether the token that comes is no `[`, which begins no statement.
+pub fn no_left_bracket(tokens: &[Placed]) -> bool
+    ensures { result ≡ no_left_bracket tokens.now }
+{
+    !matches!(sign_at(tokens), Some(Punctuator::LeftBracket))
 }
 
 /// Whether an if without else ends the statement.

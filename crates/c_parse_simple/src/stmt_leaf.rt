@@ -195,6 +195,6 @@ pub fn condition<'a>(
     let closes = Class::Sign(Punctuator::RightParenthesis);
     let (_opening, behind) = taken(context, count, 1, opens, tokens)?;
     let (value, rest) = run(context, Level::Commas, count + 1, behind)?;
-    let (_close, rest) = taken(context, count, 0, closes, rest)?;
+    let (_close, rest) = taken(context, count + 1, 0, closes, rest)?;
     Ok((value, rest))
 }

@@ -4,8 +4,8 @@ use Rattle.std.specs.Prelude.{Bool, true, Some, None, Result, Ok, Err}
 use Rattle.std.specs.Result.{IsErrAnd}
 use Rattle.c_written.specs.declared.construct.Construct.{Construct}
 use Rattle.c_written.specs.declared.token.Placed.{Placed}
-use Rattle.c_grammar.specs.Parts.{Scene, Part, Value}
-use Rattle.c_grammar.specs.Classes.{Class}
+use Rattle.c_grammar.specs.Parts.{Scene, Closing, Close, Part, Value}
+use Rattle.c_grammar.specs.Classes.{Class, sign, closing_sign}
 use Rattle.c_grammar.specs.Process.{Process, give, token, part, only}
 use Rattle.c_grammar.specs.Grammar.{Produces}
 use Rattle.c_grammar.specs.Refused.{part_construct}
@@ -13,7 +13,7 @@ use Rattle.c_grammar.specs.Choice.{choose}
 use Rattle.c_grammar.specs.Descent.{Outcome, Done, Stop, barred, Goes, Follows, is_barred, by_rule, is_done, goes_on, stops, passes}
 use Rattle.c_parse_steps.specs.declared.fault.Fault.{Fault}
 use Rattle.c_parse_steps.specs.Answers.{IsStop, Halts, Gives, given, halted, Takes, taken, refused}
-use Rattle.c_parse_steps.proofs.Steps.{failed, halt, halts, here, stopped, stops_here}
+use Rattle.c_parse_steps.proofs.Steps.{failed, halt, halts, here, shut, stopped, stops_here}
 
 -- Where the descent has come in a production of the part: what is left of it decides for all.
 pub record Path (p : Part) (goes : Outcome (Value p) → Type 0) (d : ℕ) (w : Scene) (q : Process (Value p)) (ts : List Placed) : Type 0 where
@@ -32,6 +32,10 @@ where_so path e = record { run = λ o g. path.run o (passes e g) }
 -- the token was taken
 pub after : {p : Part} {goes : Outcome (Value p) → Type 0} {d n : ℕ} {w : Scene} {c : Class} {k : Placed → Process (Value p)} {ts : List Placed} {x : Bor Placed × Bor (List Placed)} → Path p goes d w (token n c k) ts → Takes d w n c ts (Ok x) → Path p goes d w (k x.0.now) x.1.now
 after {p} {k = k} path (taken t) = record { run = λ o g. path.run o (t p k o g) }
+
+-- what closes a form was taken
+pub shuts : {p : Part} {goes : Outcome (Value p) → Type 0} {d n : ℕ} {w : Scene} {z : Closing} {k : Value (Close z) → Process (Value p)} {ts : List Placed} {x : Bor Placed × Bor (List Placed)} → Path p goes d w (part n w (Close z) k) ts → Takes (d + n) w 0 (sign (closing_sign z)) ts (Ok x) → Path p goes d w (k tt) x.1.now
+shuts path t = record { run = λ o g. path.run o (shut t g) }
 
 -- the part was read, in which no form is unfinished
 pub behind : {A : Type 0} {p i : Part} {goes : Outcome (Value p) → Type 0} {d : ℕ} {w s : Scene} {k : Value i → Process (Value p)} {view : A → Value i} {ts : List Placed} {x : A × Bor (List Placed)} → Path p goes d w (part 0 s i k) ts → Gives (λ o. Goes d s i ts o) view (Ok x) → Path p goes d w (k (view x.0)) x.1.now

@@ -7,10 +7,11 @@ use Rattle.c_written.specs.declared.construct.Construct.{Construct}
 use Rattle.c_written.specs.declared.token.Placed.{Placed}
 use Rattle.c_written.specs.declared.token.Punctuator.{Punctuator}
 use Rattle.c_written.specs.declared.token.Keyword.{Keyword}
-use Rattle.c_grammar.specs.Parts.{Scene, Part, Value}
-use Rattle.c_grammar.specs.Classes.{Class, Fits, sign, keyword}
+use Rattle.c_grammar.specs.Parts.{Scene, Closing, Close, Part, Value}
+use Rattle.c_grammar.specs.Classes.{Class, Fits, sign, keyword, closing_sign}
 use Rattle.c_grammar.specs.Process.{Process, give, token, part}
-use Rattle.c_grammar.specs.Grammar.{Produces}
+use Rattle.c_grammar.specs.ExprRules as exprs
+use Rattle.c_grammar.specs.Grammar.{Produces, expr_rule}
 use Rattle.c_grammar.specs.Refused.{Why, Syntax, Unsupported, TooDeep, part_construct, token_construct, is_bracket, nesting_limit, where_true}
 use Rattle.c_grammar.specs.Choice.{choose}
 use Rattle.c_grammar.specs.Descent.{Outcome, Done, Stop, Goes, Follows, NotFits, by_rule, goes_on, stops, is_done, is_left, is_deep, is_borne, takes, refusal, why_token}
@@ -61,6 +62,13 @@ take (taken g) f = g _ _ _ f
 
 pub refuse : {d : ℕ} {w : Scene} {n : ℕ} {c : Class} {ts : List Placed} {f : Fault} → Takes d w n c ts (Err f) → Halts (λ why rest. (p : Part) (k : Placed → Process (Value p)) → Follows d w p (token n c k) ts (Stop why rest)) f
 refuse (refused h) = h
+
+-- what closes a form was taken, or not
+pub shut : {d n : ℕ} {w : Scene} {z : Closing} {ts : List Placed} {x : Bor Placed × Bor (List Placed)} {p : Part} {k : Value (Close z) → Process (Value p)} {o : Outcome (Value p)} → Takes (d + n) w 0 (sign (closing_sign z)) ts (Ok x) → Follows d w p (k tt) x.1.now o → Follows d w p (part n w (Close z) k) ts o
+shut t f = goes_on (by_rule _ (expr_rule exprs.closes) refl refl (take t is_done)) f
+
+pub not_shut : {d n : ℕ} {w : Scene} {z : Closing} {ts : List Placed} {f : Fault} → Takes (d + n) w 0 (sign (closing_sign z)) ts (Err f) → Halts (λ why rest. (p : Part) (k : Value (Close z) → Process (Value p)) → Follows d w p (part n w (Close z) k) ts (Stop why rest)) f
+not_shut t = halts (refuse t) (λ why rest g p k. stops (by_rule _ (expr_rule exprs.closes) refl refl (g _ _)))
 
 pub step : {A V : Type 0} {goes : Outcome V → Type 0} {next : A → List Placed → Outcome V → Type 0} {x : A × Bor (List Placed)} → Steps goes next (Ok x) → (o : Outcome V) → next x.0 x.1.now o → goes o
 step (stepped g) o h = g o h

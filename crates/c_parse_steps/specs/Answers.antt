@@ -7,7 +7,7 @@ use Rattle.c_written.specs.declared.token.Placed.{Placed}
 use Rattle.c_grammar.specs.Parts.{Scene, Role, Pointed, Tails, ADeclarator, Part, Value}
 use Rattle.c_grammar.specs.Classes.{Class}
 use Rattle.c_grammar.specs.Process.{Process, token}
-use Rattle.c_grammar.specs.Refused.{Why, Syntax, Unsupported, TooDeep, first_is, is_type_name, is_right_bracket, may_omit, in_member, part_construct}
+use Rattle.c_grammar.specs.Refused.{Why, Syntax, Unsupported, TooDeep, first_is, is_type_name, is_right_bracket, may_name, may_omit, in_member, part_construct}
 use Rattle.c_grammar.specs.Ahead.{params_ahead}
 use Rattle.c_grammar.specs.Made.{is_word}
 use Rattle.c_grammar.specs.Choice.{is_star}
@@ -77,8 +77,8 @@ SuffixComes tokens (suffixes.Step way) base = suffix_at tokens ≡ suffixes.Step
 SuffixComes tokens suffixes.Nothing base = ⊥
 
 -- a declarator begins with a star
-abbrev pub DeclaratorStarts : Scene → List Placed → Type 0
-DeclaratorStarts scene tokens = (first_is (is_type_name scene) tokens ≡ false) × (first_is is_star tokens ≡ true)
+abbrev pub DeclaratorStarts : Scene → Role → List Placed → Type 0
+DeclaratorStarts scene role tokens = ((first_is (is_type_name scene) tokens && may_name role) ≡ false) × (first_is is_star tokens ≡ true)
 
 -- a declarator behind its stars begins so
 abbrev pub DirectStarts : Scene → Role → List Placed → DirectKind → Type 0

@@ -35,7 +35,7 @@ pub use look::{
     Mark, comes, designator_ahead, label_ahead, params_ahead, plain_word_ahead, spec_ahead,
     type_ahead, type_name_ahead,
 };
-pub use token::{barred, barred_call, first, refused, taken};
+pub use token::{barred, barred_call, first, refused, sign_at, taken};
 pub use type_kind::{
     DirectKind, Role, SpecKind, TagKind, TailKind, direct_at, spec_at, storage_word, tag_at,
     tail_at, type_word,

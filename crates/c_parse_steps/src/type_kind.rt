@@ -2,7 +2,7 @@
 
 ghost use Rattle.std.specs.Prelude.{◌≡◌};
 ghost use Rattle.c_grammar.specs.Classes.{storage_word, type_word};
-ghost use Rattle.c_grammar.specs.Refused.{in_member, may_omit};
+ghost use Rattle.c_grammar.specs.Refused.{in_member, may_name, may_omit};
 ghost use Rattle.c_parse_steps.specs.Views.{role_view, scene_of};
 ghost use Rattle.c_parse_steps.specs.Kinds.{direct_at, direct_of, direct_of_word, nameless_kind, spec_at, spec_of, spec_of_keyword, tag_at, tag_of, tail_at, tail_of_sign};
 
@@ -68,6 +68,16 @@ impl Role {
         match self {
             Role::Naming | Role::OfMember => false,
             Role::OfParameter | Role::OfTypeName => true,
+        }
+    }
+
+    /// Whether the declarator may have a name.
+    pub fn may_name(self) -> bool
+        ensures { result ≡ may_name (role_view self) }
+    {
+        match self {
+            Role::Naming | Role::OfMember | Role::OfParameter => true,
+            Role::OfTypeName => false,
         }
     }
 

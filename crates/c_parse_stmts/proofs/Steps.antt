@@ -3,16 +3,20 @@ use Rattle.std.proofs.Common.{◌≡◌, ℕ, List, subst, Bor}
 use Rattle.std.specs.Prelude.{Bool, Result, Ok, Err}
 use Rattle.std.specs.Result.{IsErrAnd}
 use Rattle.c_written.specs.declared.token.Placed.{Placed}
-use Rattle.c_written.specs.WrittenFile.{BlockItemTrees}
-use Rattle.c_grammar.specs.Parts.{Scene, Statement, AStmt, Items}
-use Rattle.c_grammar.specs.Process.{give, part}
+use Rattle.c_written.specs.WrittenFile.{BlockItemTrees, StmtTree}
+use Rattle.c_written.specs.declared.file.Stmt.{Stmt}
+use Rattle.std.specs.declared.alloc.Global.{Global}
+use Rattle.std.specs.declared.boxed.Box.{Box}
+use Rattle.c_grammar.specs.Parts.{Scene, Setting, Statement, AStmt, Items, Part, Value}
+use Rattle.c_grammar.specs.FileRules.{substatement}
+use Rattle.c_grammar.specs.Process.{Process, give, part}
 use Rattle.c_grammar.specs.Descent.{Outcome, Done, Stop, Goes, Follows, is_done}
 use Rattle.c_parse_steps.specs.declared.fault.Fault.{Fault}
 use Rattle.c_parse_steps.specs.Answers.{Gives, Steps}
 use Rattle.c_parse_steps.proofs.Paths.{Path}
-use Rattle.c_parse_steps.proofs.Steps.{failed, here, stall, step, stops_here}
+use Rattle.c_parse_steps.proofs.Steps.{failed, halts, here, stall, step, stops_here}
 use Rattle.c_parse_heads.specs.declared.head.ForHead.{ForHead}
-use Rattle.c_parse_heads.specs.Kinds.{ForHeads, for_rest}
+use Rattle.c_parse_heads.specs.Kinds.{ForHeads, Substatements, boxed_tree, for_rest}
 
 -- a block goes on with its next items
 pub last_items : {before more : BlockItemTrees} {d : ℕ} {w s : Scene} {ts : List Placed} (o : Outcome BlockItemTrees) → Goes d s (Items more) ts o → Follows d w (Items before) (part 0 s (Items more) give) ts o
@@ -25,6 +29,17 @@ same_items {d = d} {w} {ts} {o} e g = subst (λ (v : BlockItemTrees). Goes d w (
 -- the scene is the same
 pub in_scene : {b : BlockItemTrees} {d : ℕ} {v w : Scene} {ts : List Placed} {o : Outcome BlockItemTrees} → v ≡ w → Goes d v (Items b) ts o → Goes d w (Items b) ts o
 in_scene {b} {d} {v} {w} {ts} {o} e g = subst (λ (s : Scene). Goes d s (Items b) ts o) e g
+
+-- a statement that is a part of another one was read
+pub held : {p : Part} {goes : Outcome (Value p) → Type 0} {d : ℕ} {w : Scene} {g : Setting} {b : Bool} {k : StmtTree → Process (Value p)} {ts : List Placed} {x : Box Stmt Global × Bor (List Placed)} → Path p goes d w (substatement (record { types = w.types; setting = g }) b k) ts → Substatements d w g b ts (Ok x) → Path p goes d w (k (boxed_tree x.0)) x.1.now
+held {p} {k = k} path h = record { run = λ o f. path.run o (step (h p k) o f) }
+
+pub not_held : {A : Type 0} {p : Part} {goes : Outcome (Value p) → Type 0} {d : ℕ} {w : Scene} {g : Setting} {b : Bool} {k : StmtTree → Process (Value p)} {ts : List Placed} {view : A → Value p} {f : Fault} {r : Result (A × Bor (List Placed)) Fault} → IsErrAnd r (λ e. e ≡ f) → Path p goes d w (substatement (record { types = w.types; setting = g }) b k) ts → Substatements d w g b ts (Err f) → Gives goes view r
+not_held {p = p} {k = k} e path h = failed e (halts (stall (h p k)) (λ why rest j. path.run _ j))
+
+-- it is in its box
+pub same_statement : {d : ℕ} {w : Scene} {p : Part} (k : StmtTree → Process (Value p)) {a b : StmtTree} {ts : List Placed} {o : Outcome (Value p)} → a ≡ b → Follows d w p (k a) ts o → Follows d w p (k b) ts o
+same_statement {d} {w} {p} k {a} {b} {ts} {o} e f = subst (λ v. Follows d w p (k v) ts o) e f
 
 -- the head of a for was read
 pub for_led : {b : Bool} {d : ℕ} {w : Scene} {ts : List Placed} {x : ForHead × Bor (List Placed)} → ForHeads d w ts (Ok x) → Path (AStmt (Statement b)) (λ o. Goes d w (AStmt (Statement b)) ts o) d w (for_rest w x.0) x.1.now

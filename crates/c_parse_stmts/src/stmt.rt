@@ -12,7 +12,7 @@ ghost use Rattle.c_grammar.specs.Refused.{first_is};
 ghost use Rattle.c_parse_steps.specs.Answers.{Answers};
 ghost use Rattle.c_parse_steps.specs.Views.{boxed_expr, scene_of, setting_of};
 ghost use Rattle.c_parse_simple.specs.Kinds.{StatementStarts};
-ghost use Rattle.c_parse_heads.specs.Kinds.{boxed_tree};
+ghost use Rattle.c_parse_heads.specs.Kinds.{Substatements, boxed_tree};
 
 use c_parse_decls::declaration;
 use c_parse_exprs::conditional;
@@ -21,10 +21,10 @@ use c_parse_heads::{
 };
 use c_parse_simple::{
     StatementKind, condition, empty, ends_open, expression, goto, leave, next_turn,
-    return_statement, statement_at,
+    no_left_bracket, return_statement, statement_at,
 };
 use c_parse_steps::{
-    Class, Context, Fault, Mark, Setting, comes, label_ahead, name_of, spec_ahead, taken,
+    Class, Context, Fault, Mark, Setting, comes, label_ahead, name_of, refused, spec_ahead, taken,
 };
 use c_written::{BlockItem, BlockItems, Expr, Keyword, Placed, Pos, Punctuator, Stmt};
 use std::alloc::AllocError;
@@ -76,7 +76,7 @@ fn label<'a>(
     let colon = Class::Sign(Punctuator::Colon);
     let (at, behind) = taken(context, count, 0, Class::Word, tokens)?;
     let (_colon, behind) = taken(context, count, 0, colon, behind)?;
-    let (body, rest) = boxed(context, false, count + 1, behind)?;
+    let (body, rest) = substatement(context, context.setting, false, count, behind)?;
     let name = name_of(context.alloc, &at.token)?;
     Ok((
         Stmt::Label {
@@ -104,7 +104,7 @@ fn case<'a>(
     let (at, behind) = taken(context, count, 0, Class::Keyword(Keyword::Case), tokens)?;
     let (value, rest) = conditional(context, count, behind)?;
     let (_colon, behind) = taken(context, count, 0, colon, rest)?;
-    let (body, rest) = boxed(context, false, count + 1, behind)?;
+    let (body, rest) = substatement(context, context.setting, false, count, behind)?;
     Ok((case_stmt(at.pos, value, body), rest))
 }
 
@@ -123,7 +123,7 @@ fn otherwise<'a>(
     let colon = Class::Sign(Punctuator::Colon);
     let (at, behind) = taken(context, count, 0, Class::Keyword(Keyword::Default), tokens)?;
     let (_colon, behind) = taken(context, count, 0, colon, behind)?;
-    let (body, rest) = boxed(context, false, count + 1, behind)?;
+    let (body, rest) = substatement(context, context.setting, false, count, behind)?;
     Ok((Stmt::Default { pos: at.pos, body }, rest))
 }
 
@@ -159,7 +159,7 @@ fn conditional_statement<'a>(
 {
     let (at, behind) = taken(context, count, 0, Class::Keyword(Keyword::If), tokens)?;
     let (value, rest) = condition(context, count, behind)?;
-    let (then, rest) = substatement(context, false, count + 1, rest)?;
+    let (then, rest) = substatement(context, Setting::InBlock, false, count, rest)?;
     else_part(context, count, at.pos, value, then, rest)
 }
 
@@ -204,7 +204,7 @@ fn else_form<'a>(
     ensures shorter { IfOk result (λ x. length x.1.now < length tokens.now) }
 {
     let (_word, behind) = taken(context, count, 0, Class::Keyword(Keyword::Else), tokens)?;
-    let (otherwise, rest) = substatement(context, false, count + 1, behind)?;
+    let (otherwise, rest) = substatement(context, Setting::InBlock, false, count, behind)?;
     Ok((if_else_stmt(at, condition, then, otherwise), rest))
 }
 
@@ -222,7 +222,7 @@ fn choice<'a>(
 {
     let (at, behind) = taken(context, count, 0, Class::Keyword(Keyword::Switch), tokens)?;
     let (value, rest) = condition(context, count, behind)?;
-    let (body, rest) = substatement(context, true, count + 1, rest)?;
+    let (body, rest) = substatement(context, Setting::InBlock, true, count, rest)?;
     Ok((switch_stmt(at.pos, value, body), rest))
 }
 
@@ -240,7 +240,7 @@ fn while_loop<'a>(
 {
     let (at, behind) = taken(context, count, 0, Class::Keyword(Keyword::While), tokens)?;
     let (condition, rest) = condition(context, count, behind)?;
-    let (body, rest) = substatement(context, false, count + 1, rest)?;
+    let (body, rest) = substatement(context, Setting::InBlock, false, count, rest)?;
     Ok((while_stmt(at.pos, condition, body), rest))
 }
 
@@ -258,7 +258,7 @@ fn do_loop<'a>(
 {
     let semicolon = Class::Sign(Punctuator::Semicolon);
     let (at, behind) = taken(context, count, 0, Class::Keyword(Keyword::Do), tokens)?;
-    let (body, rest) = substatement(context, false, count + 1, behind)?;
+    let (body, rest) = substatement(context, Setting::InBlock, false, count, behind)?;
     let (_word, behind) = taken(context, count, 0, Class::Keyword(Keyword::While), rest)?;
     let (condition, rest) = condition(context, count, behind)?;
     let (_end, rest) = taken(context, count, 0, semicolon, rest)?;
@@ -278,42 +278,33 @@ fn for_loop<'a>(
     ensures shorter { IfOk result (λ x. length x.1.now < length tokens.now) }
 {
     let (head, rest) = for_head(context, count, tokens)?;
-    let (body, rest) = substatement(context, false, count + 1, rest)?;
+    let (body, rest) = substatement(context, Setting::InBlock, false, count, rest)?;
     Ok((for_stmt(head, body), rest))
 }
 
-/// A statement that is a part of another one and stands where that one does.
-#[cycle(statements)]
-fn boxed<'a>(
-    context: &Context<'_>,
-    switched: bool,
-    count: u32,
-    tokens: &'a [Placed],
-) -> Result<(Box<Stmt>, &'a [Placed]), Fault<'a>>
-    ensures goes { Answers count (scene_of context.now) (part.AStmt (part.Statement switched)) tokens.now (λ s. boxed_tree s) result }
-    ensures shorter { IfOk result (λ x. length x.1.now < length tokens.now) }
-{
-    let (whole, rest) = statement(context, switched, count, tokens)?;
-    Ok((Box::new(context.alloc, whole)?, rest))
-}
-
-/// A statement that is a part of another one, in no block of its own.
+/// A statement that is a part of another one, where the tokens stand so.
 #[cycle(statements)]
 fn substatement<'a>(
     context: &Context<'_>,
+    setting: Setting,
     switched: bool,
     count: u32,
     tokens: &'a [Placed],
 ) -> Result<(Box<Stmt>, &'a [Placed]), Fault<'a>>
-    ensures goes { Answers count (part.within (scene_of context.now)) (part.AStmt (part.Statement switched)) tokens.now (λ s. boxed_tree s) result }
+    requires { count ≤ 200 }
+    ensures goes { Substatements count (scene_of context.now) (setting_of setting) switched tokens.now result }
     ensures shorter { IfOk result (λ x. length x.1.now < length tokens.now) }
 {
+    if !no_left_bracket(tokens) {
+        return Err(refused(context, count, tokens));
+    }
     let inner = Context {
         alloc: context.alloc,
         types: context.types,
-        setting: Setting::InBlock,
+        setting,
     };
-    boxed(&inner, switched, count, tokens)
+    let (whole, rest) = statement(&inner, switched, count + 1, tokens)?;
+    Ok((Box::new(context.alloc, whole)?, rest))
 }
 
 /// Where the tokens of a block stand.

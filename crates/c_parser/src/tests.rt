@@ -331,7 +331,7 @@ fn files(rt: HostRuntime) -> Result<(), Fail> {
     Ok(())
 }
 
-const CONSTRUCTS: [(&str, &str); 40] = [
+const CONSTRUCTS: [(&str, &str); 44] = [
     (
         "float x;int main(void){return 0;}",
         "1: refused: unsupported Floating",
@@ -386,6 +386,13 @@ const CONSTRUCTS: [(&str, &str); 40] = [
         "typedef int T;int*T;",
         "19: refused: unsupported TypedefAgain",
     ),
+    (
+        "typedef int T;int x=sizeof(int T);",
+        "32: refused: unsupported TypedefAgain",
+    ),
+    ("typedef int T;int x=sizeof(int*T);", "32: refused: syntax"),
+    ("typedef int T;int x=(int(*T))1;", "27: refused: syntax"),
+    ("typedef int T;int x=(T(*T)[2])0;", "25: refused: syntax"),
     ("int(*f)(void);", "8: refused: unsupported FunctionPointer"),
     (
         "int f(int(void));",
@@ -462,7 +469,7 @@ fn repeated(
     Ok(text)
 }
 
-const DEEP: [(&str, &str, usize, &str, &str, &str, &str); 27] = [
+const DEEP: [(&str, &str, usize, &str, &str, &str, &str); 28] = [
     (
         "int main(void){return ",
         "(",
@@ -473,6 +480,15 @@ const DEEP: [(&str, &str, usize, &str, &str, &str, &str); 27] = [
         "a.c:1:222: refused: nesting above 200",
     ),
     ("int main(void){return ", "(", 199, "0", ")", ";}", ""),
+    (
+        "int main(void){return ",
+        "(",
+        199,
+        "x{",
+        "",
+        "",
+        "a.c:1:223: refused: nesting above 200",
+    ),
     (
         "int main(void){return ",
         "(",
@@ -608,6 +624,69 @@ fn deep(rt: HostRuntime) -> Result<(), Fail> {
             assert_eq!(rt; found.as_str(), *wanted, "{text}");
         }
     }
+    Ok(())
+}
+
+// A bracket that nothing takes, last of the text, and how many forms of the text are unfinished before it.
+const UNTAKEN: [(&str, usize); 16] = [
+    ("return(x{", 1),
+    ("return sizeof(int{", 2),
+    ("return(int{", 2),
+    ("return a[x{", 2),
+    ("return a.{", 1),
+    ("return x?y{", 1),
+    ("return-{", 1),
+    ("if(x{", 1),
+    ("switch(x{", 1),
+    ("do;while(x{", 1),
+    ("for(;;x{", 1),
+    ("int(x{", 1),
+    ("int x[2{", 1),
+    ("int f(int x{", 1),
+    ("int x={1{", 2),
+    ("struct S{int x{", 1),
+];
+
+// So many where others are over.
+const OVER: [(&str, usize); 8] = [
+    ("return x?y:z{", 0),
+    ("return(a+b{", 1),
+    ("return-x{", 0),
+    ("return a=b{", 0),
+    ("int(*x{", 1),
+    ("do;{", 0),
+    ("if(x)[", 0),
+    ("if(x);else[", 0),
+];
+
+// The row, if there is one, whose bracket is not refused for this where so many forms are unfinished before it.
+fn differs(
+    alloc: Global,
+    rows: &[(&str, usize)],
+    forms: usize,
+    what: &str,
+) -> Result<String, Fail> {
+    for (end, own) in rows {
+        let blocks = forms.saturating_sub(*own);
+        let text = repeated(alloc, "void f(void)", "{", blocks, end, "", "")?;
+        let wanted = format!(in alloc; "a.c:1:{}: refused: {what}", text.len())?;
+        let found = line(alloc, text.as_bytes())?;
+        if found.as_str() != wanted.as_str() {
+            return Ok(String::from_str(alloc, end)?);
+        }
+    }
+    Ok(String::new(alloc))
+}
+
+#[test]
+fn untaken(rt: HostRuntime) -> Result<(), Fail> {
+    let alloc = rt.alloc();
+    let deep = differs(alloc, &UNTAKEN, 200, "nesting above 200")?;
+    assert_eq!(rt; deep.as_str(), "");
+    let whole = differs(alloc, &UNTAKEN, 199, "syntax")?;
+    assert_eq!(rt; whole.as_str(), "");
+    let over = differs(alloc, &OVER, 199, "syntax")?;
+    assert_eq!(rt; over.as_str(), "");
     Ok(())
 }
 

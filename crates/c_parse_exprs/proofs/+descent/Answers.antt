@@ -10,9 +10,9 @@ use Rattle.c_grammar.specs.TypeRules as kind
 use Rattle.c_grammar.specs.Descent.{goes_on, stops, is_done, is_barred, no_rule, passes, fails}
 use Rattle.c_parse_steps.specs.Views.{boxed_declarator, boxed_expr, scene_of, level_view, role_view}
 use Rattle.c_parse_steps.specs.Answers.{given, halted, stalled, stepped}
-use Rattle.c_parse_steps.proofs.Steps.{relayed, halts, starved, answer, halt, take, refuse, step, stall, stopped, by, here, stops_here, done, if_true, if_false, borne, unborne, sign_is}
+use Rattle.c_parse_steps.proofs.Steps.{relayed, halts, starved, answer, halt, take, refuse, shut, not_shut, step, stall, stopped, by, here, stops_here, done, if_true, if_false, borne, unborne, sign_is}
 use Rattle.c_parse_steps.proofs.Choices.{primary_is, prefix_is, suffix_is, assign_is, more_is}
-use Rattle.c_parse_leaves.proofs.EndSteps.{made_so, longer_so, closed_so, behind_closed, not_closed, longer_closed, led}
+use Rattle.c_parse_leaves.proofs.EndSteps.{made_so, longer_so, closed_so, shut_so, behind_group, not_grouped, longer_shut, led}
 use Rattle.c_parse_leaves.proofs.ExprSteps.{operand_at, not_question, is_question_ahead, suffix_free, tail_expr, suffixes_at, behind_sign, joint_step, joint_stop, and_left, rebased, nothing_of, call_by, no_joint}
 use Rattle.c_parse_leaves.proofs.Listings.{goes_behind, not_read, first_spec, next_spec, no_type, first_declarator, next_declarator, first_argument, next_argument, first_member, next_member, first_enumerator, next_enumerator, comma_behind, first_parameter, next_parameter}
 use Rattle.c_parse_leaves.proofs.TagSteps.{structure_alone, structure_braces, enumeration_alone, enumeration_braces}
@@ -72,13 +72,13 @@ pub exprs::chosen-returns-in-Err-run-clause-goes : goal.exprs::chosen-returns-in
 exprs::chosen-returns-in-Err-run-clause-goes t c = halted (halts (halt c.in-Err-run.ensures.goes) (λ why rest g. by (expr_rule rule.chosen) refl (is_question_ahead (scene_of c.args.context.now) (boxed_expr c.args.condition) c.args.tokens.now (sym c.if-not-comes.ensures)) (take c.in-Ok.ensures.goes (stops g))))
 
 pub exprs::chosen-returns-in-Err-taken-clause-goes : goal.exprs::chosen-returns-in-Err-taken-clause-goes
-exprs::chosen-returns-in-Err-taken-clause-goes t c = halted (halts (refuse c.in-Err-taken.ensures.goes) (λ why rest g. by (expr_rule rule.chosen) refl (is_question_ahead (scene_of c.args.context.now) (boxed_expr c.args.condition) c.args.tokens.now (sym c.if-not-comes.ensures)) (take c.in-Ok.ensures.goes (goes_on (answer c.in-Ok-run.ensures.goes) (g _ _)))))
+exprs::chosen-returns-in-Err-taken-clause-goes t c = halted (halts (not_shut c.in-Err-taken.ensures.goes) (λ why rest g. by (expr_rule rule.chosen) refl (is_question_ahead (scene_of c.args.context.now) (boxed_expr c.args.condition) c.args.tokens.now (sym c.if-not-comes.ensures)) (take c.in-Ok.ensures.goes (goes_on (answer c.in-Ok-run.ensures.goes) (g _ _)))))
 
 pub exprs::chosen-returns-in-Err-conditional-clause-goes : goal.exprs::chosen-returns-in-Err-conditional-clause-goes
-exprs::chosen-returns-in-Err-conditional-clause-goes t c = halted (halts (halt c.in-Err-conditional.ensures.goes) (λ why rest g. by (expr_rule rule.chosen) refl (is_question_ahead (scene_of c.args.context.now) (boxed_expr c.args.condition) c.args.tokens.now (sym c.if-not-comes.ensures)) (take c.in-Ok.ensures.goes (goes_on (answer c.in-Ok-run.ensures.goes) (take c.in-Ok-taken.ensures.goes (stops g))))))
+exprs::chosen-returns-in-Err-conditional-clause-goes t c = halted (halts (halt c.in-Err-conditional.ensures.goes) (λ why rest g. by (expr_rule rule.chosen) refl (is_question_ahead (scene_of c.args.context.now) (boxed_expr c.args.condition) c.args.tokens.now (sym c.if-not-comes.ensures)) (take c.in-Ok.ensures.goes (goes_on (answer c.in-Ok-run.ensures.goes) (shut c.in-Ok-taken.ensures.goes (stops g))))))
 
 pub exprs::chosen-returns-clause-goes : goal.exprs::chosen-returns-clause-goes
-exprs::chosen-returns-clause-goes t c = made_so _ (by (expr_rule rule.chosen) refl (is_question_ahead (scene_of c.args.context.now) (boxed_expr c.args.condition) c.args.tokens.now (sym c.if-not-comes.ensures)) (take c.in-Ok.ensures.goes (goes_on (answer c.in-Ok-run.ensures.goes) (take c.in-Ok-taken.ensures.goes (goes_on (answer c.in-Ok-conditional.ensures.goes) is_done))))) c.cond_expr.ensures c.handed.ensures.goes
+exprs::chosen-returns-clause-goes t c = made_so _ (by (expr_rule rule.chosen) refl (is_question_ahead (scene_of c.args.context.now) (boxed_expr c.args.condition) c.args.tokens.now (sym c.if-not-comes.ensures)) (take c.in-Ok.ensures.goes (goes_on (answer c.in-Ok-run.ensures.goes) (shut c.in-Ok-taken.ensures.goes (goes_on (answer c.in-Ok-conditional.ensures.goes) is_done))))) c.cond_expr.ensures c.handed.ensures.goes
 
 pub exprs::cast_form-returns-in-Err-clause-goes : goal.exprs::cast_form-returns-in-Err-clause-goes
 exprs::cast_form-returns-in-Err-clause-goes t c = halted (halts (refuse c.in-Err.ensures.goes) (λ why rest g. by (expr_rule rule.cast) (refl) (if_true _ c.requires) (passes (c.requires) (g _ _))))
@@ -90,13 +90,13 @@ pub exprs::cast_form-returns-in-Err-declarator-clause-goes : goal.exprs::cast_fo
 exprs::cast_form-returns-in-Err-declarator-clause-goes t c = halted (halts (halt c.in-Err-declarator.ensures.goes) (λ why rest g. by (expr_rule rule.cast) (refl) (if_true _ c.requires) (passes (c.requires) (take c.in-Ok.ensures.goes (goes_on (answer c.in-Ok-specs.ensures.goes) (stops g))))))
 
 pub exprs::cast_form-returns-in-Err-taken-clause-goes : goal.exprs::cast_form-returns-in-Err-taken-clause-goes
-exprs::cast_form-returns-in-Err-taken-clause-goes t c = halted (halts (refuse c.in-Err-taken.ensures.goes) (λ why rest g. by (expr_rule rule.cast) (refl) (if_true _ c.requires) (passes (c.requires) (take c.in-Ok.ensures.goes (goes_on (answer c.in-Ok-specs.ensures.goes) (goes_on (answer c.in-Ok-declarator.ensures.goes) (g _ _)))))))
+exprs::cast_form-returns-in-Err-taken-clause-goes t c = halted (halts (not_shut c.in-Err-taken.ensures.goes) (λ why rest g. by (expr_rule rule.cast) (refl) (if_true _ c.requires) (passes (c.requires) (take c.in-Ok.ensures.goes (goes_on (answer c.in-Ok-specs.ensures.goes) (goes_on (answer c.in-Ok-declarator.ensures.goes) (g _ _)))))))
 
 pub exprs::cast_form-returns-in-Err-cast_operand-clause-goes : goal.exprs::cast_form-returns-in-Err-cast_operand-clause-goes
-exprs::cast_form-returns-in-Err-cast_operand-clause-goes t c = halted (halts (halt c.in-Err-cast_operand.ensures.goes) (λ why rest g. by (expr_rule rule.cast) (refl) (if_true _ c.requires) (passes (c.requires) (take c.in-Ok.ensures.goes (goes_on (answer c.in-Ok-specs.ensures.goes) (goes_on (answer c.in-Ok-declarator.ensures.goes) (take c.in-Ok-taken.ensures.goes (stops g))))))))
+exprs::cast_form-returns-in-Err-cast_operand-clause-goes t c = halted (halts (halt c.in-Err-cast_operand.ensures.goes) (λ why rest g. by (expr_rule rule.cast) (refl) (if_true _ c.requires) (passes (c.requires) (take c.in-Ok.ensures.goes (goes_on (answer c.in-Ok-specs.ensures.goes) (goes_on (answer c.in-Ok-declarator.ensures.goes) (shut c.in-Ok-taken.ensures.goes (stops g))))))))
 
 pub exprs::cast_form-returns-clause-goes : goal.exprs::cast_form-returns-clause-goes
-exprs::cast_form-returns-clause-goes t c = made_so _ (by (expr_rule rule.cast) (refl) (if_true _ c.requires) (passes (c.requires) (take c.in-Ok.ensures.goes (goes_on (answer c.in-Ok-specs.ensures.goes) (goes_on (answer c.in-Ok-declarator.ensures.goes) (take c.in-Ok-taken.ensures.goes (goes_on (answer c.in-Ok-cast_operand.ensures.goes) is_done))))))) c.cast_expr.ensures c.handed.ensures.goes
+exprs::cast_form-returns-clause-goes t c = made_so _ (by (expr_rule rule.cast) (refl) (if_true _ c.requires) (passes (c.requires) (take c.in-Ok.ensures.goes (goes_on (answer c.in-Ok-specs.ensures.goes) (goes_on (answer c.in-Ok-declarator.ensures.goes) (shut c.in-Ok-taken.ensures.goes (goes_on (answer c.in-Ok-cast_operand.ensures.goes) is_done))))))) c.cast_expr.ensures c.handed.ensures.goes
 
 pub exprs::cast-returns-clause-goes : goal.exprs::cast-returns-clause-goes
 exprs::cast-returns-clause-goes t c = relayed c.unary.ensures.goes (λ x g. by (expr_rule rule.no_cast) (refl) (if_false _ (sym c.if-type_ahead.ensures)) (passes (ap not (sym c.if-type_ahead.ensures)) (here g (is_done)))) (λ why rest g. by (expr_rule rule.no_cast) (refl) (if_false _ (sym c.if-type_ahead.ensures)) (passes (ap not (sym c.if-type_ahead.ensures)) (stops_here g)))
@@ -150,7 +150,7 @@ pub exprs::sized_type-returns-in-Err-declarator-clause-goes : goal.exprs::sized_
 exprs::sized_type-returns-in-Err-declarator-clause-goes t c = halted (halts (halt c.in-Err-declarator.ensures.goes) (λ why rest g. by (expr_rule rule.size_of_type) (refl) (if_true _ c.requires) (passes (c.requires) (take c.in-Ok.ensures.goes (goes_on (answer c.in-Ok-specs.ensures.goes) (stops g))))))
 
 pub exprs::sized_type-returns-in-Err-taken-clause-goes : goal.exprs::sized_type-returns-in-Err-taken-clause-goes
-exprs::sized_type-returns-in-Err-taken-clause-goes t c = halted (halts (refuse c.in-Err-taken.ensures.goes) (λ why rest g. by (expr_rule rule.size_of_type) (refl) (if_true _ c.requires) (passes (c.requires) (take c.in-Ok.ensures.goes (goes_on (answer c.in-Ok-specs.ensures.goes) (goes_on (answer c.in-Ok-declarator.ensures.goes) (g _ _)))))))
+exprs::sized_type-returns-in-Err-taken-clause-goes t c = halted (halts (not_shut c.in-Err-taken.ensures.goes) (λ why rest g. by (expr_rule rule.size_of_type) (refl) (if_true _ c.requires) (passes (c.requires) (take c.in-Ok.ensures.goes (goes_on (answer c.in-Ok-specs.ensures.goes) (goes_on (answer c.in-Ok-declarator.ensures.goes) (g _ _)))))))
 
 pub exprs::postfix-returns-in-Err-clause-goes : goal.exprs::postfix-returns-in-Err-clause-goes
 exprs::postfix-returns-in-Err-clause-goes t c = halted (halts (halt c.in-Err.ensures.goes) (λ why rest g. by (expr_rule rule.postfix) (refl) (refl) (stops_here g)))
@@ -165,7 +165,7 @@ pub exprs::enclosed-returns-in-Err-run-clause-goes : goal.exprs::enclosed-return
 exprs::enclosed-returns-in-Err-run-clause-goes t c = halted (halts (halt c.in-Err-run.ensures.goes) (λ why rest g. by (expr_rule rule.enclosed) (refl) (primary_is (scene_of c.args.context.now) c.args.tokens.now c.requires) (take c.in-Ok.ensures.goes (stops g))))
 
 pub exprs::enclosed-returns-clause-goes : goal.exprs::enclosed-returns-clause-goes
-exprs::enclosed-returns-clause-goes t c = closed_so (λ o g. by (expr_rule rule.enclosed) (refl) (primary_is (scene_of c.args.context.now) c.args.tokens.now c.requires) (take c.in-Ok.ensures.goes (goes_on (answer c.in-Ok-run.ensures.goes) g))) c.enclosed_expr-whole.ensures c.closed.ensures.goes
+exprs::enclosed-returns-clause-goes t c = shut_so (λ o g. by (expr_rule rule.enclosed) (refl) (primary_is (scene_of c.args.context.now) c.args.tokens.now c.requires) (take c.in-Ok.ensures.goes (goes_on (answer c.in-Ok-run.ensures.goes) g))) c.enclosed_expr-whole.ensures c.closed.ensures.goes
 
 pub exprs::index-returns-in-Err-clause-goes : goal.exprs::index-returns-in-Err-clause-goes
 exprs::index-returns-in-Err-clause-goes t c = stalled (halts (refuse c.in-Err.ensures.goes) (λ why rest g. by (expr_rule rule.index) (suffix_free (scene_of c.args.context.now) (boxed_expr c.args.base) c.args.tokens.now (suffix_is (scene_of c.args.context.now) (boxed_expr c.args.base) c.args.tokens.now c.requires).1) ((suffix_is (scene_of c.args.context.now) (boxed_expr c.args.base) c.args.tokens.now c.requires).0) (g _ _)))
@@ -174,7 +174,7 @@ pub exprs::index-returns-in-Err-run-clause-goes : goal.exprs::index-returns-in-E
 exprs::index-returns-in-Err-run-clause-goes t c = stalled (halts (halt c.in-Err-run.ensures.goes) (λ why rest g. by (expr_rule rule.index) (suffix_free (scene_of c.args.context.now) (boxed_expr c.args.base) c.args.tokens.now (suffix_is (scene_of c.args.context.now) (boxed_expr c.args.base) c.args.tokens.now c.requires).1) ((suffix_is (scene_of c.args.context.now) (boxed_expr c.args.base) c.args.tokens.now c.requires).0) (take c.in-Ok.ensures.goes (stops g))))
 
 pub exprs::index-returns-clause-goes : goal.exprs::index-returns-clause-goes
-exprs::index-returns-clause-goes t c = longer_closed _ (λ o h. by (expr_rule rule.index) (suffix_free (scene_of c.args.context.now) (boxed_expr c.args.base) c.args.tokens.now (suffix_is (scene_of c.args.context.now) (boxed_expr c.args.base) c.args.tokens.now c.requires).1) ((suffix_is (scene_of c.args.context.now) (boxed_expr c.args.base) c.args.tokens.now c.requires).0) (take c.in-Ok.ensures.goes (goes_on (answer c.in-Ok-run.ensures.goes) h))) c.index_expr-whole.ensures c.closed.ensures.goes
+exprs::index-returns-clause-goes t c = longer_shut _ (λ o h. by (expr_rule rule.index) (suffix_free (scene_of c.args.context.now) (boxed_expr c.args.base) c.args.tokens.now (suffix_is (scene_of c.args.context.now) (boxed_expr c.args.base) c.args.tokens.now c.requires).1) ((suffix_is (scene_of c.args.context.now) (boxed_expr c.args.base) c.args.tokens.now c.requires).0) (take c.in-Ok.ensures.goes (goes_on (answer c.in-Ok-run.ensures.goes) h))) c.index_expr-whole.ensures c.closed.ensures.goes
 
 pub exprs::suffixes-returns-then-calls_no_word-clause-goes : goal.exprs::suffixes-returns-then-calls_no_word-clause-goes
 exprs::suffixes-returns-then-calls_no_word-clause-goes t c = halted (stopped (c.barred_call.ensures (boxed_expr c.forms.base) (and_left _ _ (rebased _ c.deref.ensures c.if-calls_no_word.ensures))) (c.forms.invariant.0 _ (is_barred (borne _ (rebased _ c.deref.ensures c.if-calls_no_word.ensures)))))
@@ -216,10 +216,10 @@ pub exprs::right_side-returns-clause-goes : goal.exprs::right_side-returns-claus
 exprs::right_side-returns-clause-goes t c = λ p k. stepped (λ o h. take c.in-Ok.ensures.goes (goes_on (answer c.in-Ok-operand.ensures.goes) h))
 
 pub exprs::sized_type-returns-then-comes-clause-goes : goal.exprs::sized_type-returns-then-comes-clause-goes
-exprs::sized_type-returns-then-comes-clause-goes t c = halted (stopped c.barred.ensures (by (expr_rule rule.size_of_type) refl (if_true _ c.requires) (passes c.requires (take c.in-Ok.ensures.goes (goes_on (answer c.in-Ok-specs.ensures.goes) (goes_on (answer c.in-Ok-declarator.ensures.goes) (take c.in-Ok-taken.ensures.goes (stops_here {i = part.AfterType} (is_barred (borne _ (sym c.if-comes.ensures)))))))))))
+exprs::sized_type-returns-then-comes-clause-goes t c = halted (stopped c.barred.ensures (by (expr_rule rule.size_of_type) refl (if_true _ c.requires) (passes c.requires (take c.in-Ok.ensures.goes (goes_on (answer c.in-Ok-specs.ensures.goes) (goes_on (answer c.in-Ok-declarator.ensures.goes) (shut c.in-Ok-taken.ensures.goes (stops_here {i = part.AfterType} (is_barred (borne _ (sym c.if-comes.ensures)))))))))))
 
 pub exprs::sized_type-returns-clause-goes : goal.exprs::sized_type-returns-clause-goes
-exprs::sized_type-returns-clause-goes t c = made_so _ (by (expr_rule rule.size_of_type) refl (if_true _ c.requires) (passes c.requires (take c.in-Ok.ensures.goes (goes_on (answer c.in-Ok-specs.ensures.goes) (goes_on (answer c.in-Ok-declarator.ensures.goes) (take c.in-Ok-taken.ensures.goes (here (by (expr_rule rule.after_type) (unborne _ (sym c.if-comes.ensures)) refl is_done) is_done))))))) c.sizeof_type.ensures c.handed.ensures.goes
+exprs::sized_type-returns-clause-goes t c = made_so _ (by (expr_rule rule.size_of_type) refl (if_true _ c.requires) (passes c.requires (take c.in-Ok.ensures.goes (goes_on (answer c.in-Ok-specs.ensures.goes) (goes_on (answer c.in-Ok-declarator.ensures.goes) (shut c.in-Ok-taken.ensures.goes (here (by (expr_rule rule.after_type) (unborne _ (sym c.if-comes.ensures)) refl is_done) is_done))))))) c.sizeof_type.ensures c.handed.ensures.goes
 
 pub exprs::more-returns-clause-goes : goal.exprs::more-returns-clause-goes
 exprs::more-returns-clause-goes t c = given (c.joints.invariant.0 _ (by (expr_rule rule.run_end) refl (more_is (scene_of c.args.context.now) (level_view c.args.level) (boxed_expr c.joints.left) c.joints.rest.now (no_joint c.joint_at.result (λ j e. c.in_default.not-Some j e) c.joint_at.ensures)) is_done))
@@ -281,11 +281,11 @@ types::enumerator_value-returns-in-Err-conditional-clause-goes t c = halted (hal
 pub types::enumerator_value-returns-clause-goes : goal.types::enumerator_value-returns-clause-goes
 types::enumerator_value-returns-clause-goes t c = given (by (type_rule kind.enumerator_valued) (refl) (if_true _ (sym c.if-not-comes.ensures)) (take c.in-Ok.ensures.goes (goes_on (answer c.in-Ok-conditional.ensures.goes) (done c.valued_enumerator.ensures))))
 
-pub declarators::declarator-returns-then-type_name_ahead-clause-goes : goal.declarators::declarator-returns-then-type_name_ahead-clause-goes
-declarators::declarator-returns-then-type_name_ahead-clause-goes t c = halted (stopped c.barred.ensures (is_barred (borne _ (sym c.if-type_name_ahead.ensures))))
+pub declarators::declarator-returns-then-type_name_comes-clause-goes : goal.declarators::declarator-returns-then-type_name_comes-clause-goes
+declarators::declarator-returns-then-type_name_comes-clause-goes t c = halted (stopped c.barred.ensures (is_barred (borne _ (sym c.if-type_name_comes.ensures))))
 
 pub declarators::declarator-returns-clause-goes : goal.declarators::declarator-returns-clause-goes
-declarators::declarator-returns-clause-goes t c = relayed c.direct.ensures.goes (λ x g. by (type_rule kind.direct) (unborne _ (sym c.if-type_name_ahead.ensures)) (if_false _ (sym c.if-comes.ensures)) (here g (is_done))) (λ why rest g. by (type_rule kind.direct) (unborne _ (sym c.if-type_name_ahead.ensures)) (if_false _ (sym c.if-comes.ensures)) (stops_here g))
+declarators::declarator-returns-clause-goes t c = relayed c.direct.ensures.goes (λ x g. by (type_rule kind.direct) (unborne _ (sym c.if-type_name_comes.ensures)) (if_false _ (sym c.if-comes.ensures)) (here g (is_done))) (λ why rest g. by (type_rule kind.direct) (unborne _ (sym c.if-type_name_comes.ensures)) (if_false _ (sym c.if-comes.ensures)) (stops_here g))
 
 pub declarators::pointer-returns-in-Err-clause-goes : goal.declarators::pointer-returns-in-Err-clause-goes
 declarators::pointer-returns-in-Err-clause-goes t c = halted (halts (refuse c.in-Err.ensures.goes) (λ why rest g. by (type_rule kind.pointer) (unborne _ c.requires.0) (if_true _ c.requires.1) (g _ _)))
@@ -318,7 +318,7 @@ pub declarators::grouped-returns-in-Err-declarator-clause-goes : goal.declarator
 declarators::grouped-returns-in-Err-declarator-clause-goes t c = halted (halts (halt c.in-Err-declarator.ensures.goes) (λ why rest g. by (type_rule kind.grouped) (unborne _ c.requires.0) (direct_is _ _ _ c.requires.1) (take c.in-Ok.ensures.goes (stops g))))
 
 pub declarators::grouped-returns-then-not-is_given-clause-goes : goal.declarators::grouped-returns-then-not-is_given-clause-goes
-declarators::grouped-returns-then-not-is_given-clause-goes t c = halted (stopped c.refused.ensures (by (type_rule kind.grouped) (unborne _ c.requires.0) (direct_is _ _ _ c.requires.1) (take c.in-Ok.ensures.goes (goes_on (answer c.in-Ok-declarator.ensures.goes) (fails (regiven c.deref.ensures c.if-not-is_given.ensures))))))
+declarators::grouped-returns-then-not-is_given-clause-goes t c = halted (stopped c.refused.ensures (by (type_rule kind.grouped) (unborne _ c.requires.0) (direct_is _ _ _ c.requires.1) (take c.in-Ok.ensures.goes (goes_on (answer c.in-Ok-declarator.ensures.goes) (stops (by (type_rule kind.group_end) refl refl (fails (regiven c.deref.ensures c.if-not-is_given.ensures))))))))
 
 pub declarators::tails-returns-then-calls_no_name-clause-goes : goal.declarators::tails-returns-then-calls_no_name-clause-goes
 declarators::tails-returns-then-calls_no_name-clause-goes t c = halted (stopped c.barred.ensures (c.forms.invariant.0 _ (is_barred (borne _ (renamed _ _ c.deref.ensures c.if-calls_no_name.ensures)))))
@@ -480,10 +480,10 @@ pub types::member-all-preserved : goal.types::member-all-preserved
 types::member-all-preserved t c = (next_declarator (sym c.if-comes.ensures) (sym c.if-comes-2.ensures) c.in-Ok-taken.ensures.goes c.in_ok-push_declarator.ensures (λ o g. goes_behind c.all.invariant.0 c.in-Ok-declarator.ensures.goes o g), omega (arith, c.in-Ok-declarator.ensures.shorter, c.in-Ok-taken.ensures.shorter))
 
 pub declarators::grouped-returns-in-Err-closed-clause-goes : goal.declarators::grouped-returns-in-Err-closed-clause-goes
-declarators::grouped-returns-in-Err-closed-clause-goes t c = halted (halts (not_closed c.in-Err-closed.ensures.goes) (λ why rest g. by (type_rule kind.grouped) (unborne _ c.requires.0) (direct_is _ _ _ c.requires.1) (take c.in-Ok.ensures.goes (goes_on (answer c.in-Ok-declarator.ensures.goes) (passes (regiven c.deref.ensures c.if-not-is_given.ensures) (g _ _))))))
+declarators::grouped-returns-in-Err-closed-clause-goes t c = halted (halts (not_grouped (regiven c.deref.ensures c.if-not-is_given.ensures) c.in-Err-closed.ensures.goes) (λ why rest g. by (type_rule kind.grouped) (unborne _ c.requires.0) (direct_is _ _ _ c.requires.1) (take c.in-Ok.ensures.goes (goes_on (answer c.in-Ok-declarator.ensures.goes) (g _ _)))))
 
 pub declarators::grouped-returns-clause-goes : goal.declarators::grouped-returns-clause-goes
-declarators::grouped-returns-clause-goes t c = relayed c.tails.ensures.goes (λ x g. by (type_rule kind.grouped) (unborne _ c.requires.0) (direct_is _ _ _ c.requires.1) (take c.in-Ok.ensures.goes (goes_on (answer c.in-Ok-declarator.ensures.goes) (passes (regiven c.deref.ensures c.if-not-is_given.ensures) (behind_closed boxed_declarator c.in-Ok-closed.ensures.goes c.grouped_declarator-whole.ensures (λ e. here (tails_at e g) is_done)))))) (λ why rest g. by (type_rule kind.grouped) (unborne _ c.requires.0) (direct_is _ _ _ c.requires.1) (take c.in-Ok.ensures.goes (goes_on (answer c.in-Ok-declarator.ensures.goes) (passes (regiven c.deref.ensures c.if-not-is_given.ensures) (behind_closed boxed_declarator c.in-Ok-closed.ensures.goes c.grouped_declarator-whole.ensures (λ e. stops_here (tails_at e g)))))))
+declarators::grouped-returns-clause-goes t c = relayed c.tails.ensures.goes (λ x g. by (type_rule kind.grouped) (unborne _ c.requires.0) (direct_is _ _ _ c.requires.1) (take c.in-Ok.ensures.goes (goes_on (answer c.in-Ok-declarator.ensures.goes) (behind_group boxed_declarator (regiven c.deref.ensures c.if-not-is_given.ensures) c.in-Ok-closed.ensures.goes c.grouped_declarator-whole.ensures (λ e. here (tails_at e g) is_done))))) (λ why rest g. by (type_rule kind.grouped) (unborne _ c.requires.0) (direct_is _ _ _ c.requires.1) (take c.in-Ok.ensures.goes (goes_on (answer c.in-Ok-declarator.ensures.goes) (behind_group boxed_declarator (regiven c.deref.ensures c.if-not-is_given.ensures) c.in-Ok-closed.ensures.goes c.grouped_declarator-whole.ensures (λ e. stops_here (tails_at e g))))))
 
 pub declarators::named-returns-in-Err-clause-goes : goal.declarators::named-returns-in-Err-clause-goes
 declarators::named-returns-in-Err-clause-goes t c = halted (halts (stall (c.in-Err.ensures.goes (part.ADeclarator (part.Direct (role_view c.args.role))) (λ d. process.part 0 (scene_of c.args.context.now) (part.ADeclarator (part.Tails (role_view c.args.role) true d)) process.give))) (λ why rest g. by (type_rule (kind.declared_name (direct_is _ _ _ c.requires.1).0)) (unborne _ c.requires.0) (direct_is _ _ _ c.requires.1).1 g))

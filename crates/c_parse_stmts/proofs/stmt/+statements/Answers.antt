@@ -3,6 +3,8 @@ use Rattle.std.proofs.Common.{refl, sym, ap, ◌∙◌, arith}
 use Rattle.std.specs.Prelude.{not, ◌&&◌}
 use Rattle.c_written.specs.declared.file.Stmt.{Stmt}
 use Rattle.c_grammar.specs.Choice.{is_else_word}
+use Rattle.c_grammar.specs.Descent.{fails, goes_on, passes, stops}
+use Rattle.c_parse_steps.specs.Answers.{stalled, stepped}
 use Rattle.c_grammar.specs.Made.{ends_open}
 use Rattle.c_grammar.specs.Refused.{first_is}
 use Rattle.c_written.specs.WrittenFile as trees
@@ -12,12 +14,12 @@ use Rattle.c_parse_steps.specs.Views.{boxed_expr, scene_of}
 use Rattle.c_written.proofs.WrittenFileTrees.{blockitem_declaration, blockitem_statement, blockitems_nil, stmt_block, stmt_default, stmt_label}
 use Rattle.c_parse_heads.specs.Kinds.{boxed_tree}
 use Rattle.c_parse_simple.specs.declared.stmt_kind.StatementKind.TheVariants as statements
-use Rattle.c_parse_steps.proofs.Steps.{failed, halt, halts, if_false, if_true, starved}
+use Rattle.c_parse_steps.proofs.Steps.{answer, halt, halts, if_false, if_true, stalls, starved, starves, stopped}
 use Rattle.c_parse_simple.proofs.Starts.{statement_begins}
 use Rattle.c_parse_stmts.proofs.Starts.{label_rule}
 use Rattle.c_parse_steps.proofs.Paths.{after, begin, behind, decides, ends, goes_so, inside, lasts, not_after, not_behind, not_inside, same_value, where_so}
 use Rattle.c_parse_simple.proofs.Steps.{not_tried, tried}
-use Rattle.c_parse_stmts.proofs.Steps.{for_led, in_scene, last_items, not_led, same_items}
+use Rattle.c_parse_stmts.proofs.Steps.{for_led, held, in_scene, last_items, not_held, not_led, same_items, same_statement}
 use Rattle.c_parse_stmts.proofs.stmt.+statements.Goals as goal
 
 pub label-returns-in_err-at-clause-goes : goal.label-returns-in_err-at-clause-goes
@@ -27,13 +29,13 @@ pub label-returns-in_err-_colon-clause-goes : goal.label-returns-in_err-_colon-c
 label-returns-in_err-_colon-clause-goes t c = not_after c.from_residual-in_err-_colon.ensures.1 (after (where_so (begin {p = AStmt (Statement c.args.switched)} (λ o g. g) refl (label_rule _ _ _ c.requires)) c.requires) c.in_ok-at.ensures.goes) c.in_err-_colon.ensures.goes
 
 pub label-returns-in_err-body-clause-goes : goal.label-returns-in_err-body-clause-goes
-label-returns-in_err-body-clause-goes t c = not_inside c.from_residual-in_err-body.ensures.1 (after (after (where_so (begin {p = AStmt (Statement c.args.switched)} (λ o g. g) refl (label_rule _ _ _ c.requires)) c.requires) c.in_ok-at.ensures.goes) c.in_ok-_colon.ensures.goes) c.in_err-body.ensures.goes
+label-returns-in_err-body-clause-goes t c = not_held c.from_residual-in_err-body.ensures.1 (after (after (where_so (begin {p = AStmt (Statement c.args.switched)} (λ o g. g) refl (label_rule _ _ _ c.requires)) c.requires) c.in_ok-at.ensures.goes) c.in_ok-_colon.ensures.goes) c.in_err-body.ensures.goes
 
 pub label-returns-in_err-name-clause-goes : goal.label-returns-in_err-name-clause-goes
 label-returns-in_err-name-clause-goes t c = starved c.from_residual-in_err-name.ensures.1
 
 pub label-returns-clause-goes : goal.label-returns-clause-goes
-label-returns-clause-goes t c = ends (inside (after (after (where_so (begin {p = AStmt (Statement c.args.switched)} (λ o g. g) refl (label_rule _ _ _ c.requires)) c.requires) c.in_ok-at.ensures.goes) c.in_ok-_colon.ensures.goes) c.in_ok-body.ensures.goes) (stmt_label _ _ _ ∙ ap (λ n. trees.Label c.in_ok-at.at.now.pos n (boxed_tree c.in_ok-body.body)) c.in_ok-name.ensures)
+label-returns-clause-goes t c = ends (held (after (after (where_so (begin {p = AStmt (Statement c.args.switched)} (λ o g. g) refl (label_rule _ _ _ c.requires)) c.requires) c.in_ok-at.ensures.goes) c.in_ok-_colon.ensures.goes) c.in_ok-body.ensures.goes) (stmt_label _ _ _ ∙ ap (λ n. trees.Label c.in_ok-at.at.now.pos n (boxed_tree c.in_ok-body.body)) c.in_ok-name.ensures)
 
 pub case-returns-in_err-at-clause-goes : goal.case-returns-in_err-at-clause-goes
 case-returns-in_err-at-clause-goes t c = not_after c.from_residual.ensures.1 (statement_begins statements.Case c.requires refl) c.in_err-at.ensures.goes
@@ -45,10 +47,10 @@ pub case-returns-in_err-_colon-clause-goes : goal.case-returns-in_err-_colon-cla
 case-returns-in_err-_colon-clause-goes t c = not_after c.from_residual-in_err-_colon.ensures.1 (behind (after (statement_begins statements.Case c.requires refl) c.in_ok-at.ensures.goes) c.in_ok-value.ensures.goes) c.in_err-_colon.ensures.goes
 
 pub case-returns-in_err-body-clause-goes : goal.case-returns-in_err-body-clause-goes
-case-returns-in_err-body-clause-goes t c = not_inside c.from_residual-in_err-body.ensures.1 (after (behind (after (statement_begins statements.Case c.requires refl) c.in_ok-at.ensures.goes) c.in_ok-value.ensures.goes) c.in_ok-_colon.ensures.goes) c.in_err-body.ensures.goes
+case-returns-in_err-body-clause-goes t c = not_held c.from_residual-in_err-body.ensures.1 (after (behind (after (statement_begins statements.Case c.requires refl) c.in_ok-at.ensures.goes) c.in_ok-value.ensures.goes) c.in_ok-_colon.ensures.goes) c.in_err-body.ensures.goes
 
 pub case-returns-clause-goes : goal.case-returns-clause-goes
-case-returns-clause-goes t c = ends (inside (after (behind (after (statement_begins statements.Case c.requires refl) c.in_ok-at.ensures.goes) c.in_ok-value.ensures.goes) c.in_ok-_colon.ensures.goes) c.in_ok-body.ensures.goes) c.case_stmt.ensures
+case-returns-clause-goes t c = ends (held (after (behind (after (statement_begins statements.Case c.requires refl) c.in_ok-at.ensures.goes) c.in_ok-value.ensures.goes) c.in_ok-_colon.ensures.goes) c.in_ok-body.ensures.goes) c.case_stmt.ensures
 
 pub otherwise-returns-in_err-at-clause-goes : goal.otherwise-returns-in_err-at-clause-goes
 otherwise-returns-in_err-at-clause-goes t c = not_after c.from_residual.ensures.1 (statement_begins statements.Default c.requires refl) c.in_err-at.ensures.goes
@@ -57,10 +59,10 @@ pub otherwise-returns-in_err-_colon-clause-goes : goal.otherwise-returns-in_err-
 otherwise-returns-in_err-_colon-clause-goes t c = not_after c.from_residual-in_err-_colon.ensures.1 (after (statement_begins statements.Default c.requires refl) c.in_ok-at.ensures.goes) c.in_err-_colon.ensures.goes
 
 pub otherwise-returns-in_err-body-clause-goes : goal.otherwise-returns-in_err-body-clause-goes
-otherwise-returns-in_err-body-clause-goes t c = not_inside c.from_residual-in_err-body.ensures.1 (after (after (statement_begins statements.Default c.requires refl) c.in_ok-at.ensures.goes) c.in_ok-_colon.ensures.goes) c.in_err-body.ensures.goes
+otherwise-returns-in_err-body-clause-goes t c = not_held c.from_residual-in_err-body.ensures.1 (after (after (statement_begins statements.Default c.requires refl) c.in_ok-at.ensures.goes) c.in_ok-_colon.ensures.goes) c.in_err-body.ensures.goes
 
 pub otherwise-returns-clause-goes : goal.otherwise-returns-clause-goes
-otherwise-returns-clause-goes t c = ends (inside (after (after (statement_begins statements.Default c.requires refl) c.in_ok-at.ensures.goes) c.in_ok-_colon.ensures.goes) c.in_ok-body.ensures.goes) (stmt_default _ _)
+otherwise-returns-clause-goes t c = ends (held (after (after (statement_begins statements.Default c.requires refl) c.in_ok-at.ensures.goes) c.in_ok-_colon.ensures.goes) c.in_ok-body.ensures.goes) (stmt_default _ _)
 
 pub block-returns-in_err-at-clause-goes : goal.block-returns-in_err-at-clause-goes
 block-returns-in_err-at-clause-goes t c = not_after c.from_residual.ensures.1 (statement_begins statements.Block c.requires refl) c.in_err-at.ensures.goes
@@ -78,10 +80,10 @@ pub conditional_statement-returns-in_err-value-clause-goes : goal.conditional_st
 conditional_statement-returns-in_err-value-clause-goes t c = not_tried c.from_residual-in_err-value.ensures.1 (after (statement_begins statements.If c.requires refl) c.in_ok-at.ensures.goes) c.in_err-value.ensures.goes
 
 pub conditional_statement-returns-in_err-then-clause-goes : goal.conditional_statement-returns-in_err-then-clause-goes
-conditional_statement-returns-in_err-then-clause-goes t c = not_inside c.from_residual-in_err-then.ensures.1 (tried (after (statement_begins statements.If c.requires refl) c.in_ok-at.ensures.goes) c.in_ok-value.ensures.goes) c.in_err-then.ensures.goes
+conditional_statement-returns-in_err-then-clause-goes t c = not_held c.from_residual-in_err-then.ensures.1 (tried (after (statement_begins statements.If c.requires refl) c.in_ok-at.ensures.goes) c.in_ok-value.ensures.goes) c.in_err-then.ensures.goes
 
 pub conditional_statement-returns-clause-goes : goal.conditional_statement-returns-clause-goes
-conditional_statement-returns-clause-goes t c = lasts (inside (tried (after (statement_begins statements.If c.requires refl) c.in_ok-at.ensures.goes) c.in_ok-value.ensures.goes) c.in_ok-then.ensures.goes) c.else_part.ensures.goes (λ s. refl)
+conditional_statement-returns-clause-goes t c = lasts (held (tried (after (statement_begins statements.If c.requires refl) c.in_ok-at.ensures.goes) c.in_ok-value.ensures.goes) c.in_ok-then.ensures.goes) c.else_part.ensures.goes (λ s. refl)
 
 pub choice-returns-in_err-at-clause-goes : goal.choice-returns-in_err-at-clause-goes
 choice-returns-in_err-at-clause-goes t c = not_after c.from_residual.ensures.1 (statement_begins statements.Switch c.requires refl) c.in_err-at.ensures.goes
@@ -90,10 +92,10 @@ pub choice-returns-in_err-value-clause-goes : goal.choice-returns-in_err-value-c
 choice-returns-in_err-value-clause-goes t c = not_tried c.from_residual-in_err-value.ensures.1 (after (statement_begins statements.Switch c.requires refl) c.in_ok-at.ensures.goes) c.in_err-value.ensures.goes
 
 pub choice-returns-in_err-body-clause-goes : goal.choice-returns-in_err-body-clause-goes
-choice-returns-in_err-body-clause-goes t c = not_inside c.from_residual-in_err-body.ensures.1 (tried (after (statement_begins statements.Switch c.requires refl) c.in_ok-at.ensures.goes) c.in_ok-value.ensures.goes) c.in_err-body.ensures.goes
+choice-returns-in_err-body-clause-goes t c = not_held c.from_residual-in_err-body.ensures.1 (tried (after (statement_begins statements.Switch c.requires refl) c.in_ok-at.ensures.goes) c.in_ok-value.ensures.goes) c.in_err-body.ensures.goes
 
 pub choice-returns-clause-goes : goal.choice-returns-clause-goes
-choice-returns-clause-goes t c = ends (inside (tried (after (statement_begins statements.Switch c.requires refl) c.in_ok-at.ensures.goes) c.in_ok-value.ensures.goes) c.in_ok-body.ensures.goes) c.switch_stmt.ensures
+choice-returns-clause-goes t c = ends (held (tried (after (statement_begins statements.Switch c.requires refl) c.in_ok-at.ensures.goes) c.in_ok-value.ensures.goes) c.in_ok-body.ensures.goes) c.switch_stmt.ensures
 
 pub while_loop-returns-in_err-at-clause-goes : goal.while_loop-returns-in_err-at-clause-goes
 while_loop-returns-in_err-at-clause-goes t c = not_after c.from_residual.ensures.1 (statement_begins statements.While c.requires refl) c.in_err-at.ensures.goes
@@ -102,49 +104,49 @@ pub while_loop-returns-in_err-condition-clause-goes : goal.while_loop-returns-in
 while_loop-returns-in_err-condition-clause-goes t c = not_tried c.from_residual-in_err-condition.ensures.1 (after (statement_begins statements.While c.requires refl) c.in_ok-at.ensures.goes) c.in_err-condition.ensures.goes
 
 pub while_loop-returns-in_err-body-clause-goes : goal.while_loop-returns-in_err-body-clause-goes
-while_loop-returns-in_err-body-clause-goes t c = not_inside c.from_residual-in_err-body.ensures.1 (tried (after (statement_begins statements.While c.requires refl) c.in_ok-at.ensures.goes) c.in_ok-condition.ensures.goes) c.in_err-body.ensures.goes
+while_loop-returns-in_err-body-clause-goes t c = not_held c.from_residual-in_err-body.ensures.1 (tried (after (statement_begins statements.While c.requires refl) c.in_ok-at.ensures.goes) c.in_ok-condition.ensures.goes) c.in_err-body.ensures.goes
 
 pub while_loop-returns-clause-goes : goal.while_loop-returns-clause-goes
-while_loop-returns-clause-goes t c = ends (inside (tried (after (statement_begins statements.While c.requires refl) c.in_ok-at.ensures.goes) c.in_ok-condition.ensures.goes) c.in_ok-body.ensures.goes) c.while_stmt.ensures
+while_loop-returns-clause-goes t c = ends (held (tried (after (statement_begins statements.While c.requires refl) c.in_ok-at.ensures.goes) c.in_ok-condition.ensures.goes) c.in_ok-body.ensures.goes) c.while_stmt.ensures
 
 pub do_loop-returns-in_err-at-clause-goes : goal.do_loop-returns-in_err-at-clause-goes
 do_loop-returns-in_err-at-clause-goes t c = not_after c.from_residual.ensures.1 (statement_begins statements.Do c.requires refl) c.in_err-at.ensures.goes
 
 pub do_loop-returns-in_err-body-clause-goes : goal.do_loop-returns-in_err-body-clause-goes
-do_loop-returns-in_err-body-clause-goes t c = not_inside c.from_residual-in_err-body.ensures.1 (after (statement_begins statements.Do c.requires refl) c.in_ok-at.ensures.goes) c.in_err-body.ensures.goes
+do_loop-returns-in_err-body-clause-goes t c = not_held c.from_residual-in_err-body.ensures.1 (after (statement_begins statements.Do c.requires refl) c.in_ok-at.ensures.goes) c.in_err-body.ensures.goes
 
 pub do_loop-returns-in_err-_word-clause-goes : goal.do_loop-returns-in_err-_word-clause-goes
-do_loop-returns-in_err-_word-clause-goes t c = not_after c.from_residual-in_err-_word.ensures.1 (inside (after (statement_begins statements.Do c.requires refl) c.in_ok-at.ensures.goes) c.in_ok-body.ensures.goes) c.in_err-_word.ensures.goes
+do_loop-returns-in_err-_word-clause-goes t c = not_after c.from_residual-in_err-_word.ensures.1 (held (after (statement_begins statements.Do c.requires refl) c.in_ok-at.ensures.goes) c.in_ok-body.ensures.goes) c.in_err-_word.ensures.goes
 
 pub do_loop-returns-in_err-condition-clause-goes : goal.do_loop-returns-in_err-condition-clause-goes
-do_loop-returns-in_err-condition-clause-goes t c = not_tried c.from_residual-in_err-condition.ensures.1 (after (inside (after (statement_begins statements.Do c.requires refl) c.in_ok-at.ensures.goes) c.in_ok-body.ensures.goes) c.in_ok-_word.ensures.goes) c.in_err-condition.ensures.goes
+do_loop-returns-in_err-condition-clause-goes t c = not_tried c.from_residual-in_err-condition.ensures.1 (after (held (after (statement_begins statements.Do c.requires refl) c.in_ok-at.ensures.goes) c.in_ok-body.ensures.goes) c.in_ok-_word.ensures.goes) c.in_err-condition.ensures.goes
 
 pub do_loop-returns-in_err-_end-clause-goes : goal.do_loop-returns-in_err-_end-clause-goes
-do_loop-returns-in_err-_end-clause-goes t c = not_after c.from_residual-in_err-_end.ensures.1 (tried (after (inside (after (statement_begins statements.Do c.requires refl) c.in_ok-at.ensures.goes) c.in_ok-body.ensures.goes) c.in_ok-_word.ensures.goes) c.in_ok-condition.ensures.goes) c.in_err-_end.ensures.goes
+do_loop-returns-in_err-_end-clause-goes t c = not_after c.from_residual-in_err-_end.ensures.1 (tried (after (held (after (statement_begins statements.Do c.requires refl) c.in_ok-at.ensures.goes) c.in_ok-body.ensures.goes) c.in_ok-_word.ensures.goes) c.in_ok-condition.ensures.goes) c.in_err-_end.ensures.goes
 
 pub do_loop-returns-clause-goes : goal.do_loop-returns-clause-goes
-do_loop-returns-clause-goes t c = ends (after (tried (after (inside (after (statement_begins statements.Do c.requires refl) c.in_ok-at.ensures.goes) c.in_ok-body.ensures.goes) c.in_ok-_word.ensures.goes) c.in_ok-condition.ensures.goes) c.in_ok-_end.ensures.goes) c.do_stmt.ensures
+do_loop-returns-clause-goes t c = ends (after (tried (after (held (after (statement_begins statements.Do c.requires refl) c.in_ok-at.ensures.goes) c.in_ok-body.ensures.goes) c.in_ok-_word.ensures.goes) c.in_ok-condition.ensures.goes) c.in_ok-_end.ensures.goes) c.do_stmt.ensures
 
 pub for_loop-returns-in_err-head-clause-goes : goal.for_loop-returns-in_err-head-clause-goes
 for_loop-returns-in_err-head-clause-goes t c = not_led c.from_residual.ensures.1 (c.in_err-head.ensures.goes c.args.switched)
 
 pub for_loop-returns-in_err-body-clause-goes : goal.for_loop-returns-in_err-body-clause-goes
-for_loop-returns-in_err-body-clause-goes t c = not_inside c.from_residual-in_err-body.ensures.1 (for_led {b = c.args.switched} c.in_ok-head.ensures.goes) c.in_err-body.ensures.goes
+for_loop-returns-in_err-body-clause-goes t c = not_held c.from_residual-in_err-body.ensures.1 (for_led {b = c.args.switched} c.in_ok-head.ensures.goes) c.in_err-body.ensures.goes
 
 pub for_loop-returns-clause-goes : goal.for_loop-returns-clause-goes
-for_loop-returns-clause-goes t c = ends (inside (for_led {b = c.args.switched} c.in_ok-head.ensures.goes) c.in_ok-body.ensures.goes) c.for_stmt.ensures
+for_loop-returns-clause-goes t c = ends (held (for_led {b = c.args.switched} c.in_ok-head.ensures.goes) c.in_ok-body.ensures.goes) c.for_stmt.ensures
 
-pub boxed-returns-in_err-whole-clause-goes : goal.boxed-returns-in_err-whole-clause-goes
-boxed-returns-in_err-whole-clause-goes t c = failed c.from_residual.ensures.1 (halt c.in_err-whole.ensures.goes)
+pub substatement-returns-then-not-no_left_bracket-clause-goes : goal.substatement-returns-then-not-no_left_bracket-clause-goes
+substatement-returns-then-not-no_left_bracket-clause-goes t c = λ p k. stalled (stopped c.refused.ensures (fails (sym c.no_left_bracket.ensures ∙ c.if-not-no_left_bracket.true)))
 
-pub boxed-returns-in_err-new-clause-goes : goal.boxed-returns-in_err-new-clause-goes
-boxed-returns-in_err-new-clause-goes t c = starved c.from_residual-in_err-new.ensures.1
+pub substatement-returns-in_err-whole-clause-goes : goal.substatement-returns-in_err-whole-clause-goes
+substatement-returns-in_err-whole-clause-goes t c = λ p k. stalls c.from_residual.ensures.1 (halts (halt c.in_err-whole.ensures.goes) (λ why rest g. passes (sym c.no_left_bracket.ensures ∙ c.if-not-no_left_bracket.false) (stops g)))
 
-pub boxed-returns-clause-goes : goal.boxed-returns-clause-goes
-boxed-returns-clause-goes t c = same_value c.in_ok-whole.ensures.goes (ap stmt_tree c.in_ok-new.ensures.ok)
+pub substatement-returns-in_err-new-clause-goes : goal.substatement-returns-in_err-new-clause-goes
+substatement-returns-in_err-new-clause-goes t c = λ p k. starves c.from_residual-in_err-new.ensures.1
 
 pub substatement-returns-clause-goes : goal.substatement-returns-clause-goes
-substatement-returns-clause-goes t c = c.boxed.ensures.goes
+substatement-returns-clause-goes t c = λ p k. stepped (λ o h. passes (sym c.no_left_bracket.ensures ∙ c.if-not-no_left_bracket.false) (goes_on (answer c.in_ok-whole.ensures.goes) (same_statement k (ap stmt_tree c.in_ok-new.ensures.ok) h)))
 
 pub block_items-returns-clause-goes : goal.block_items-returns-clause-goes
 block_items-returns-clause-goes t c = decides _ (λ o g. in_scene (sym (c.block_setting.ensures (scene_of c.args.context.now))) g) c.items.ensures.goes
@@ -189,7 +191,7 @@ pub else_form-returns-in_err-_word-clause-goes : goal.else_form-returns-in_err-_
 else_form-returns-in_err-_word-clause-goes t c = not_after c.from_residual.ensures.1 (where_so (begin {p = AStmt (Else c.args.at (boxed_expr c.args.condition) (boxed_tree c.args.then))} (λ o g. g) refl (if_true _ c.requires)) (and_right _ _ c.requires)) c.in_err-_word.ensures.goes
 
 pub else_form-returns-in_err-otherwise-clause-goes : goal.else_form-returns-in_err-otherwise-clause-goes
-else_form-returns-in_err-otherwise-clause-goes t c = not_inside c.from_residual-in_err-otherwise.ensures.1 (after (where_so (begin {p = AStmt (Else c.args.at (boxed_expr c.args.condition) (boxed_tree c.args.then))} (λ o g. g) refl (if_true _ c.requires)) (and_right _ _ c.requires)) c.in_ok-_word.ensures.goes) c.in_err-otherwise.ensures.goes
+else_form-returns-in_err-otherwise-clause-goes t c = not_held c.from_residual-in_err-otherwise.ensures.1 (after (where_so (begin {p = AStmt (Else c.args.at (boxed_expr c.args.condition) (boxed_tree c.args.then))} (λ o g. g) refl (if_true _ c.requires)) (and_right _ _ c.requires)) c.in_ok-_word.ensures.goes) c.in_err-otherwise.ensures.goes
 
 pub else_form-returns-clause-goes : goal.else_form-returns-clause-goes
-else_form-returns-clause-goes t c = ends (inside (after (where_so (begin {p = AStmt (Else c.args.at (boxed_expr c.args.condition) (boxed_tree c.args.then))} (λ o g. g) refl (if_true _ c.requires)) (and_right _ _ c.requires)) c.in_ok-_word.ensures.goes) c.in_ok-otherwise.ensures.goes) c.if_else_stmt.ensures
+else_form-returns-clause-goes t c = ends (held (after (where_so (begin {p = AStmt (Else c.args.at (boxed_expr c.args.condition) (boxed_tree c.args.then))} (λ o g. g) refl (if_true _ c.requires)) (and_right _ _ c.requires)) c.in_ok-_word.ensures.goes) c.in_ok-otherwise.ensures.goes) c.if_else_stmt.ensures

@@ -41,11 +41,8 @@ decreases-do_loop l = 8 * length l.tokens.now + 0
 abbrev pub decreases-for_loop : goal.decreases-for_loop
 decreases-for_loop l = 8 * length l.tokens.now + 0
 
-abbrev pub decreases-boxed : goal.decreases-boxed
-decreases-boxed l = 8 * length l.tokens.now + 2
-
 abbrev pub decreases-substatement : goal.decreases-substatement
-decreases-substatement l = 8 * length l.tokens.now + 3
+decreases-substatement l = 8 * length l.tokens.now + 2
 
 abbrev pub decreases-block_items : goal.decreases-block_items
 decreases-block_items l = 8 * length l.tokens.now + 4
