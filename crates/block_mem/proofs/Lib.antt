@@ -6,4 +6,5 @@ pub mod Loads
 pub mod Puts
 pub mod Values
 pub mod StoreLaws
+pub mod Proper
 pub mod Whole

@@ -83,10 +83,10 @@ get-put_outside : (bs : List Byte) (at : ℕ) (new : List Byte) (q : ℕ) → Is
 get-put_outside bs at new q (inl low) = get-put_low bs at new q Undef low
 get-put_outside bs at new q (inr high) = get-put_high bs at new q Undef high
 
-get-stored_out : (bs : List Byte) (at : ℕ) (new : List Byte) (q : ℕ) → IsOutside at (length new) q → get_or (stored bs at new) q Undef ≡ cut_byte at (length new) q (get_or bs q Undef)
+pub get-stored_out : (bs : List Byte) (at : ℕ) (new : List Byte) (q : ℕ) → IsOutside at (length new) q → get_or (stored bs at new) q Undef ≡ cut_byte at (length new) q (get_or bs q Undef)
 get-stored_out bs at new q outside = get-cut (put_bytes bs at new) at (length new) q ∙ ap (cut_byte at (length new) q) (get-put_outside bs at new q outside)
 
-get-stored_in : (bs : List Byte) (at : ℕ) (new : List Byte) (i : ℕ) → at + length new ≤ length bs → i < length new → get_or (stored bs at new) (at + i) Undef ≡ get_or new i Undef
+pub get-stored_in : (bs : List Byte) (at : ℕ) (new : List Byte) (i : ℕ) → at + length new ≤ length bs → i < length new → get_or (stored bs at new) (at + i) Undef ≡ get_or new i Undef
 get-stored_in bs at new i h l =
     sym (get_or-take (length new) (drop at (stored bs at new)) i Undef l ∙ get_or-drop at (stored bs at new) i Undef)
     ∙ ap (λ x. get_or x i Undef) (get-stored bs at new h)
@@ -255,7 +255,7 @@ no_piece (suc n) m (suc i) k p e = no_piece n (m / 256) i k p e
 whole-number : (n m : ℕ) → PointersAreWhole (low_bytes n m)
 whole-number n m = record { whole = λ q k p holds. absurd (no_piece n m q k p holds.1) }
 
-get-pieces : (p : Pointer) (k n i : ℕ) → i < n → get_or (pieces p k n) i Undef ≡ Frag p (k + i)
+pub get-pieces : (p : Pointer) (k n i : ℕ) → i < n → get_or (pieces p k n) i Undef ≡ Frag p (k + i)
 unfolding pieces
 get-pieces p k zero i l = absurd (omega arith)
 get-pieces p k (suc n) zero l = let e : k ≡ k + 0 = omega arith in ap (Frag p) e

@@ -5,4 +5,5 @@ pub mod Bytes
 pub mod Moves
 pub mod Numbers
 pub mod Pieces
+pub mod Proper
 pub mod Whole

@@ -11,7 +11,8 @@ use std::alloc::{AllocError as NoMemory, Global};
 use std::marker::Model;
 
 /// One memory. Contracts see it as the list of its blocks, each with its number as its place in the
-/// list. A block is never taken out, so that no number is used twice.
+/// list. A block is never taken out, so that no number is used twice. Its bytes are proper: a number
+/// has eight bits, and a piece is one of a pointer to a block that was made.
 #[derive(Drop)]
 pub struct Memory {
     alloc: Global,
@@ -25,6 +26,10 @@ impl Model for Memory {
     ghost Value = { List BlockView };
 
     ghost view = { λ m. m.blocks.items };
+
+    ghost use Rattle.block_mem.specs.Proper.{AreProper};
+
+    ghost invariant = { λ m. AreProper m.blocks.items };
 }
 
 impl Memory {
@@ -32,6 +37,7 @@ impl Memory {
     ghost use Rattle.block_mem.specs.AfterStore.{ReadsParts, KeepsElsewhere};
     ghost use Rattle.block_mem.specs.Block.{new_block};
     ghost use Rattle.block_mem.specs.Bytes.{IsOf, size_of};
+    ghost use Rattle.block_mem.specs.Proper.{AreProper, IsMade, IsProper};
     ghost use Rattle.block_mem.specs.Whole.{KeepsWhole};
     ghost use Rattle.block_mem.specs.Blocks.{block_at, bytes_at, loaded, with_ended, with_undefined, wrong_access, HasByte, load, store, copy, byte, set_byte};
 
@@ -43,6 +49,14 @@ impl Memory {
             alloc,
             blocks: Vec::new(alloc),
         }
+    }
+
+    /// How many blocks were made.
+    pub fn count(&self) -> u64
+        ensures count { result ≡ length self.now }
+        ensures proper { AreProper self.now }
+    {
+        self.blocks.len() as u64
     }
 
     /// Makes a live block of `size` bytes without a value, and gives its number. A block that is
@@ -87,7 +101,9 @@ impl Memory {
     /// no value, and Fragment where the bytes have, but hold no value of the type.
     pub fn load(&self, at: Pointer, ty: Scalar) -> Result<Value, WrongKind>
         requires made { at.block < length self.now }
-        ensures { result ≡ load self.now at ty }
+        ensures loaded { result ≡ load self.now at ty }
+        ensures typed { IfOk result (λ v. IsOf ty v) }
+        ensures block { IfOk result (λ v. IsMade (length self.now) v) }
     {
         let size = scalar_size(ty);
         let block = &self.blocks[at.block as usize];
@@ -100,11 +116,12 @@ impl Memory {
         }
     }
 
-    /// Stores a value of a type. Pointers that are overwritten in part leave Undef behind. A store
+    /// Stores a value of a type, which if it is a pointer is one to a block that was made. Pointers that are overwritten in part leave Undef behind. A store
     /// that is refused changes nothing. Where all pointers were whole, all are whole again.
     pub fn store(&mut self, at: Pointer, ty: Scalar, v: Value) -> Result<(), WrongKind>
         requires made { at.block < length self.old }
         requires typed { IsOf ty v }
+        requires block { IsMade (length self.old) v }
         ensures answer { MatchResult result (λ _. wrong_access self.old at (size_of ty) (size_of ty) true ≡ None) (λ k. wrong_access self.old at (size_of ty) (size_of ty) true ≡ Some k) }
         ensures ok { OnOk result (self.new ≡ store self.old at v) }
         ensures err { OnErr result (self.new ≡ self.old) }
@@ -131,6 +148,7 @@ impl Memory {
     pub fn put(&mut self, at: Pointer, ty: Scalar, v: Value)
         requires made { at.block < length self.old }
         requires typed { IsOf ty v }
+        requires block { IsMade (length self.old) v }
         requires inside { wrong_access self.old at (size_of ty) 1 false ≡ None }
         ensures stored { self.new ≡ store self.old at v }
         ensures reads_back { loaded ty (bytes_at self.new at (size_of ty)) ≡ Ok v }
@@ -199,10 +217,11 @@ impl Memory {
         self.blocks[at.block as usize].bytes()[start_of(at)]
     }
 
-    /// Puts in one byte without a check, in a read-only block too. No pointer is cut.
+    /// Puts in one byte that is proper without a check, in a read-only block too. No pointer is cut.
     pub fn set_byte(&mut self, at: Pointer, b: Byte)
         requires made { at.block < length self.old }
         requires inside { HasByte self.old at }
+        requires proper { IsProper (length self.old) b }
         ensures { self.new ≡ set_byte self.old at b }
     {
         let block = &mut self.blocks[at.block as usize];

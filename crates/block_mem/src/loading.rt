@@ -1,5 +1,6 @@
 // Values as bytes.
-ghost use Rattle.std.specs.Prelude.{◌≡◌, ◌≤◌, ◌<◌, take, length};
+ghost use Rattle.std.specs.Prelude.{◌≡◌, ◌≤◌, ◌<◌, ℕ, take, length, IfOk, IfSome};
+ghost use Rattle.block_mem.specs.Proper.{AreProperBytes, IsMade};
 ghost use Rattle.block_mem.specs.Bytes.{size_of, IsOf, bytes_of, has_undef, null_of, pointer_of, value_of};
 ghost use Rattle.block_mem.specs.Blocks.{loaded};
 
@@ -46,7 +47,9 @@ fn has_undef(bytes: &[Byte]) -> bool
 /// The pointer that eight bytes hold.
 fn pointer_of(bytes: &[Byte]) -> Option<Value>
     requires { length bytes.now ≡ 8 }
-    ensures { result ≡ pointer_of bytes.now }
+    ensures value { result ≡ pointer_of bytes.now }
+    ensures typed { IfSome result (λ v. IsOf Scalar.Pointer v) }
+    ensures block { (made : ℕ) → AreProperBytes made bytes.now → IfSome result (λ v. IsMade made v) }
 {
     match bytes[0] {
         Byte::Undef => None,
@@ -67,7 +70,9 @@ fn pointer_of(bytes: &[Byte]) -> Option<Value>
 /// The value of a type that its bytes hold.
 fn value_of(ty: Scalar, bytes: &[Byte]) -> Option<Value>
     requires { length bytes.now ≡ size_of ty }
-    ensures { result ≡ value_of ty bytes.now }
+    ensures value { result ≡ value_of ty bytes.now }
+    ensures typed { IfSome result (λ v. IsOf ty v) }
+    ensures block { (made : ℕ) → AreProperBytes made bytes.now → IfSome result (λ v. IsMade made v) }
 {
     match ty {
         Scalar::Int(ty) => match number_of(bytes) {
@@ -81,7 +86,9 @@ fn value_of(ty: Scalar, bytes: &[Byte]) -> Option<Value>
 /// The value of a type that its bytes hold, or what is wrong with them.
 pub fn loaded(ty: Scalar, bytes: &[Byte]) -> Result<Value, WrongKind>
     requires { length bytes.now ≡ size_of ty }
-    ensures { result ≡ loaded ty bytes.now }
+    ensures value { result ≡ loaded ty bytes.now }
+    ensures typed { IfOk result (λ v. IsOf ty v) }
+    ensures block { (made : ℕ) → AreProperBytes made bytes.now → IfOk result (λ v. IsMade made v) }
 {
     if has_undef(bytes) {
         return Err(WrongKind::Indeterminate);

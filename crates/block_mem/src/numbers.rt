@@ -62,7 +62,8 @@ pub fn bits_in(ty: IntType, number: i128) -> u64
 /// The number of a type that has these bits.
 pub fn number_in(ty: IntType, bits: u64) -> i128
     requires { bits < 256 ^ byte_len (std_width ty) }
-    ensures { result ≡ number_in ty bits }
+    ensures number { result ≡ number_in ty bits }
+    ensures fits { HasNumber ty result }
 {
     let number = i128::from(bits);
     if has_sign(ty) && number >= count_of(ty) / 2 {

@@ -1,13 +1,24 @@
-use Rattle.std.proofs.Common.{◌≡◌, List, arith, subst, sym, slice_set, Ok}
+use Rattle.std.proofs.Common.{◌≡◌, List, arith, subst, sym, slice_set, Ok, false}
 use Rattle.std.proofs.lemmas.Grind.{common_steps}
-use Rattle.block_mem.specs.Block.{BlockView}
-use Rattle.block_mem.specs.Blocks.{bytes_at, loaded, store}
+use Rattle.block_mem.specs.Blocks.{block_at, bytes_at, loaded, store}
 use Rattle.block_mem.specs.Bytes.{size_of}
 use Rattle.block_mem.specs.AfterStore.{KeepsElsewhere}
 use Rattle.block_mem.proofs.StoreLaws.{loaded-put, elsewhere-store}
 use Rattle.block_mem.specs.Whole.{KeepsWhole}
 use Rattle.block_mem.proofs.Whole.{whole-put}
+use Rattle.block_mem.specs.Block.{BlockView}
+use Rattle.block_mem.specs.Proper.{AreProper}
+use Rattle.block_mem.proofs.StoreLaws.{inside_access}
+use Rattle.block_mem.proofs.Proper.{proper-store}
 use Rattle.block_mem.proofs.blocks.Memory.put.Goals as goal
+
+pub invariant_of-self : goal.invariant_of-self
+invariant_of-self c =
+    let m = c.args.self.now in
+    let after : slice_set c.self.inside.blocks.items c.args.at.block c.store.new.self ≡ store m c.args.at c.args.v = grind (arith, common_steps) in
+    let room = inside_access (block_at m c.args.at.block) c.args.at.offset (size_of c.args.ty) 1 false c.requires.inside in
+    let all : AreProper m = subst (λ (x : List BlockView). AreProper x) c.self.view_is c.self.invariant in
+    subst (λ (x : List BlockView). AreProper x) (sym after) (proper-store m c.args.at c.args.ty c.args.v c.requires.made c.requires.typed c.requires.block room all)
 
 pub returns-clause-reads_back : goal.returns-clause-reads_back
 returns-clause-reads_back c =

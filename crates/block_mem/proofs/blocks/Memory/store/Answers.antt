@@ -1,13 +1,25 @@
 use Rattle.std.proofs.Common.{◌≡◌, List, arith, subst, sym, slice_set, None, Ok, true}
 use Rattle.std.proofs.lemmas.Grind.{common_steps}
 use Rattle.block_mem.specs.Block.{BlockView}
-use Rattle.block_mem.specs.Blocks.{wrong_access, load, store}
+use Rattle.block_mem.specs.Blocks.{block_at, wrong_access, load, store}
 use Rattle.block_mem.specs.Bytes.{size_of}
 use Rattle.block_mem.specs.AfterStore.{ReadsParts, KeepsElsewhere}
 use Rattle.block_mem.proofs.StoreLaws.{load-store, parts-store, elsewhere-store}
 use Rattle.block_mem.specs.Whole.{KeepsWhole}
 use Rattle.block_mem.proofs.Whole.{whole-store}
+use Rattle.block_mem.specs.Proper.{AreProper}
+use Rattle.block_mem.proofs.StoreLaws.{inside_access}
+use Rattle.block_mem.proofs.Proper.{proper-store}
 use Rattle.block_mem.proofs.blocks.Memory.store.Goals as goal
+
+pub invariant_of-self-2 : goal.invariant_of-self-2
+invariant_of-self-2 c =
+    let m = c.args.self.now in
+    let passes : wrong_access m c.args.at (size_of c.args.ty) (size_of c.args.ty) true ≡ None = grind (arith, common_steps) in
+    let after : slice_set c.self.inside.blocks.items c.args.at.block c.store.new.self ≡ store m c.args.at c.args.v = grind (arith, common_steps) in
+    let room = inside_access (block_at m c.args.at.block) c.args.at.offset (size_of c.args.ty) (size_of c.args.ty) true passes in
+    let all : AreProper m = subst (λ (x : List BlockView). AreProper x) c.self.view_is c.self.invariant in
+    subst (λ (x : List BlockView). AreProper x) (sym after) (proper-store m c.args.at c.args.ty c.args.v c.requires.made c.requires.typed c.requires.block room all)
 
 pub returns-clause-reads_back : goal.returns-clause-reads_back
 returns-clause-reads_back c =
