@@ -83,7 +83,7 @@ length-low_bytes zero m = refl
 length-low_bytes (suc k) m = ap suc (length-low_bytes k (m / 256))
 
 -- a width has eight bits in each byte
-eight_bits : (t : IntType) → bits (std_width t) ≡ 8 * byte_len (std_width t)
+pub eight_bits : (t : IntType) → bits (std_width t) ≡ 8 * byte_len (std_width t)
 eight_bits Char = refl
 eight_bits SChar = refl
 eight_bits UChar = refl
@@ -105,7 +105,7 @@ signed_back false w (negsuc n) h = absurd (let positive = h.0 in omega (arith, i
 pub number-bits : (t : IntType) (n : ℤ) → HasNumber t n → number_in t (bits_in t n) ≡ n
 number-bits t n h = signed_back (is_signed t) (std_width t) n h
 
-bits_below : (s : Bool) (w : Width) (n : ℤ) → MatchBool s (FitsSigned w n) (FitsUnsigned w n) → cast_unsigned w n < 2 ^ bits w
+pub bits_below : (s : Bool) (w : Width) (n : ℤ) → MatchBool s (FitsSigned w n) (FitsUnsigned w n) → cast_unsigned w n < 2 ^ bits w
 bits_below true w n h = Fits-lt-pow (Fits-of_z h)
 bits_below false w (pos n) h = let below = h.1 in omega (arith, ints)
 bits_below false w (negsuc n) h = absurd (let positive = h.0 in omega (arith, ints))
@@ -181,7 +181,7 @@ cut_byte-inside at n q Undef h l = refl
 cut_byte-inside at n q (Num m) h l = refl
 cut_byte-inside at n q (Frag p k) h l = rw (is_cut-inside at n q k h l)
 
-get-put_same : (bs : List Byte) (at : ℕ) (new : List Byte) → at + length new ≤ length bs → get_bytes (put_bytes bs at new) at (length new) ≡ new
+pub get-put_same : (bs : List Byte) (at : ℕ) (new : List Byte) → at + length new ≤ length bs → get_bytes (put_bytes bs at new) at (length new) ≡ new
 get-put_same [] zero [] h = refl
 get-put_same [] zero (n ∷ new) h = absurd (omega arith)
 get-put_same [] (suc at) new h = absurd (omega arith)
@@ -190,7 +190,7 @@ get-put_same (b ∷ bs) zero (n ∷ new) h = ap (λ r. n ∷ r) (get-put_same bs
 get-put_same (b ∷ bs) (suc at) new h = get-put_same bs at new (omega arith)
 
 -- a cut leaves the written bytes as they are
-get-cut_same : (bs : List Byte) (at n : ℕ) → at + n ≤ length bs → get_bytes (cut bs at n) at n ≡ get_bytes bs at n
+pub get-cut_same : (bs : List Byte) (at n : ℕ) → at + n ≤ length bs → get_bytes (cut bs at n) at n ≡ get_bytes bs at n
 get-cut_same bs at n h =
     let size : length (cut bs at n) ≡ length bs = length-by_place (cut_byte at n) 0 bs in
     ext_get_or Undef _ _ (length-get (cut bs at n) at n (omega arith) ∙ sym (length-get bs at n h))

@@ -21,6 +21,7 @@ use Rattle.block_mem.specs.Bytes.{size_of, IsOf, bytes_of, value_of}
 use Rattle.block_mem.specs.Block.{BlockView, place_of, is_inside, is_aligned, wrong_in}
 use Rattle.block_mem.specs.Blocks.{block_at, with_bytes, place, bytes_at, wrong_access, loaded, after_access, load, store, copy}
 use Rattle.block_mem.specs.AfterStore.{ReadsParts, KeepsElsewhere}
+use Rattle.block_mem.specs.Passing.{IsPassing}
 use Rattle.block_mem.proofs.Copies.{block-same, block-other, bytes-same}
 use Rattle.block_mem.proofs.Puts.{length-taken}
 use Rattle.block_mem.proofs.Laws.{number-part, defined-low_bytes, defined-part, value-bytes, defined-value, length-value, get-stored, length-stored, get-stored_outside}
@@ -40,6 +41,20 @@ passes_inside false i a r h = cc
 passes_inside true false a r h = cc
 passes_inside true true a r h = refl
 
+passes_live : (live inside aligned kept : Bool) → first_wrong live inside aligned kept ≡ None → live ≡ true
+passes_live false i a r h = cc
+passes_live true i a r h = refl
+
+passes_aligned : (live inside aligned kept : Bool) → first_wrong live inside aligned kept ≡ None → aligned ≡ true
+passes_aligned false i a r h = cc
+passes_aligned true false a r h = cc
+passes_aligned true true false r h = cc
+passes_aligned true true true r h = refl
+
+inside_place : (o : ℤ) (n size : ℕ) → is_inside (place_of o) n size ≡ true → o ≡ pos (unwrap_or (place_of o) 0)
+inside_place (pos k) n size h = refl
+inside_place (negsuc k) n size h = cc
+
 inside_is : (p : Option ℕ) (n size : ℕ) → is_inside p n size ≡ true → unwrap_or p 0 + n ≤ size
 inside_is None n size h = cc
 inside_is (Some k) n size h = leb-true (k + n) size h
@@ -48,13 +63,27 @@ inside_is (Some k) n size h = leb-true (k + n) size h
 pub inside_access : (b : BlockView) (o : ℤ) (n a : ℕ) (write : Bool) → wrong_in b o n a write ≡ None → unwrap_or (place_of o) 0 + n ≤ length b.bytes
 inside_access b o n a write h = inside_is (place_of o) n (length b.bytes) (passes_inside b.live (is_inside (place_of o) n (length b.bytes)) (is_aligned (place_of o) a) (write && b.read_only) h)
 
+-- what an access that passes is
+pub passing : (m : List BlockView) (at : Pointer) (n align : ℕ) (write : Bool) → wrong_access m at n align write ≡ None → IsPassing m at n align
+passing m at n align write h =
+    let b = block_at m at.block in
+    let inside = is_inside (place_of at.offset) n (length b.bytes) in
+    let aligned = is_aligned (place_of at.offset) align in
+    record {
+      live = passes_live b.live inside aligned (write && b.read_only) h;
+      offset = inside_place at.offset n (length b.bytes) (passes_inside b.live inside aligned (write && b.read_only) h);
+      inside = inside_access b at.offset n align write h;
+      aligned = passes_aligned b.live inside aligned (write && b.read_only) h;
+    }
+
 -- where a write passes, a read does, also after other bytes were put in
 read_after : (b : BlockView) (bs : List Byte) (o : ℤ) (n a : ℕ) → length bs ≡ length b.bytes → wrong_in b o n a true ≡ None → wrong_in (record b { bytes = bs }) o n a false ≡ None
 read_after b bs o n a same h =
     ap (λ size. first_wrong b.live (is_inside (place_of o) n size) (is_aligned (place_of o) a) (false && b.read_only)) same
     ∙ passes_read b.live (is_inside (place_of o) n (length b.bytes)) (is_aligned (place_of o) a) b.read_only h
 
-loaded-value : (ty : Scalar) (v : Value) → IsOf ty v → loaded ty (bytes_of v) ≡ Ok v
+-- what the bytes of a value are loaded as
+pub loaded-value : (ty : Scalar) (v : Value) → IsOf ty v → loaded ty (bytes_of v) ≡ Ok v
 loaded-value ty v h =
     ap (λ u. cond u (Err Indeterminate) (ok_or (value_of ty (bytes_of v)) Fragment)) (defined-value v)
     ∙ ap (λ found. ok_or found Fragment) (value-bytes ty v h)
@@ -84,7 +113,8 @@ loaded-put m at ty v made of passes =
     ap (loaded ty) (stored_bytes m at ty v made of (inside_access (block_at m at.block) at.offset (size_of ty) 1 false passes))
     ∙ loaded-value ty v of
 
-get-get : (bs : List Byte) (p s i k : ℕ) → i + k ≤ s → get_bytes bs (p + i) k ≡ get_bytes (get_bytes bs p s) i k
+-- some of some bytes
+pub get-get : (bs : List Byte) (p s i k : ℕ) → i + k ≤ s → get_bytes bs (p + i) k ≡ get_bytes (get_bytes bs p s) i k
 get-get bs p s i k h =
     let e : s ≡ i + (s - i) = omega arith in
     sym (ap (λ n. take k (drop i (take n (drop p bs)))) e

@@ -4,6 +4,7 @@ pub mod Blocks
 pub mod Bytes
 pub mod Moves
 pub mod Numbers
+pub mod Passing
 pub mod Pieces
 pub mod Proper
 pub mod Whole

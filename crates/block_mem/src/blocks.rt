@@ -37,6 +37,7 @@ impl Memory {
     ghost use Rattle.block_mem.specs.AfterStore.{ReadsParts, KeepsElsewhere};
     ghost use Rattle.block_mem.specs.Block.{new_block};
     ghost use Rattle.block_mem.specs.Bytes.{IsOf, size_of};
+    ghost use Rattle.block_mem.specs.Passing.{IsPassing};
     ghost use Rattle.block_mem.specs.Proper.{AreProper, IsMade, IsProper};
     ghost use Rattle.block_mem.specs.Whole.{KeepsWhole};
     ghost use Rattle.block_mem.specs.Blocks.{block_at, bytes_at, loaded, with_ended, with_undefined, wrong_access, HasByte, load, store, copy, byte, set_byte};
@@ -89,7 +90,8 @@ impl Memory {
     /// a block that is read-only.
     pub fn access(&self, at: Pointer, size: u64, align: u64, write: bool) -> Result<(), WrongKind>
         requires made { at.block < length self.now }
-        ensures { MatchResult result (λ _. wrong_access self.now at size align write ≡ None) (λ k. wrong_access self.now at size align write ≡ Some k) }
+        ensures answer { MatchResult result (λ _. wrong_access self.now at size align write ≡ None) (λ k. wrong_access self.now at size align write ≡ Some k) }
+        ensures passes { OnOk result (IsPassing self.now at size align) }
     {
         match self.blocks[at.block as usize].wrong(at.offset, size, align, write) {
             Some(kind) => Err(kind),
