@@ -1,2 +1,4 @@
 pub mod Names
 pub mod Sets
+pub mod Bases
+pub mod Weights

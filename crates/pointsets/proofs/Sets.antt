@@ -4,10 +4,10 @@ use Rattle.std.specs.Prelude.{IsTrue}
 use Rattle.std.specs.List.{list_all}
 use Rattle.pointsets.specs.declared.Base.{Base}
 use Rattle.pointsets.specs.declared.Base.TheVariants.{Null, Dead, Object}
-use Rattle.pointsets.specs.Targets.{BaseSet, Any, Among, has_name, has_base, put, put_all, at_most_16, with_objects, joined, Covers}
+use Rattle.pointsets.specs.Targets.{BaseSet, Any, Among, has_name, has_base, put, put_all, at_most_16, with_objects, joined, Covers, covers_set}
 use Rattle.pointsets.proofs.Names.{by_bool, eq-true, is-eq, length-put_all}
 
-le-true : (a b : ℕ) → nat_le a b ≡ true → a ≤ b
+pub le-true : (a b : ℕ) → nat_le a b ≡ true → a ≤ b
 le-true a b h = search rules
 
 le-false : (a b : ℕ) → nat_le a b ≡ false → b < a
@@ -47,15 +47,8 @@ all-from_has p (x ∷ ns) h =
     rw (h x (rw (is-eq x x refl) refl))
     (all-from_has p ns (λ n k. h n (by_bool (x == n) (λ q. rw q refl) (λ q. rw q k))))
 
--- the test of each base of a set
-abbrev pub covers_test : BaseSet → BaseSet → Bool
-covers_test Any t = true
-covers_test (Among names null dead) Any = false
-covers_test (Among names null dead) (Among more null' dead') =
-    (null || not null') && ((dead || not dead') && list_all (has_name names) more)
-
 each-covered : (names more : List ℕ) (null dead null' dead' : Bool)
-    → covers_test (Among names null dead) (Among more null' dead') ≡ true
+    → covers_set (Among names null dead) (Among more null' dead') ≡ true
     → (b : Base) → IsTrue (has_base (Among more null' dead') b) → IsTrue (has_base (Among names null dead) b)
 each-covered names more null dead null' dead' h Null k = by_bool null (λ q. q) (λ q. let no : false ≡ true = rw (q, k) at h in cc)
 each-covered names more null dead null' dead' h Dead k =
@@ -71,7 +64,7 @@ mark-covered false true h = h refl
 mark-covered false false h = refl
 
 -- the test tells whether a set covers another
-pub covers-test : (s t : BaseSet) → (covers_test s t ≡ true → Covers s t) × (Covers s t → covers_test s t ≡ true)
+pub covers-test : (s t : BaseSet) → (covers_set s t ≡ true → Covers s t) × (Covers s t → covers_set s t ≡ true)
 covers-test Any t = (λ h. inl refl, λ h. refl)
 covers-test (Among names null dead) Any = (λ h. cc, λ h. elim h [ inl e ↦ cc | inr d ↦ absurd (d.0 refl) ])
 covers-test (Among names null dead) (Among more null' dead') = (

@@ -1,6 +1,6 @@
 -- Points-to sets: every base, or the numbers of some objects in rising order with two marks.
-use Rattle.std.specs.Prelude.{◌≡◌, ◌≢◌, ℕ, ◌≤◌, Bool, true, List, [], ◌∷◌, length, nat_lt, nat_le, ◌==◌, ◌||◌, not, filter, IsTrue, ◌⊎◌, if◌then◌else◌}
-use Rattle.std.specs.List.{list_any}
+use Rattle.std.specs.Prelude.{◌≡◌, ◌≢◌, ℕ, ◌≤◌, Bool, true, List, [], ◌∷◌, length, nat_lt, nat_le, ◌==◌, ◌||◌, ◌&&◌, suc, ◌+◌, ◌-◌, false, not, filter, IsTrue, ◌⊎◌, if◌then◌else◌}
+use Rattle.std.specs.List.{list_any, list_all}
 use Rattle.std.specs.List.Sorted.{IsStrictlyIncreasing}
 use Rattle.pointsets.specs.declared.Base.{Base}
 use Rattle.pointsets.specs.declared.Base.TheVariants.{Null, Dead, Object}
@@ -69,6 +69,23 @@ killed (Among names null dead) gone =
 -- each base of the second set is one of the first, as far as the second is known
 abbrev pub Covers : BaseSet → BaseSet → Type 0
 Covers s t = (s ≡ Any) ⊎ ((t ≢ Any) × ((b : Base) → IsTrue (has_base t b) → IsTrue (has_base s b)))
+
+-- the same, told by a test
+abbrev pub covers_set : BaseSet → BaseSet → Bool
+covers_set Any t = true
+covers_set (Among names null dead) Any = false
+covers_set (Among names null dead) (Among more null' dead') =
+    (null || not null') && ((dead || not dead') && list_all (has_name names) more)
+
+-- one where a mark can still be gained
+abbrev pub room_of : Bool → ℕ
+room_of true = 0
+room_of false = 1
+
+-- how often a set can still gain a base: one object more, a mark, or the step to Any
+abbrev pub set_weight : BaseSet → ℕ
+set_weight Any = 0
+set_weight (Among names null dead) = suc ((16 - length names) + (room_of null + room_of dead))
 
 -- what the fields of a set keep: room for 16 names in place, the names rising, and none in All
 pub record IsKept (capacity : ℕ) (names : List ℕ) (all : Bool) : Type 0 where

@@ -1,10 +1,10 @@
 //! Sets of what a pointer may point to. No call takes memory.
 #![tactic(auto)]
 
-ghost use Rattle.std.specs.Prelude.{◌≡◌, ℕ, ◌≤◌, List, [], length, insert, filter, not, true, false, IsTrue, ◌↔◌, MatchOption};
+ghost use Rattle.std.specs.Prelude.{◌≡◌, ℕ, ◌≤◌, ◌<◌, List, [], length, insert, filter, not, true, false, IsTrue, ◌↔◌, MatchOption};
 ghost use Rattle.std.specs.List.{list_any, list_all};
 ghost use Rattle.std.specs.List.Sorted.{IsStrictlyIncreasing};
-ghost use Rattle.pointsets.specs.Targets.{BaseSet, has_name, put};
+ghost use Rattle.pointsets.specs.Targets.{BaseSet, has_base, has_name, put, joined, killed, covers_set, set_weight};
 
 use smallvec::SmallVec;
 use std::alloc::Global;
@@ -42,7 +42,7 @@ impl Model for Targets {
 }
 
 impl Targets {
-    ghost use Rattle.pointsets.specs.Targets.{Any, Among, has_base, names_of, with_base, joined, killed, Covers, with_objects};
+    ghost use Rattle.pointsets.specs.Targets.{Any, Among, has_base, names_of, with_base, joined, killed, Covers, covers_set, with_objects};
 
     /// The set of nothing.
     pub fn new(alloc: Global) -> Targets
@@ -53,6 +53,18 @@ impl Targets {
             null: false,
             dead: false,
             all: false,
+        }
+    }
+
+    /// The same set once more.
+    pub fn copy(&self) -> Targets
+        ensures { result ≡ self.now }
+    {
+        Targets {
+            names: without(*self.names.allocator(), self.names.as_slice(), &[]),
+            null: self.null,
+            dead: self.dead,
+            all: self.all,
         }
     }
 
@@ -120,7 +132,8 @@ impl Targets {
 
     /// Whether self is All, or the other is not and each of its bases is in self.
     pub fn covers(&self, other: &Targets) -> bool
-        ensures { IsTrue result ↔ Covers self.now other.now }
+        ensures covers { IsTrue result ↔ Covers self.now other.now }
+        ensures test { result ≡ covers_set self.now other.now }
     {
         if self.all {
             return true;
@@ -197,6 +210,24 @@ impl Targets {
         }
     }
 }
+
+/// What joined, covered and killed sets have. A base of either set is in the join. A set that covers
+/// another has its bases. An object that has ended is dead, and all other bases stay.
+pub fn bases_are_kept()
+    ensures left { (s t : BaseSet) (b : Base) → IsTrue (has_base s b) → IsTrue (has_base (joined s t) b) }
+    ensures right { (s t : BaseSet) (b : Base) → IsTrue (has_base t b) → IsTrue (has_base (joined s t) b) }
+    ensures covered { (s t : BaseSet) (b : Base) → IsTrue (covers_set s t) → IsTrue (has_base t b) → IsTrue (has_base s b) }
+    ensures others { (s : BaseSet) (gone : List ℕ) (n : ℕ) → has_name gone n ≡ false → IsTrue (has_base s (Base.Object n)) → IsTrue (has_base (killed s gone) (Base.Object n)) }
+    ensures ended { (s : BaseSet) (gone : List ℕ) (n : ℕ) → IsTrue (has_name gone n) → IsTrue (has_base s (Base.Object n)) → IsTrue (has_base (killed s gone) Base.Dead) }
+    ensures dead { (s : BaseSet) (gone : List ℕ) → IsTrue (has_base s Base.Dead) → IsTrue (has_base (killed s gone) Base.Dead) }
+    ensures null { (s : BaseSet) (gone : List ℕ) → IsTrue (has_base s Base.Null) → IsTrue (has_base (killed s gone) Base.Null) }
+{}
+
+/// The weight of a set never rises by a join, and falls where the other set was not covered.
+pub fn joins_weigh_less()
+    ensures never_more { (s t : BaseSet) → set_weight (joined s t) ≤ set_weight s }
+    ensures falls { (s t : BaseSet) → covers_set s t ≡ false → set_weight (joined s t) < set_weight s }
+{}
 
 /// Whether a number stands in a list.
 fn is_among(names: &[u64], n: u64) -> bool
