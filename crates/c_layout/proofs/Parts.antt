@@ -35,7 +35,7 @@ offset_is ms k m offset e is =
     let at : offset_at ms k ≡ Some (padded (members_end (take k ms)) m.align) = ap (option_map (λ member. padded (members_end (take k ms)) member.align)) e in
     cc
 
-goes_up : (at : ℕ) (ms : List Space) → at ≤ fold member_end at ms
+pub goes_up : (at : ℕ) (ms : List Space) → at ≤ fold member_end at ms
 goes_up at [] = omega arith
 goes_up at (m ∷ ms) = let h = goes_up (member_end at m) ms in omega arith
 

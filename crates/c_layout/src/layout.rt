@@ -1,8 +1,8 @@
 // Sizes, alignments and offsets of types.
 #![tactic(auto, using(c_syntax::proofs::Trees::the_trees))]
 
-ghost use Rattle.std.specs.Prelude.{◌≡◌, ℕ, ◌+◌, ◌*◌, ◌%◌, ◌^◌, ◌<◌, ◌≤◌, List, map, option_map, IfSome, IsSomeAnd, Some};
-ghost use Rattle.c_syntax.specs.Types.{CTypeTree, ctype_tree};
+ghost use Rattle.std.specs.Prelude.{◌≡◌, ℕ, ◌+◌, ◌*◌, ◌%◌, ◌^◌, ◌<◌, ◌≤◌, List, length, map, option_map, IfSome, IsSomeAnd, Some};
+ghost use Rattle.c_syntax.specs.Types.{CTypeTree, Struct, ctype_tree};
 ghost use Rattle.c_syntax.specs.Program.{StructDefTree, member_tree, structdef_tree};
 ghost use Rattle.c_written.specs.Integer as integer;
 ghost use Rattle.c_layout.specs.Layout as layout;
@@ -11,6 +11,7 @@ ghost use Rattle.c_layout.specs.Kept.{IsKept, element, element_count, element_sp
 ghost use Rattle.c_layout.specs.LaidOut.{IsLaidOut, MeansUnfolded};
 ghost use Rattle.c_layout.specs.ProperTypes.{PartAt};
 ghost use Rattle.c_layout.specs.Rank.{NoneHoldsItself};
+ghost use Rattle.c_layout.specs.Tables.{IsTypedTable};
 
 use c_syntax::{CType, IntType, Member, StructDef, StructDefs};
 
@@ -32,8 +33,8 @@ const TOO_LARGE: u64 = GREATEST_SIZE + 1;
 
 // What an object of a type takes: its size, if the type is complete, and its alignment.
 #[derive(Clone, Copy)]
-struct Room {
-    size: Option<u64>,
+pub(crate) struct Room {
+    pub(crate) size: Option<u64>,
     align: u64,
 }
 
@@ -115,6 +116,12 @@ pub fn parts_are_aligned()
     ensures { (structs : List StructDefTree) → IsLaidOut structs → NoneHoldsItself structs → (whole part : CTypeTree) (offset : ℕ) → PartAt structs whole offset part → offset % align_in structs part ≡ 0 }
 {}
 
+/// In a table of structs that a program may have, a struct with members has a size, of at least one
+/// byte and at most 2 to the 40.
+pub fn structs_have_bytes()
+    ensures { (structs : List StructDefTree) → IsTypedTable structs → (n : ℕ) → 0 < length (layout.members_of structs n) → IsSomeAnd (size_in structs (Struct n)) (λ size. (0 < size) × (size ≤ 2 ^ 40)) }
+{}
+
 // What a type takes, where a struct is laid out from its members.
 fn room_of(ty: &CType, structs: &[StructDef]) -> Room
     ensures { IsKept result (space_of (map structdef_tree structs.now) (ctype_tree ty.now)) }
@@ -172,7 +179,7 @@ fn member_room(ty: &CType, structs: &[StructDef]) -> Room
 }
 
 // What such a member takes that is no array.
-fn told_room(ty: &CType, structs: &[StructDef]) -> Room
+pub(crate) fn told_room(ty: &CType, structs: &[StructDef]) -> Room
     ensures { IsKept result (element_space (stored (map structdef_tree structs.now)) (ctype_tree ty.now)) }
 {
     match ty {
@@ -208,7 +215,7 @@ fn entry_room(def: &StructDef) -> Room
 }
 
 // The innermost element of an array of arrays; another type is its own.
-fn element_of(ty: &CType) -> &CType
+pub(crate) fn element_of(ty: &CType) -> &CType
     ensures { ctype_tree result.now ≡ element (ctype_tree ty.now) }
 {
     let mut ty = ty;
@@ -219,7 +226,7 @@ fn element_of(ty: &CType) -> &CType
 }
 
 // How many of these elements it has.
-fn count_of(ty: &CType) -> u64
+pub(crate) fn count_of(ty: &CType) -> u64
     ensures { result ≡ kept (element_count (ctype_tree ty.now)) }
 {
     let mut count = 1;
@@ -297,7 +304,7 @@ fn padding(end: u64, align: u64) -> u64
 }
 
 // The members of a struct, which are none where there is no such struct.
-fn members_of(structs: &[StructDef], n: u64) -> &[Member]
+pub(crate) fn members_of(structs: &[StructDef], n: u64) -> &[Member]
     ensures { map member_tree result.now ≡ layout.members_of (map structdef_tree structs.now) n }
 {
     match structs.get(n as usize) {
@@ -306,7 +313,7 @@ fn members_of(structs: &[StructDef], n: u64) -> &[Member]
     }
 }
 
-fn bytes(t: IntType) -> u64
+pub(crate) fn bytes(t: IntType) -> u64
     ensures value { result ≡ integer.bytes t }
     ensures few { result ≤ 8 }
 {
@@ -323,6 +330,7 @@ mod tests {
     use super::*;
     use c_syntax::{Members, Name, Target};
     use std::alloc::{AllocError, Global};
+    use std::rc::Rc;
     use std::test::Fail;
 
     const CHAR: CType = CType::Int(IntType::Char);
@@ -334,7 +342,7 @@ mod tests {
     const LONG: CType = CType::Int(IntType::Long);
 
     fn array(alloc: Global, ty: CType, n: u64) -> Result<CType, AllocError> {
-        let of = Box::new(
+        let of = Rc::new(
             alloc,
             Target {
                 ty,
@@ -345,7 +353,7 @@ mod tests {
     }
 
     fn pointer(alloc: Global, ty: CType) -> Result<CType, AllocError> {
-        let to = Box::new(alloc, Target { ty, is_const: true })?;
+        let to = Rc::new(alloc, Target { ty, is_const: true })?;
         Ok(CType::Pointer(to))
     }
 
@@ -556,5 +564,15 @@ mod tests {
         assert_eq!(rt; offset_of(&pair, b"kk"), None);
         assert_eq!(rt; offset_of(&pair, b""), None);
         Ok(())
+    }
+
+    // char c[5]; int k; and one that ends past what is told.
+    #[test]
+    fn places_of_members(rt: HostRuntime) {
+        let second = Placement { offset: 8, end: 12 };
+        assert_eq!(rt; next_member(5, 4, 4), second);
+        let end = (1 << 40) + 1;
+        let last = Placement { offset: 16, end };
+        assert_eq!(rt; next_member(9, 1 << 40, 8), last);
     }
 }
