@@ -1,21 +1,20 @@
 -- The member of a struct in which an offset lies.
-use Rattle.std.proofs.Common.{◌≡◌, ◌↔◌, ℕ, zero, suc, ◌+◌, ◌-◌, ◌<◌, ◌≤◌, true, false, List, [], ◌∷◌, length, take, map, get_or, refl, sym, ap, subst, ◌∙◌, inl, inr, arith}
-use Rattle.std.specs.Prelude.{◌⊎◌, Option, None, Some, option_map, unwrap_or, IfSome, IsSomeAnd, All, fold, nat_le, slice_get, slice_index_or}
-use Rattle.std.specs.List.{AllWithin}
+use Rattle.std.proofs.Common.{◌≡◌, ℕ, zero, suc, ◌+◌, ◌-◌, ◌<◌, ◌≤◌, true, false, List, [], ◌∷◌, length, take, map, get_or, refl, sym, ap, subst, ◌∙◌, inl, inr, arith}
+use Rattle.std.specs.Prelude.{Option, None, Some, option_map, unwrap_or, IsSomeAnd, All, fold, nat_le, slice_get}
 use Rattle.std.specs.List.Sorted.{IsNonDecreasingBy, IsPartitionPoint}
 use Rattle.std.proofs.lemmas.Bool.{cases_lt}
 use Rattle.std.proofs.lemmas.Bool.Decides.{nat_tests}
 use Rattle.c_syntax.specs.declared.program.Member.{Member}
 use Rattle.c_syntax.specs.Types.{CTypeTree, Struct}
 use Rattle.c_syntax.specs.Program.{MemberTree, StructDefTree, member_tree}
-use Rattle.c_layout.specs.Layout.{Space, padded, member_end, members_end, space_by, members_of, stored, member_spaces, size_in, offset_at}
+use Rattle.c_layout.specs.Layout.{Space, member_end, space_by, members_of, stored, member_spaces, size_in, offset_at}
 use Rattle.c_layout.specs.LaidOut.{IsLaidOut}
-use Rattle.c_layout.specs.ProperTypes.{IsProperType, PartAt, whole, element as in_element, member as in_member}
+use Rattle.c_layout.specs.ProperTypes.{IsProperType, PartAt, whole, member as in_member}
 use Rattle.c_layout.specs.Tables.{IsTypedTable, IsTypedMember}
 use Rattle.c_layout.specs.RowTypes.{IsScalar}
-use Rattle.c_layout.specs.Scalars.{IsScalarAt, HasNone, HaveSame, IsMemberType}
+use Rattle.c_layout.specs.Scalars.{HasNone, HaveSame, IsMemberType}
 use Rattle.c_layout.proofs.Parts.{stored_same, member_space, offset_is, goes_up, inside}
-use Rattle.c_layout.proofs.ScalarParts.{scalar_bytes, some_same}
+use Rattle.c_layout.proofs.ScalarParts.{scalar_bytes}
 
 -- what holds of each of the list's members holds of the one at a place
 all_at : (P : CTypeTree → Type 0) (members : List MemberTree) (k : ℕ) (ty : CTypeTree) → All (λ m. P m.ty) members → IsSomeAnd (slice_get members k) (λ m. m.ty ≡ ty) → P ty

@@ -1,9 +1,6 @@
 -- A type without parts, and a walk from a type down to such a one.
-use Rattle.std.proofs.Common.{◌≡◌, ◌↔◌, ℕ, zero, suc, ◌-◌, ◌<◌, Bool, List, length, refl, sym, ap, subst, ◌∙◌, arith}
-use Rattle.std.specs.Prelude.{Option, None, Some, IfSome, IsSomeAnd}
-use Rattle.std.specs.declared.rc.Rc.{Rc}
-use Rattle.std.specs.declared.alloc.Global.{Global}
-use Rattle.c_syntax.specs.declared.types.Target.{Target}
+use Rattle.std.proofs.Common.{◌≡◌, ℕ, ◌-◌, ◌<◌, Bool, List, length, refl, sym, ap, subst, ◌∙◌, arith}
+use Rattle.std.specs.Prelude.{Option, None, Some, IfSome}
 use Rattle.c_syntax.specs.declared.types.CType.{CType}
 use Rattle.c_syntax.specs.declared.types.CType.TheVariants as types
 use Rattle.c_syntax.specs.Types.{CTypeTree, ctype_tree, Void, Int, Pointer, Array, Struct, Function}

@@ -1,24 +1,21 @@
 -- Where scalars stand in arrays and structs.
-use Rattle.std.proofs.Common.{◌≡◌, ◌↔◌, ℕ, zero, suc, ◌+◌, ◌-◌, ◌*◌, ◌/◌, ◌%◌, ◌<◌, ◌≤◌, List, [], ◌∷◌, length, take, map, refl, sym, ap, subst, ◌∙◌, inl, inr, arith}
-use Rattle.std.specs.Prelude.{Option, None, Some, option_map, unwrap_or, IfSome, IsSomeAnd, All, fold, slice_get, slice_index_or}
-use Rattle.std.proofs.lemmas.Bool.{cases_lt}
+use Rattle.std.proofs.Common.{◌≡◌, ℕ, zero, suc, ◌+◌, ◌*◌, ◌/◌, ◌%◌, ◌<◌, ◌≤◌, List, refl, sym, ap, subst, ◌∙◌, arith}
+use Rattle.std.specs.Prelude.{Option, None, Some, option_map, IfSome, IsSomeAnd}
 use Rattle.std.proofs.lemmas.Nat.{div-add-mod'}
 use Rattle.std.proofs.Math.Nat.{mul_assoc, add-mul, mul-le-mul_right, add-mul-mod_self_right, div-lt_iff_lt-mul, mod-lt, mod-eq_of_lt, zero-mod}
 use Rattle.c_written.specs.declared.int_type.IntType.{IntType}
 use Rattle.c_written.specs.declared.int_type.IntType.TheVariants as ints
 use Rattle.c_written.specs.Integer.{bytes}
 use Rattle.c_syntax.specs.Types.{CTypeTree, Void, Int, Pointer, Array, Struct, Function}
-use Rattle.c_syntax.specs.Program.{MemberTree, StructDefTree}
-use Rattle.c_layout.specs.Layout.{Space, padded, member_end, members_end, space_by, space_of, members_of, stored, member_spaces, laid_out, size_in, offset_at}
+use Rattle.c_syntax.specs.Program.{StructDefTree}
+use Rattle.c_layout.specs.Layout.{Space, space_by, stored, laid_out, size_in}
 use Rattle.c_layout.specs.Kept.{kept, element, element_count, element_space}
-use Rattle.c_layout.specs.Rank.{held, Falls, NoneHoldsItself}
 use Rattle.c_layout.specs.LaidOut.{IsLaidOut}
 use Rattle.c_layout.specs.ProperTypes.{IsProperType, IsTold, PartAt, whole, element as in_element, member as in_member}
-use Rattle.c_layout.specs.Tables.{IsTypedTable, IsTypedMember}
 use Rattle.c_layout.specs.RowTypes.{IsScalar}
-use Rattle.c_layout.specs.Scalars.{IsScalarAt, HasNone, HaveSame, HasNoParts, IsMemberType}
+use Rattle.c_layout.specs.Scalars.{IsScalarAt, HasNone, HaveSame}
 use Rattle.c_layout.proofs.Spaces.{space_by-element}
-use Rattle.c_layout.proofs.Parts.{stored_same, member_space, offset_is, goes_up, inside}
+use Rattle.c_layout.proofs.Parts.{stored_same, inside}
 
 -- a scalar has at least one byte
 int_bytes : (t : IntType) → 0 < bytes t

@@ -1,7 +1,6 @@
 -- A small program that is well typed, and the first call of another.
-use Rattle.std.proofs.Common.{◌≡◌, ℕ, zero, suc, ◌<◌, true, false, [], ◌∷◌, length, refl, inl, inr, arith}
-use Rattle.std.specs.Prelude.{None, Some, slice_index_or, slice_get}
-use Rattle.c_syntax.specs.Types.{Void}
+use Rattle.std.proofs.Common.{◌≡◌, ℕ, zero, suc, ◌<◌, true, [], length, refl, inl, arith}
+use Rattle.std.specs.Prelude.{slice_index_or}
 use Rattle.c_syntax.specs.Program.{TFunctionTree}
 use Rattle.c_layout.specs.Calls.{PlacedCall, function_calls, stmt_calls, item_calls, calls_of, calls_among, IsBefore, IsFirstCall}
 use Rattle.c_layout.specs.Plans.{HasBody}

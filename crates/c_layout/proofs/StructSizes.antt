@@ -1,10 +1,9 @@
 -- A struct with members has as many bytes as its first member, and more.
-use Rattle.std.proofs.Common.{◌≡◌, ℕ, zero, suc, ◌+◌, ◌<◌, ◌≤◌, List, [], ◌∷◌, length, refl, sym, subst, arith}
+use Rattle.std.proofs.Common.{◌≡◌, ℕ, ◌+◌, ◌<◌, ◌≤◌, List, [], ◌∷◌, length, refl, subst, arith}
 use Rattle.std.specs.Prelude.{Option, None, Some, IfSome, IsSomeAnd, All, slice_get}
-use Rattle.c_syntax.specs.Types.{CTypeTree, Struct}
+use Rattle.c_syntax.specs.Types.{Struct}
 use Rattle.c_syntax.specs.Program.{MemberTree, StructDefTree}
 use Rattle.c_layout.specs.Layout.{members_of, size_in}
-use Rattle.c_layout.specs.LaidOut.{IsLaidOut}
 use Rattle.c_layout.specs.ProperTypes.{IsTold, PartAt, whole, member as in_member}
 use Rattle.c_layout.specs.Tables.{IsTypedTable, IsTypedMember}
 use Rattle.c_layout.proofs.Parts.{inside}

@@ -12,6 +12,10 @@ pub record IsScalarAt (structs : List StructDefTree) (whole : CTypeTree) (offset
   pub scalar : IsScalar ty
   pub bytes : size_in structs ty ≡ Some size
 
+-- this holds of each scalar of so many bytes that stands there
+abbrev pub EachScalar : List StructDefTree → CTypeTree → ℕ → ℕ → (CTypeTree → Type 0) → Type 0
+EachScalar structs whole offset size Holds = (ty : CTypeTree) → IsScalarAt structs whole offset size ty → Holds ty
+
 -- no scalar stands there
 abbrev pub HasNone : List StructDefTree → CTypeTree → ℕ → Type 0
 HasNone structs whole offset = (size : ℕ) (ty : CTypeTree) → IsScalarAt structs whole offset size ty → ⊥

@@ -1,17 +1,16 @@
 // Sizes, alignments and offsets of types.
 #![tactic(auto, using(c_syntax::proofs::Trees::the_trees))]
 
-ghost use Rattle.std.specs.Prelude.{◌≡◌, ℕ, ◌+◌, ◌*◌, ◌%◌, ◌^◌, ◌<◌, ◌≤◌, List, length, map, option_map, IfSome, IsSomeAnd, Some};
-ghost use Rattle.c_syntax.specs.Types.{CTypeTree, Struct, ctype_tree};
+ghost use Rattle.std.specs.Prelude.{◌≡◌, ℕ, ◌+◌, ◌*◌, ◌^◌, ◌≤◌, List, map, option_map, IfSome, Some};
+ghost use Rattle.c_syntax.specs.Types.{ctype_tree};
 ghost use Rattle.c_syntax.specs.Program.{StructDefTree, member_tree, structdef_tree};
 ghost use Rattle.c_written.specs.Integer as integer;
 ghost use Rattle.c_layout.specs.Layout as layout;
 ghost use Rattle.c_layout.specs.Layout.{align_in, laid_out, offset_named, padded, size_in, sized, space_by, space_of, spaces_by, stored, strictest, struct_space, told};
 ghost use Rattle.c_layout.specs.Kept.{IsKept, element, element_count, element_space, kept};
 ghost use Rattle.c_layout.specs.LaidOut.{IsLaidOut, MeansUnfolded};
-ghost use Rattle.c_layout.specs.ProperTypes.{PartAt};
 ghost use Rattle.c_layout.specs.Rank.{NoneHoldsItself};
-ghost use Rattle.c_layout.specs.Tables.{IsTypedTable};
+ghost use Rattle.c_layout.specs.Tables.{IsTypedTable, PartsAreAligned, PartsLieInside, StructsHaveBytes};
 
 use c_syntax::{CType, IntType, Member, StructDef, StructDefs};
 
@@ -108,18 +107,18 @@ pub fn stored_sizes_mean_unfolded()
 /// In a table of structs that is laid out, the object in which a part stands has a size where the
 /// part has one, and the part lies inside it.
 pub fn parts_lie_inside()
-    ensures { (structs : List StructDefTree) → IsLaidOut structs → (whole part : CTypeTree) (offset size : ℕ) → PartAt structs whole offset part → size_in structs part ≡ Some size → IsSomeAnd (size_in structs whole) (λ n. offset + size ≤ n) }
+    ensures { (structs : List StructDefTree) → IsLaidOut structs → PartsLieInside structs }
 {}
 
 /// In such a table, in which no struct holds itself, a part stands at a multiple of its alignment.
 pub fn parts_are_aligned()
-    ensures { (structs : List StructDefTree) → IsLaidOut structs → NoneHoldsItself structs → (whole part : CTypeTree) (offset : ℕ) → PartAt structs whole offset part → offset % align_in structs part ≡ 0 }
+    ensures { (structs : List StructDefTree) → IsLaidOut structs → NoneHoldsItself structs → PartsAreAligned structs }
 {}
 
 /// In a table of structs that a program may have, a struct with members has a size, of at least one
 /// byte and at most 2 to the 40.
 pub fn structs_have_bytes()
-    ensures { (structs : List StructDefTree) → IsTypedTable structs → (n : ℕ) → 0 < length (layout.members_of structs n) → IsSomeAnd (size_in structs (Struct n)) (λ size. (0 < size) × (size ≤ 2 ^ 40)) }
+    ensures { (structs : List StructDefTree) → IsTypedTable structs → StructsHaveBytes structs }
 {}
 
 // What a type takes, where a struct is laid out from its members.

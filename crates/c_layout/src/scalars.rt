@@ -3,13 +3,13 @@
 
 ghost use Rattle.std.specs.Prelude.{◌≡◌, ◌↔◌, ◌<◌, ◌≤◌, List, length, map, None, Some, IfSome, IsSomeAnd, IsTrue};
 ghost use Rattle.std.specs.List.Sorted.{IsNonDecreasingBy, IsPartitionPoint};
-ghost use Rattle.c_syntax.specs.Types.{CTypeTree, Struct, ctype_tree};
+ghost use Rattle.c_syntax.specs.Types.{Struct, ctype_tree};
 ghost use Rattle.c_syntax.specs.Program.{StructDefTree, structdef_tree};
 ghost use Rattle.c_layout.specs.Kept.{element};
 ghost use Rattle.c_layout.specs.Layout.{size_in};
 ghost use Rattle.c_layout.specs.ProperTypes.{IsProperType};
 ghost use Rattle.c_layout.specs.RowTypes.{IsScalar};
-ghost use Rattle.c_layout.specs.Scalars.{HasNoParts, HasNone, HaveSame, IsMemberType, IsScalarAt};
+ghost use Rattle.c_layout.specs.Scalars.{EachScalar, HasNoParts, HasNone, HaveSame, IsMemberType, IsScalarAt};
 ghost use Rattle.c_layout.specs.Tables.{IsTypedTable};
 
 use crate::layout::{bytes, count_of, element_of, members_of, told_room};
@@ -27,7 +27,7 @@ pub fn scalar_at<'t>(
     requires table { IsTypedTable (map structdef_tree structs.now) }
     requires proper { IsProperType (map structdef_tree structs.now) (ctype_tree ty.now) }
     ensures there { IfSome result (λ found. IsScalarAt (map structdef_tree structs.now) (ctype_tree ty.now) offset size (ctype_tree found.now)) }
-    ensures only { (scalar : CTypeTree) → IsScalarAt (map structdef_tree structs.now) (ctype_tree ty.now) offset size scalar → IsSomeAnd result (λ found. scalar ≡ ctype_tree found.now) }
+    ensures only { EachScalar (map structdef_tree structs.now) (ctype_tree ty.now) offset size (λ t. IsSomeAnd result (λ found. t ≡ ctype_tree found.now)) }
 {
     scalar_in(ty, structs.as_slice(), offset, size)
 }
@@ -42,7 +42,7 @@ fn scalar_in<'t>(
     requires table { IsTypedTable (map structdef_tree structs.now) }
     requires proper { IsProperType (map structdef_tree structs.now) (ctype_tree ty.now) }
     ensures there { IfSome result (λ found. IsScalarAt (map structdef_tree structs.now) (ctype_tree ty.now) offset size (ctype_tree found.now)) }
-    ensures only { (scalar : CTypeTree) → IsScalarAt (map structdef_tree structs.now) (ctype_tree ty.now) offset size scalar → IsSomeAnd result (λ found. scalar ≡ ctype_tree found.now) }
+    ensures only { EachScalar (map structdef_tree structs.now) (ctype_tree ty.now) offset size (λ t. IsSomeAnd result (λ found. t ≡ ctype_tree found.now)) }
 {
     let mut ty = ty;
     let mut offset = offset;
@@ -116,7 +116,7 @@ fn count_from(members: &[Member], offset: u64) -> usize
 fn only_scalar(ty: &CType, offset: u64, size: u64) -> Option<&CType>
     requires { HasNoParts (ctype_tree ty.now) }
     ensures there { (structs : List StructDefTree) → IfSome result (λ found. IsScalarAt structs (ctype_tree ty.now) offset size (ctype_tree found.now)) }
-    ensures only { (structs : List StructDefTree) (scalar : CTypeTree) → IsScalarAt structs (ctype_tree ty.now) offset size scalar → IsSomeAnd result (λ found. scalar ≡ ctype_tree found.now) }
+    ensures only { (structs : List StructDefTree) → EachScalar structs (ctype_tree ty.now) offset size (λ t. IsSomeAnd result (λ found. t ≡ ctype_tree found.now)) }
 {
     if offset == 0 && is_scalar_of(ty, size) {
         Some(ty)

@@ -2,7 +2,7 @@ use Rattle.std.specs.Prelude.{Some}
 use Rattle.std.proofs.Common.{rules, ◌≡◌, ◌<◌, ◌/◌, ◌%◌, map, sym, subst, arith}
 use Rattle.c_syntax.specs.Types.{ctype_tree}
 use Rattle.c_syntax.specs.Program.{structdef_tree}
-use Rattle.c_layout.specs.Kept.{element, element_count}
+use Rattle.c_layout.specs.Kept.{element_count}
 use Rattle.c_layout.specs.Scalars.{HaveSame}
 use Rattle.c_layout.proofs.ScalarParts.{elements_same, elements_past, elements_empty, elements_incomplete, read_some, read_none}
 use Rattle.c_layout.proofs.scalars.element_at.Goals as goal

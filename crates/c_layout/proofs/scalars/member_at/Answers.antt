@@ -1,4 +1,4 @@
-use Rattle.std.proofs.Common.{◌≡◌, ◌<◌, ◌≤◌, ◌-◌, map, subst, arith}
+use Rattle.std.proofs.Common.{◌<◌, ◌-◌, map, subst, arith}
 use Rattle.c_syntax.specs.Program.{structdef_tree, member_tree}
 use Rattle.c_layout.specs.Layout.{members_of}
 use Rattle.c_layout.proofs.ScalarMembers.{IsFront, has_type, members_rise, last_found, all_behind, members_same, members_none}

@@ -1,6 +1,5 @@
-use Rattle.std.proofs.Common.{sym, ◌∙◌}
 use Rattle.c_syntax.specs.Types.{ctype_tree}
-use Rattle.c_layout.proofs.ScalarOwn.{own, is_own}
+use Rattle.c_layout.proofs.ScalarOwn.{is_own}
 use Rattle.c_layout.proofs.scalars.only_scalar.Goals as goal
 
 pub returns-then-is_scalar_of-clause-there : goal.returns-then-is_scalar_of-clause-there

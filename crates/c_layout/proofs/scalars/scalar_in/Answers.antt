@@ -1,9 +1,8 @@
-use Rattle.std.proofs.Common.{◌≡◌, ◌<◌, ◌≤◌, map, length, sym, ap, subst, ◌∙◌, arith}
+use Rattle.std.proofs.Common.{◌≡◌, map, length, sym, ap, subst, ◌∙◌, arith}
 use Rattle.std.proofs.lemmas.List.{length-map}
 use Rattle.c_syntax.specs.Types.{ctype_tree, Struct}
 use Rattle.c_syntax.specs.Program.{structdef_tree}
 use Rattle.c_syntax.proofs.TypeTrees.{ctype_struct}
-use Rattle.c_layout.specs.Kept.{element}
 use Rattle.c_layout.specs.Scalars.{IsScalarAt, HaveSame}
 use Rattle.c_layout.proofs.ScalarOwn.{IsDeep, deep_at_first, deep_of_struct, deep_of_member, no_parts, same_then, carried}
 use Rattle.c_layout.proofs.ScalarMembers.{member_proper}
