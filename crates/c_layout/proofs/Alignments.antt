@@ -1,6 +1,6 @@
 -- Alignments are 1, 2, 4 or 8, so that the greater of two is a multiple of the other.
-use Rattle.std.proofs.Common.{◌≡◌, ℕ, zero, suc, ◌+◌, ◌-◌, ◌*◌, ◌%◌, ◌<◌, ◌≤◌, max, List, [], ◌∷◌, length, take, map, refl, sym, ap, subst, ◌∙◌, inl, inr, arith}
-use Rattle.std.specs.Prelude.{◌⊎◌, ◌≢◌, ◌==◌, Option, None, Some, option_map, IfSome, IsSomeAnd, All, fold, slice_get, slice_index_or, if◌then◌else◌}
+use Rattle.std.proofs.Common.{◌≡◌, ℕ, zero, suc, ◌+◌, ◌-◌, ◌*◌, ◌%◌, ◌<◌, ◌≤◌, max, List, [], ◌∷◌, take, map, refl, sym, ap, subst, ◌∙◌, inl, inr, arith}
+use Rattle.std.specs.Prelude.{◌⊎◌, ◌≢◌, Option, None, Some, option_map, IfSome, All, fold, slice_get, slice_index_or}
 use Rattle.std.proofs.lemmas.Bool.{cases_lt}
 use Rattle.std.proofs.lemmas.Bool.Decides.{nat_tests}
 use Rattle.std.proofs.lemmas.Nat.{mul-mod_second}
@@ -10,7 +10,7 @@ use Rattle.c_written.specs.declared.int_type.IntType.TheVariants as ints
 use Rattle.c_written.specs.Integer.{bytes}
 use Rattle.c_syntax.specs.Types.{CTypeTree, Void, Int, Pointer, Array, Struct, Function}
 use Rattle.c_syntax.specs.Program.{MemberTree, StructDefTree}
-use Rattle.c_layout.specs.Layout.{Space, padding, padded, members_end, strictest, struct_space, space_by, spaces_by, members_of, stored, member_spaces, laid_out, size_in, align_in, offset_at}
+use Rattle.c_layout.specs.Layout.{Space, padded, members_end, strictest, struct_space, space_by, members_of, stored, member_spaces, laid_out, size_in, align_in, offset_at}
 use Rattle.c_layout.specs.Rank.{held, Falls, NoneHoldsItself}
 use Rattle.c_layout.specs.LaidOut.{IsLaidOut}
 use Rattle.c_layout.specs.ProperTypes.{PartAt, whole, element, member}

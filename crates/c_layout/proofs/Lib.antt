@@ -6,6 +6,12 @@ pub mod Offsets
 pub mod Unfolding
 pub mod Parts
 pub mod Alignments
+pub mod ScalarParts
+pub mod ScalarMembers
+pub mod ScalarOwn
+pub mod StructSizes
+pub mod Given
+pub mod Mains
 pub mod Failing
 pub mod Unqualified
 pub mod Refutations

@@ -1,17 +1,12 @@
 -- A part of a type lies inside it, at an offset that the part's alignment divides.
-use Rattle.std.proofs.Common.{◌≡◌, ℕ, zero, suc, ◌+◌, ◌*◌, ◌%◌, ◌<◌, ◌≤◌, max, true, false, List, [], ◌∷◌, length, take, map, refl, sym, ap, subst, ◌∙◌, inl, inr, arith}
-use Rattle.std.specs.Prelude.{◌==◌, Option, None, Some, option_map, unwrap_or, IfSome, IsSomeAnd, All, fold, slice_get, slice_index_or}
-use Rattle.std.proofs.lemmas.Bool.Decides.{nat_tests}
+use Rattle.std.proofs.Common.{◌≡◌, ℕ, zero, suc, ◌+◌, ◌*◌, ◌<◌, ◌≤◌, List, [], ◌∷◌, take, sym, ap, subst, arith}
+use Rattle.std.specs.Prelude.{Option, None, Some, option_map, unwrap_or, IfSome, IsSomeAnd, fold, slice_get}
 use Rattle.std.proofs.lemmas.Option.{slice_get_within}
 use Rattle.std.proofs.Math.Nat.{mul-le-mul_right}
-use Rattle.std.proofs.lemmas.Nat.{mul-mod_second}
-use Rattle.c_written.specs.declared.int_type.IntType.{IntType}
-use Rattle.c_written.specs.declared.int_type.IntType.TheVariants as ints
-use Rattle.c_written.specs.Integer.{bytes}
-use Rattle.c_syntax.specs.Types.{CTypeTree, Void, Int, Pointer, Array, Struct, Function}
+use Rattle.c_syntax.specs.Types.{CTypeTree, Array, Struct}
 use Rattle.c_syntax.specs.Program.{MemberTree, StructDefTree}
-use Rattle.c_layout.specs.Layout.{Space, padding, padded, member_end, members_end, strictest, struct_space, space_by, spaces_by, members_of, stored, member_spaces, laid_out, space_of, size_in, align_in, offset_at}
-use Rattle.c_layout.specs.Rank.{held, NoneHoldsItself}
+use Rattle.c_layout.specs.Layout.{Space, padded, member_end, members_end, strictest, space_by, spaces_by, members_of, stored, member_spaces, laid_out, space_of, size_in, offset_at}
+use Rattle.c_layout.specs.Rank.{held}
 use Rattle.c_layout.specs.LaidOut.{IsLaidOut}
 use Rattle.c_layout.specs.ProperTypes.{PartAt, whole, element, member}
 use Rattle.c_layout.proofs.Spaces.{struct_space-full}
@@ -35,7 +30,7 @@ offset_is ms k m offset e is =
     let at : offset_at ms k ≡ Some (padded (members_end (take k ms)) m.align) = ap (option_map (λ member. padded (members_end (take k ms)) member.align)) e in
     cc
 
-goes_up : (at : ℕ) (ms : List Space) → at ≤ fold member_end at ms
+pub goes_up : (at : ℕ) (ms : List Space) → at ≤ fold member_end at ms
 goes_up at [] = omega arith
 goes_up at (m ∷ ms) = let h = goes_up (member_end at m) ms in omega arith
 

@@ -1,12 +1,12 @@
 -- Why the small programs are not well typed.
-use Rattle.std.proofs.Common.{◌≡◌, ℕ, ◌≤◌, pos, true, false, [], ◌∷◌, refl, inl, inr, arith}
-use Rattle.std.specs.Prelude.{None, Some}
+use Rattle.std.proofs.Common.{◌≡◌, pos, true, false, [], ◌∷◌, refl, inl, inr, arith}
+use Rattle.std.specs.Prelude.{None}
 use Rattle.c_written.specs.declared.int_type.IntType.TheVariants as ints
-use Rattle.c_syntax.specs.Types.{Pointer, Function, ObjectTree}
-use Rattle.c_syntax.specs.TypedExpr.{Const, AddressOf, Any, Var}
-use Rattle.c_syntax.specs.TypedStmt.{TStmtTree, Store, Expr, Block, Declare, Return}
-use Rattle.c_syntax.specs.Program.{TFunctionTree, TProgramTree}
-use Rattle.c_layout.specs.TypedNodes.{Spot, in_block, IsTypedStmt, AreTypedItems, IsTypedExpr, IsTypedPlace}
+use Rattle.c_syntax.specs.Types.{ObjectTree}
+use Rattle.c_syntax.specs.TypedExpr.{Const}
+use Rattle.c_syntax.specs.TypedStmt.{TStmtTree, Store}
+use Rattle.c_syntax.specs.Program.{TFunctionTree}
+use Rattle.c_layout.specs.TypedNodes.{in_block, IsTypedStmt, AreTypedItems, IsTypedExpr, IsTypedPlace}
 use Rattle.c_layout.specs.WellTyped.{IsWellTyped, body_spot}
 use Rattle.c_layout.specs.Samples.{function, main_function, main_with, column, variable, int, returns_call, named_twice, holds_incomplete, stores_twice, declares_inside, reads_const, points_to_function, reads_input}
 

@@ -1,14 +1,24 @@
 -- A small program that is well typed, and the first call of another.
-use Rattle.std.proofs.Common.{◌≡◌, ℕ, zero, suc, ◌<◌, true, false, [], ◌∷◌, length, refl, inl, inr, arith}
-use Rattle.std.specs.Prelude.{None, Some, slice_index_or, slice_get}
-use Rattle.c_syntax.specs.Types.{Void}
+use Rattle.std.proofs.Common.{◌≡◌, ℕ, zero, suc, ◌<◌, true, [], length, refl, inl, arith}
+use Rattle.std.specs.Prelude.{slice_index_or}
 use Rattle.c_syntax.specs.Program.{TFunctionTree}
 use Rattle.c_layout.specs.Calls.{PlacedCall, function_calls, stmt_calls, item_calls, calls_of, calls_among, IsBefore, IsFirstCall}
 use Rattle.c_layout.specs.Plans.{HasBody}
+use Rattle.c_layout.specs.Tables.{IsTypedTable}
 use Rattle.c_layout.specs.TypedNodes.{IsTypedStmt, AreTypedItems, IsTypedExpr, AreTyped, types_of}
 use Rattle.c_layout.specs.Jumps.{labels_of, labels_in, gotos_of, gotos_in, listed_of, listed_in}
 use Rattle.c_layout.specs.WellTyped.{IsWellTyped, IsTypedFunction}
 use Rattle.c_layout.specs.Samples.{returns_call, nested, outer_call}
+
+-- a table with no struct in it
+pub empty_table : IsTypedTable []
+empty_table = record {
+  named = λ k d h. absurd (omega arith);
+  founded = record { rank = λ n. n; bounded = λ n h. h; falls = λ n k d h. absurd (omega arith) };
+  members = λ k d h. absurd (omega arith);
+  told = λ n. tt;
+  laid_out = record { spaces = λ n. refl; offsets = λ n k. refl };
+}
 
 functions_typed : (k : ℕ) (d : TFunctionTree) → k < 2 → IsTypedFunction (returns_call true) (slice_index_or (returns_call true).functions k d)
 unfolding IsTypedStmt AreTypedItems IsTypedExpr AreTyped types_of labels_of labels_in gotos_of gotos_in
@@ -40,13 +50,7 @@ names_differ i (suc (suc j)) d h k e = omega arith
 pub used_call : IsWellTyped (returns_call true)
 unfolding listed_of listed_in
 used_call = record {
-  structs = record {
-    named = λ k d h. absurd (omega arith);
-    founded = record { rank = λ n. n; bounded = λ n h. h; falls = λ n k d h. absurd (omega arith) };
-    members = λ k d h. absurd (omega arith);
-    told = λ n. tt;
-    laid_out = record { spaces = λ n. refl; offsets = λ n k. refl };
-  };
+  structs = empty_table;
   objects = λ k d h. absurd (omega arith);
   functions = functions_typed;
   names_distinct = names_differ;

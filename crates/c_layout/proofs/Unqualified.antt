@@ -1,11 +1,11 @@
 -- Types without their const, by the constructors that the code has.
-use Rattle.std.proofs.Common.{◌≡◌, ℕ, false, refl, ap}
+use Rattle.std.proofs.Common.{◌≡◌, ℕ, false, refl}
 use Rattle.std.specs.declared.rc.Rc.{Rc}
 use Rattle.std.specs.declared.alloc.Global.{Global}
 use Rattle.c_syntax.specs.declared.types.Target.{Target}
 use Rattle.c_syntax.specs.declared.types.CType.{CType}
 use Rattle.c_syntax.specs.declared.types.CType.TheVariants as types
-use Rattle.c_syntax.specs.Types.{CTypeTree, ctype_tree, HasNoTarget, Void, Int, Pointer, Array, Struct, Function}
+use Rattle.c_syntax.specs.Types.{CTypeTree, ctype_tree, HasNoTarget, Pointer, Array}
 use Rattle.c_layout.specs.RowTypes.{unqualified, SameType, has_const_elements}
 
 -- a type that is no pointer and no array has no const

@@ -13,4 +13,5 @@ pub mod MainFunction
 pub mod Calls
 pub mod Plans
 pub mod Checks
+pub mod Scalars
 pub mod Samples

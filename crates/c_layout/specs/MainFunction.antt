@@ -1,5 +1,5 @@
 -- The function with which a run begins.
-use Rattle.std.specs.Prelude.{ℕ, Bool, false, Option, option_map, unwrap_or, List, slice_get, codes}
+use Rattle.std.specs.Prelude.{ℕ, Bool, false, Option, option_map, unwrap_or, slice_get, codes}
 use Rattle.std.specs.List.{position}
 use Rattle.std.specs.Str.{bytes_eq}
 use Rattle.c_syntax.specs.Program.{TFunctionTree, TProgramTree}

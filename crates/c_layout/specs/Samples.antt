@@ -7,7 +7,7 @@ use Rattle.c_syntax.specs.declared.statement.BlockKind.TheVariants.{Written}
 use Rattle.c_syntax.specs.Types.{CTypeTree, Int, Pointer, Struct, Function, ObjectTree}
 use Rattle.c_syntax.specs.TypedExpr.{TExprTree, Const, AddressOf, Convert, Call, Any, Var}
 use Rattle.c_syntax.specs.TypedExpr as exprs
-use Rattle.c_syntax.specs.TypedStmt.{TInitTree, Store, TStmtTree, Expr, Block, Declare, Return, TStmtTrees, none, more}
+use Rattle.c_syntax.specs.TypedStmt.{Store, TStmtTree, Expr, Block, Declare, Return, TStmtTrees, none, more}
 use Rattle.c_syntax.specs.Program.{StructDefTree, TFunctionTree, TProgramTree}
 use Rattle.c_layout.specs.Calls.{PlacedCall}
 

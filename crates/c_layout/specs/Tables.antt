@@ -1,11 +1,11 @@
 -- Tables of structs that a program may have.
-use Rattle.std.specs.Prelude.{◌<◌, ℕ, IfSome, IsSomeAnd, List, All}
-use Rattle.c_syntax.specs.Types.{Struct}
+use Rattle.std.specs.Prelude.{◌≡◌, ◌+◌, ◌%◌, ◌<◌, ◌≤◌, ℕ, Some, IfSome, IsSomeAnd, List, All, length}
+use Rattle.c_syntax.specs.Types.{CTypeTree, Struct}
 use Rattle.c_syntax.specs.Program.{MemberTree, StructDefTree}
-use Rattle.c_layout.specs.Layout.{size_in}
+use Rattle.c_layout.specs.Layout.{members_of, size_in, align_in}
 use Rattle.c_layout.specs.LaidOut.{IsLaidOut}
 use Rattle.c_layout.specs.Rank.{AreNamed, NoneHoldsItself}
-use Rattle.c_layout.specs.ProperTypes.{IsProperType, IsTold}
+use Rattle.c_layout.specs.ProperTypes.{IsProperType, IsTold, PartAt}
 
 -- a member is of a complete type, which has at least one byte (C11 6.7.2.1p3)
 pub record IsTypedMember (structs : List StructDefTree) (member : MemberTree) : Type 0 where
@@ -19,3 +19,19 @@ pub record IsTypedTable (structs : List StructDefTree) : Type 0 where
   pub members : All (λ def. All (IsTypedMember structs) def.members) structs
   pub told : (n : ℕ) → IfSome (size_in structs (Struct n)) IsTold
   pub laid_out : IsLaidOut structs
+
+-- where a part has a size, that in which it stands has one too, and the part lies inside it
+abbrev pub PartsLieInside : List StructDefTree → Type 0
+PartsLieInside structs =
+    (whole part : CTypeTree) (offset size : ℕ) → PartAt structs whole offset part → size_in structs part ≡ Some size
+    → IsSomeAnd (size_in structs whole) (λ n. offset + size ≤ n)
+
+-- a part stands at a multiple of its alignment
+abbrev pub PartsAreAligned : List StructDefTree → Type 0
+PartsAreAligned structs =
+    (whole part : CTypeTree) (offset : ℕ) → PartAt structs whole offset part → offset % align_in structs part ≡ 0
+
+-- a struct with members has a size, of at least one byte
+abbrev pub StructsHaveBytes : List StructDefTree → Type 0
+StructsHaveBytes structs =
+    (n : ℕ) → 0 < length (members_of structs n) → IsSomeAnd (size_in structs (Struct n)) (λ size. (0 < size) × IsTold size)

@@ -1,16 +1,16 @@
 // Sizes, alignments and offsets of types.
 #![tactic(auto, using(c_syntax::proofs::Trees::the_trees))]
 
-ghost use Rattle.std.specs.Prelude.{◌≡◌, ℕ, ◌+◌, ◌*◌, ◌%◌, ◌^◌, ◌<◌, ◌≤◌, List, map, option_map, IfSome, IsSomeAnd, Some};
-ghost use Rattle.c_syntax.specs.Types.{CTypeTree, ctype_tree};
+ghost use Rattle.std.specs.Prelude.{◌≡◌, ℕ, ◌+◌, ◌*◌, ◌^◌, ◌≤◌, List, map, option_map, IfSome, Some};
+ghost use Rattle.c_syntax.specs.Types.{ctype_tree};
 ghost use Rattle.c_syntax.specs.Program.{StructDefTree, member_tree, structdef_tree};
 ghost use Rattle.c_written.specs.Integer as integer;
 ghost use Rattle.c_layout.specs.Layout as layout;
 ghost use Rattle.c_layout.specs.Layout.{align_in, laid_out, offset_named, padded, size_in, sized, space_by, space_of, spaces_by, stored, strictest, struct_space, told};
 ghost use Rattle.c_layout.specs.Kept.{IsKept, element, element_count, element_space, kept};
 ghost use Rattle.c_layout.specs.LaidOut.{IsLaidOut, MeansUnfolded};
-ghost use Rattle.c_layout.specs.ProperTypes.{PartAt};
 ghost use Rattle.c_layout.specs.Rank.{NoneHoldsItself};
+ghost use Rattle.c_layout.specs.Tables.{IsTypedTable, PartsAreAligned, PartsLieInside, StructsHaveBytes};
 
 use c_syntax::{CType, IntType, Member, StructDef, StructDefs};
 
@@ -32,8 +32,8 @@ const TOO_LARGE: u64 = GREATEST_SIZE + 1;
 
 // What an object of a type takes: its size, if the type is complete, and its alignment.
 #[derive(Clone, Copy)]
-struct Room {
-    size: Option<u64>,
+pub(crate) struct Room {
+    pub(crate) size: Option<u64>,
     align: u64,
 }
 
@@ -107,12 +107,18 @@ pub fn stored_sizes_mean_unfolded()
 /// In a table of structs that is laid out, the object in which a part stands has a size where the
 /// part has one, and the part lies inside it.
 pub fn parts_lie_inside()
-    ensures { (structs : List StructDefTree) → IsLaidOut structs → (whole part : CTypeTree) (offset size : ℕ) → PartAt structs whole offset part → size_in structs part ≡ Some size → IsSomeAnd (size_in structs whole) (λ n. offset + size ≤ n) }
+    ensures { (structs : List StructDefTree) → IsLaidOut structs → PartsLieInside structs }
 {}
 
 /// In such a table, in which no struct holds itself, a part stands at a multiple of its alignment.
 pub fn parts_are_aligned()
-    ensures { (structs : List StructDefTree) → IsLaidOut structs → NoneHoldsItself structs → (whole part : CTypeTree) (offset : ℕ) → PartAt structs whole offset part → offset % align_in structs part ≡ 0 }
+    ensures { (structs : List StructDefTree) → IsLaidOut structs → NoneHoldsItself structs → PartsAreAligned structs }
+{}
+
+/// In a table of structs that a program may have, a struct with members has a size, of at least one
+/// byte and at most 2 to the 40.
+pub fn structs_have_bytes()
+    ensures { (structs : List StructDefTree) → IsTypedTable structs → StructsHaveBytes structs }
 {}
 
 // What a type takes, where a struct is laid out from its members.
@@ -172,7 +178,7 @@ fn member_room(ty: &CType, structs: &[StructDef]) -> Room
 }
 
 // What such a member takes that is no array.
-fn told_room(ty: &CType, structs: &[StructDef]) -> Room
+pub(crate) fn told_room(ty: &CType, structs: &[StructDef]) -> Room
     ensures { IsKept result (element_space (stored (map structdef_tree structs.now)) (ctype_tree ty.now)) }
 {
     match ty {
@@ -208,7 +214,7 @@ fn entry_room(def: &StructDef) -> Room
 }
 
 // The innermost element of an array of arrays; another type is its own.
-fn element_of(ty: &CType) -> &CType
+pub(crate) fn element_of(ty: &CType) -> &CType
     ensures { ctype_tree result.now ≡ element (ctype_tree ty.now) }
 {
     let mut ty = ty;
@@ -219,7 +225,7 @@ fn element_of(ty: &CType) -> &CType
 }
 
 // How many of these elements it has.
-fn count_of(ty: &CType) -> u64
+pub(crate) fn count_of(ty: &CType) -> u64
     ensures { result ≡ kept (element_count (ctype_tree ty.now)) }
 {
     let mut count = 1;
@@ -297,7 +303,7 @@ fn padding(end: u64, align: u64) -> u64
 }
 
 // The members of a struct, which are none where there is no such struct.
-fn members_of(structs: &[StructDef], n: u64) -> &[Member]
+pub(crate) fn members_of(structs: &[StructDef], n: u64) -> &[Member]
     ensures { map member_tree result.now ≡ layout.members_of (map structdef_tree structs.now) n }
 {
     match structs.get(n as usize) {
@@ -306,7 +312,7 @@ fn members_of(structs: &[StructDef], n: u64) -> &[Member]
     }
 }
 
-fn bytes(t: IntType) -> u64
+pub(crate) fn bytes(t: IntType) -> u64
     ensures value { result ≡ integer.bytes t }
     ensures few { result ≤ 8 }
 {
@@ -323,6 +329,7 @@ mod tests {
     use super::*;
     use c_syntax::{Members, Name, Target};
     use std::alloc::{AllocError, Global};
+    use std::rc::Rc;
     use std::test::Fail;
 
     const CHAR: CType = CType::Int(IntType::Char);
@@ -334,7 +341,7 @@ mod tests {
     const LONG: CType = CType::Int(IntType::Long);
 
     fn array(alloc: Global, ty: CType, n: u64) -> Result<CType, AllocError> {
-        let of = Box::new(
+        let of = Rc::new(
             alloc,
             Target {
                 ty,
@@ -345,7 +352,7 @@ mod tests {
     }
 
     fn pointer(alloc: Global, ty: CType) -> Result<CType, AllocError> {
-        let to = Box::new(alloc, Target { ty, is_const: true })?;
+        let to = Rc::new(alloc, Target { ty, is_const: true })?;
         Ok(CType::Pointer(to))
     }
 
@@ -556,5 +563,15 @@ mod tests {
         assert_eq!(rt; offset_of(&pair, b"kk"), None);
         assert_eq!(rt; offset_of(&pair, b""), None);
         Ok(())
+    }
+
+    // char c[5]; int k; and one that ends past what is told.
+    #[test]
+    fn places_of_members(rt: HostRuntime) {
+        let second = Placement { offset: 8, end: 12 };
+        assert_eq!(rt; next_member(5, 4, 4), second);
+        let end = (1 << 40) + 1;
+        let last = Placement { offset: 16, end };
+        assert_eq!(rt; next_member(9, 1 << 40, 8), last);
     }
 }

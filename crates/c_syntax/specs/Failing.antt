@@ -7,7 +7,7 @@ use Rattle.c_syntax.specs.declared.alarm.Check.{Check}
 use Rattle.c_syntax.specs.declared.alarm.WrongKind.{WrongKind}
 use Rattle.c_syntax.specs.declared.alarm.WrongKind.TheVariants as kinds
 use Rattle.c_syntax.specs.Types.{ObjectTree}
-use Rattle.c_syntax.specs.Operand.{Operand, Number, Point, Points, Mark, End, LoadMark, Undef, Broken, CallEnd}
+use Rattle.c_syntax.specs.Operand.{Operand, Number, Point, Points, Mark, End, Undef, Broken}
 use Rattle.c_syntax.specs.Operand as operands
 
 -- the number is outside of these ends

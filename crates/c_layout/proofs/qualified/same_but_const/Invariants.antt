@@ -1,4 +1,4 @@
-use Rattle.std.proofs.Common.{◌≡◌, ◌↔◌}
+use Rattle.std.proofs.Common.{◌↔◌}
 use Rattle.c_syntax.specs.Types.{ctype_tree}
 use Rattle.c_layout.specs.RowTypes.{SameType}
 use Rattle.c_layout.proofs.qualified.same_but_const.Given as goal

@@ -1,4 +1,4 @@
-use Rattle.std.proofs.Common.{ap, ◌∙◌}
+use Rattle.std.proofs.Common.{ap}
 use Rattle.c_layout.specs.RowTypes.{unqualified}
 use Rattle.c_layout.proofs.Unqualified.{core_same}
 use Rattle.c_layout.proofs.qualified.same_core.Goals as goal
