@@ -4,3 +4,4 @@ pub mod Copies
 pub mod Ranges
 pub mod Splits
 pub mod Overlaps
+pub mod Bytes

@@ -71,6 +71,10 @@ pub record IsInUse (ss : List Slot) (n : ℕ) (c : Cell) : Type 0 where
   pub cell : cell_at ss n ≡ Some c
   pub used : used_at ss n ≡ Some true
 
+-- the number in place i of the list is that of the cell, which is in use
+abbrev pub HasNumberInUse : List Slot → List ℕ → ℕ → Cell → Type 0
+HasNumberInUse ss ns i c = (m : ℕ) × (slice_get ns i ≡ Some m) × IsInUse ss m c
+
 -- no cell in use but this one itself shares a byte with it
 pub record IsApartFrom (ss : List Slot) (c : Cell) : Type 0 where
   pub none : (n : ℕ) (d : Cell) → IsInUse ss n d → d ≢ c

@@ -39,7 +39,7 @@ impl Model for Cells {
 
 impl Cells {
     ghost use Rattle.std.specs.Prelude.{◌≡◌, ℕ, ◌+◌, ◌^◌, ◌<◌, ◌≤◌, ◌++◌, [], length, Some, true, IfOk, OnOk};
-    ghost use Rattle.cell_table.specs.Cells.{cell_at, used_at, number_of, in_use_with, in_use_without, in_use_with_all, numbers_of, byte_cells, IsApartFrom, IsTable, AppendsOverlapping};
+    ghost use Rattle.cell_table.specs.Cells.{cell_at, used_at, number_of, in_use_with, in_use_without, in_use_with_all, numbers_of, byte_cells, IsApartFrom, IsTable, AppendsOverlapping, HasNumberInUse};
 
     /// A table of no cells.
     pub fn new(alloc: Global) -> Cells
@@ -153,7 +153,9 @@ impl Cells {
             → out.new
             ≡ out.old ++ numbers_of (in_use_without self.old.slots n) (byte_cells c.object c.offset c.size)) }
 
-        // It follows that a cell of one byte stays.
+        // It follows that each byte has its own cell, which is in use, and that a cell of one byte stays.
+        ensures each { OnOk result ((c : Cell) (i : ℕ) → cell_at self.old.slots n ≡ Some c → i < c.size
+            → HasNumberInUse self.new.slots out.new (length out.old + i) (record { object = c.object; offset = c.offset + i; size = 1 })) }
         ensures one_byte { OnOk result ((c : Cell) → cell_at self.old.slots n ≡ Some c
             → c.size ≡ 1 → self.new.slots ≡ self.old.slots) }
     {

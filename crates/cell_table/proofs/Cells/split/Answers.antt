@@ -1,6 +1,8 @@
-use Rattle.std.proofs.Common.{◌≡◌, ◌+◌, ◌-◌, ℕ, List, [], ◌∷◌, ◌++◌, Some, refl, ap, sym, ◌∙◌, subst, append_assoc, arith}
+use Rattle.std.proofs.Common.{◌≡◌, ◌+◌, ◌-◌, ℕ, List, [], ◌∷◌, ◌++◌, Some, refl, ap, sym, ◌∙◌, subst, append_assoc, arith, rules, length, slice_get, ◌<◌}
+use Rattle.std.proofs.lemmas.List.{append-nil}
 use Rattle.c_syntax.specs.declared.alarm.Cell.{Cell}
-use Rattle.cell_table.specs.Cells.{Slot, IsInUse, in_use_with, in_use_with_all, number_of, numbers_of, byte_cells}
+use Rattle.cell_table.specs.Cells.{Slot, IsInUse, in_use_with, in_use_with_all, number_of, numbers_of, byte_cells, HasNumberInUse}
+use Rattle.cell_table.proofs.Bytes.{in_use-each, byte-at, get-behind}
 use Rattle.cell_table.proofs.Slots.{used-within}
 use Rattle.cell_table.proofs.Splits.{IsClear, byte_cell, clear-without, apart-clear, clear-with, byte_cells-from, one-byte}
 use Rattle.cell_table.proofs.Cells.split.Goals as goal
@@ -59,3 +61,25 @@ returns-clause-one_byte c = λ d at one.
     let in_use : IsInUse c.args.self.now.slots c.args.n whole = record { cell = c.cell-whole.ensures.cell; used = c.requires } in
     done ∙ ap (λ (ss : List Slot). in_use_with_all ss (byte_cells whole.object whole.offset whole.size)) c.retire.ensures
     ∙ one-byte c.args.self.now.slots c.args.n whole c.cell-whole.ensures.table in_use (ap (λ (e : Cell). e.size) same ∙ one)
+
+pub returns-clause-each : goal.returns-clause-each
+returns-clause-each c = λ d i at l.
+    let whole = c.cell-whole.result in
+    let both : Some whole ≡ Some d = sym c.cell-whole.ensures.cell ∙ at in
+    let same : whole ≡ d = cc in
+    let all = byte_cells whole.object whole.offset whole.size in
+    let ss = c.retire.new.self.slots in
+    let none : whole.offset + whole.size - c.loop-offset.offset ≡ 0 = omega arith in
+    let done : c.loop-offset.self.slots ≡ in_use_with_all ss all = rw none at c.loop-offset.invariant.slots in
+    let items : c.loop-offset.numbers.items ++ [] ≡ c.into_vec-numbers.result.items ++ numbers_of ss all = rw none at c.loop-offset.invariant.numbers in
+    let old : c.into_vec-numbers.result.items ≡ c.args.out.now = search rules in
+    let made : c.from_vec.result ≡ c.loop-offset.numbers.items = search rules in
+    let out : c.from_vec.result ≡ c.args.out.now ++ numbers_of ss all =
+    made ∙ sym (append-nil c.loop-offset.numbers.items) ∙ items ∙ ap (λ (ns : List ℕ). ns ++ numbers_of ss all) old in
+    let inside : i < whole.size = subst (λ (e : Cell). i < e.size) (sym same) l in
+    let each = in_use-each ss all i (byte_cell whole.object (whole.offset + i)) (byte-at whole.object whole.offset whole.size i inside) in
+    let found : slice_get c.from_vec.result (length c.args.out.now + i) ≡ Some each.0 =
+    ap (λ (ns : List ℕ). slice_get ns (length c.args.out.now + i)) out ∙ get-behind c.args.out.now (numbers_of ss all) i ∙ each.1 in
+    let used : IsInUse c.loop-offset.self.slots each.0 (byte_cell whole.object (whole.offset + i)) =
+    subst (λ (us : List Slot). IsInUse us each.0 (byte_cell whole.object (whole.offset + i))) (sym done) each.2 in
+    (each.0, found, subst (λ (e : Cell). IsInUse c.loop-offset.self.slots each.0 (byte_cell e.object (e.offset + i))) same used)
