@@ -120,7 +120,7 @@ none_sound e v h = record {
 pub none_all : {X : Type 0} (P : X → Type 0) → All P []
 none_all P k d h = absurd (omega arith)
 
-one_all : {X : Type 0} (P : X → Type 0) (x : X) → P x → All P (x ∷ [])
+pub one_all : {X : Type 0} (P : X → Type 0) (x : X) → P x → All P (x ∷ [])
 one_all P x p = All-push P [] x (none_all P) p
 
 pub none_ordered : AllPairs Precedes []

@@ -93,7 +93,7 @@ ended_stands : (program : ProgramTree) (s : State) (n : ℤ) → step program s 
 ended_stands program s n e = ap (λ x. moved_to s x) e
 
 -- what a run of the whole program comes to
-abbrev Comes : ProgramTree → List ℤ → Found → Type 0
+abbrev pub Comes : ProgramTree → List ℤ → Found → Type 0
 Comes program inputs (Value n) = (t : State) × Leads program (start inputs) t × (step program t ≡ Ended n)
 Comes program inputs (found.Wrong p kind operand) = (t : State) × Leads program (start inputs) t × (step program t ≡ machine.Wrong p kind operand) × (calls_in t.work ≡ [])
 
@@ -109,7 +109,7 @@ ends e inputs (Value n) l =
     (_, then_leads (returning e) _ _ _ (begins e inputs) (then_leads (returning e) _ _ _ l (one_step (returning e) _ (st (Finish ∷ []) (n ∷ []) inputs) refl)), refl)
 ends e inputs (found.Wrong p kind operand) (t, l, w, c) = (t, then_leads (returning e) _ _ _ (begins e inputs) l, w, c)
 
-comes : (e : ExprTree) (inputs : List ℤ) → Comes (returning e) inputs (found_of e)
+pub comes : (e : ExprTree) (inputs : List ℤ) → Comes (returning e) inputs (found_of e)
 comes e inputs = ends e inputs (found_of e) (evaluation (returning e) e behind [] inputs)
 
 -- a run that goes wrong does so in main, where the expression's first check fails

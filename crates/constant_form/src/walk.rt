@@ -5,7 +5,7 @@ ghost use Rattle.constant_form.specs.Admission.{IsAdmitted, int_check, zero_chec
 ghost use Rattle.constant_form.specs.Operators.{least, greatest, IsInt, checked, operate};
 ghost use Rattle.constant_form.specs.Outcome.{found_at, found_of};
 ghost use Rattle.constant_form.specs.Order.{Precedes, IsPrintable};
-ghost use Rattle.constant_form.specs.Sound.{IsSound};
+ghost use Rattle.constant_form.specs.Sound.{IsLeast, IsSound};
 ghost use Rattle.constant_form.specs.Tree.{expr_tree, returning, HasConstants};
 ghost use Rattle.constant_form.specs.Walk.{check_of, IsAlarmOf, Walks, number_at};
 
@@ -26,6 +26,7 @@ pub fn alarms_of(alloc: Global, e: &Expr) -> Result<Vec<Alarm>, AllocError>
     ensures admitted { IfOk result (λ alarms. All (IsAdmitted (returning (expr_tree e.now))) alarms.items) }
     ensures ordered { IfOk result (λ alarms. AllPairs Precedes alarms.items) }
     ensures printable { IfOk result (λ alarms. All IsPrintable alarms.items) }
+    ensures least { IfOk result (λ alarms. All (IsLeast (returning (expr_tree e.now))) alarms.items) }
 {
     let mut alarms = Vec::new(alloc);
     walk(alloc, e, &mut alarms)?;

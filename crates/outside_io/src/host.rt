@@ -1,5 +1,6 @@
 // Real files, and standard output. They tell nothing of content.
-ghost use Rattle.std.specs.Prelude.{◌≡◌, ◌⊎◌, ◌<◌, ◌≤◌, [], None, IsTrue, IsErr, IfOk, OnErr, false, is_ok, length, if◌then◌else◌};
+ghost use Rattle.std.specs.Prelude.{◌≡◌, ◌⊎◌, ◌<◌, ◌≤◌, [], None, IsTrue, IsErr, IfOk, OnErr, false, is_ok, length, take, if◌then◌else◌};
+ghost use Rattle.std.specs.Io.KnownBytes.{Appends, ReadConsumes};
 ghost use Rattle.outside_io.specs.Io.{raised};
 
 use crate::{Failed, Files, Sink};
@@ -78,11 +79,36 @@ impl<'a, R: HostFileSystem> Files for HostFiles<'a, R> {
         ensures later { self.old.faults ≤ self.new.faults }
     {
         if let Some(file) = &mut self.file
-            && let Ok(count) = file.read(into)
+            && let Ok(count) = read_piece(file, into)
         {
             return Ok(count);
         }
         Err(self.fail())
+    }
+}
+
+// Reads some bytes of a source into the front of a piece.
+fn read_piece<S: Read>(source: &mut S, into: &mut [u8]) -> Result<usize, Failed>
+    ensures count { IfOk result (λ k. k ≤ length into.old) }
+    ensures bytes { ReadConsumes (S.remaining source.old) (S.remaining source.new) result into.new }
+{
+    match source.read(into) {
+        Ok(count) => Ok(count),
+        Err(_) => Err(Failed),
+    }
+}
+
+// Writes the front of a piece to a sink, and flushes it.
+fn write_piece<W: Write>(sink: &mut W, piece: &[u8]) -> Result<usize, Failed>
+    ensures count { IfOk result (λ k. k ≤ length piece.now) }
+    ensures bytes { IfOk result (λ k. Appends (W.contents sink.old) (W.contents sink.new) (take k piece.now)) }
+{
+    match sink.write(piece) {
+        Ok(count) => match sink.flush() {
+            Ok(()) => Ok(count),
+            Err(_) => Err(Failed),
+        },
+        Err(_) => Err(Failed),
     }
 }
 
@@ -124,9 +150,7 @@ impl<'a, R: Print> Sink for HostOut<'a, R> {
         ensures later { self.old ≤ self.new }
     {
         let mut out = io::writer(self.rt);
-        if let Ok(count) = out.write(piece)
-            && let Ok(()) = out.flush()
-        {
+        if let Ok(count) = write_piece(&mut out, piece) {
             if count == 0 && !piece.is_empty() {
                 self.failures = self.failures.saturating_add(1);
             }
