@@ -1,4 +1,4 @@
-use Rattle.std.proofs.Common.{◌≡◌, drop, map, None, Some, [], refl, sym, subst, arith}
+use Rattle.std.proofs.Common.{drop, [], sym, subst, arith}
 use Rattle.std.proofs.lemmas.Grind.{common_steps}
 use Rattle.c_lexer.specs.Spelling.{Reads, here}
 use Rattle.c_lexer.proofs.CharacterLemmas.{all_characters, literal_some}
