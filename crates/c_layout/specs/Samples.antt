@@ -90,8 +90,8 @@ reads_input t = main_with (variable int 4) (Expr (column 2) (Any (column 3) t))
 -- int f(int); int main(void){return f(f(0));}, with the inner call in front of the outer one as the calls are made
 abbrev pub nested : TProgramTree
 nested =
-    let zero = Const (column 30) ints.Int (pos 0) in
-    let inner = Call (column 28) 0 int true (exprs.more zero exprs.none) in
+    let argument = Const (column 30) ints.Int (pos 0) in
+    let inner = Call (column 28) 0 int true (exprs.more argument exprs.none) in
     let outer = Call (column 26) 0 int true (exprs.more inner exprs.none) in
     program_of [] (variable int 4 ∷ [])
     (record { name = codes "f"; pos = column 1; params = 0 ∷ []; result = int; body = None }
