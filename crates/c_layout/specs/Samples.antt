@@ -1,4 +1,4 @@
--- Small programs by which the definitions are judged: each but the first differs from a well typed one in one thing.
+-- Small programs by which the definitions are judged: each that is not well typed differs in one thing from one that is.
 use Rattle.std.specs.Prelude.{ℕ, pos, Bool, true, false, None, Some, Option, List, [], ◌∷◌, codes}
 use Rattle.c_written.specs.declared.place.Pos.{Pos}
 use Rattle.c_written.specs.declared.int_type.IntType.{IntType}
