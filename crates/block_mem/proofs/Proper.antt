@@ -60,8 +60,8 @@ proper-stored made bs at new h old is q = elim (cases_lt q at) [
   ]
 ]
   where
-  out : (q < at) ⊎ (at + length new ≤ q) → IsProper made (get_or (stored bs at new) q Undef)
-  out outside = subst (IsProper made) (sym (get-stored_out bs at new q outside)) (proper-cut made at (length new) q (get_or bs q Undef) (old q))
+    out : (q < at) ⊎ (at + length new ≤ q) → IsProper made (get_or (stored bs at new) q Undef)
+    out outside = subst (IsProper made) (sym (get-stored_out bs at new q outside)) (proper-cut made at (length new) q (get_or bs q Undef) (old q))
 
 proper-taken : (made : ℕ) (bs : List Byte) (at n : ℕ) → at + n ≤ length bs → AreProperBytes made bs → AreProperBytes made (taken bs at n)
 proper-taken made bs at n h is q = elim (cases_lt q n) [
