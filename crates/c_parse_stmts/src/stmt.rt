@@ -282,7 +282,8 @@ fn for_loop<'a>(
     Ok((for_stmt(head, body), rest))
 }
 
-/// A statement that is a part of another one, where the tokens stand so.
+/// A statement that is a part of another one, where its tokens stand so. It counts as a form from
+/// its first token on; a `[` begins none, and is refused where it does not count.
 #[cycle(statements)]
 fn substatement<'a>(
     context: &Context<'_>,

@@ -17,7 +17,7 @@ use Rattle.c_parse_simple.specs.declared.stmt_kind.StatementKind.TheVariants as 
 use Rattle.c_parse_steps.proofs.Steps.{answer, halt, halts, if_false, if_true, stalls, starved, starves, stopped}
 use Rattle.c_parse_simple.proofs.Starts.{statement_begins}
 use Rattle.c_parse_stmts.proofs.Starts.{label_rule}
-use Rattle.c_parse_steps.proofs.Paths.{after, begin, behind, decides, ends, goes_so, inside, lasts, not_after, not_behind, not_inside, same_value, where_so}
+use Rattle.c_parse_steps.proofs.Paths.{after, begin, behind, decides, ends, goes_so, inside, lasts, not_after, not_behind, not_inside, where_so}
 use Rattle.c_parse_simple.proofs.Steps.{not_tried, tried}
 use Rattle.c_parse_stmts.proofs.Steps.{for_led, held, in_scene, last_items, not_held, not_led, same_items, same_statement}
 use Rattle.c_parse_stmts.proofs.stmt.+statements.Goals as goal
