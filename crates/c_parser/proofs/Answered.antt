@@ -127,10 +127,6 @@ outers_end {w} {before} {ts} h = end_rule w before ts h
 pub outers_more : {goes : Outcome (List OuterTree) → Type 0} {w : Scene} {before : List OuterTree} {ts : List Placed} → ((o : Outcome (List OuterTree)) → Goes 0 w (Outers before) ts o → goes o) → (length ts == 0) ≡ false → Path (Outers before) goes 0 w (part 0 w (AnOuter parts.Outer) (λ next. part 0 (after_outer w next) (Outers (before ++ next ∷ [])) give)) ts
 outers_more {w = w} {before} {ts} f h = begin {p = Outers before} f refl (more_rule w before ts h)
 
--- the same names under another name
-pub read_with : {given types : List (List ℕ)} {ts : List Placed} {r : Result (Outer × Bor (List Placed)) Fault} → given ≡ types → Gives (λ o. Goes 0 (scene_with given) (AnOuter parts.Outer) ts o) (λ o. outer_tree o) r → Gives (λ o. Goes 0 (scene_with types) (AnOuter parts.Outer) ts o) (λ o. outer_tree o) r
-read_with {ts = ts} {r} e g = subst (λ (v : List (List ℕ)). Gives (λ o. Goes 0 (scene_with v) (AnOuter parts.Outer) ts o) (λ o. outer_tree o) r) e g
-
 -- one more declaration was read, and its typedef names are in force behind it
 pub outer_added : {goes : Outcome (List OuterTree) → Type 0} {types more : List (List ℕ)} (outers longer : List Outer) {ts : List Placed} {x : Outer × Bor (List Placed)} {o : Outcome (List OuterTree)} → Path (Outers (map (λ o. outer_tree o) outers)) goes 0 (scene_with types) (part 0 (scene_with types) (AnOuter parts.Outer) (λ next. part 0 (after_outer (scene_with types) next) (Outers (map (λ o. outer_tree o) outers ++ next ∷ [])) give)) ts → Gives (λ o. Goes 0 (scene_with types) (AnOuter parts.Outer) ts o) (λ o. outer_tree o) (Ok x) → more ≡ types ++ new_types (outer_tree x.0) → longer ≡ outers ++ x.0 ∷ [] → Goes 0 (scene_with more) (Outers (map (λ o. outer_tree o) longer)) x.1.now o → goes o
 outer_added {types = types} {more} outers longer {x = x} {o} path h e f g = goes_so (behind path h) o (last_outers o (subst (λ (v : List (List ℕ)). Goes 0 (scene_with v) (Outers (map (λ o. outer_tree o) outers ++ outer_tree x.0 ∷ [])) x.1.now o) e (subst (λ (v : List OuterTree). Goes 0 (scene_with more) (Outers v) x.1.now o) (ap (λ (v : List Outer). map (λ o. outer_tree o) v) f ∙ map_one_more outers x.0) g)))

@@ -13,10 +13,12 @@ ghost use Rattle.c_parse_steps.specs.Views.{boxed_declarator, scene_of};
 
 use c_parse_decls::{initial, no_declarators};
 use c_parse_exprs::{declarator, specs};
-use c_parse_steps::{Class, Context, Fault, Mark, Role, comes, declared_word, specs_pos, taken};
+use c_parse_steps::{
+    Class, Context, Fault, Mark, Role, TypeNames, comes, declared_word, specs_pos, taken,
+};
 use c_parse_stmts::block_items;
 use c_written::{
-    BlockItems, Declarator, InitDeclarator, Name, Outer, Placed, Pos, Punctuator, Spec, Specs,
+    BlockItems, Declarator, InitDeclarator, Outer, Placed, Pos, Punctuator, Spec, Specs,
     StorageWord,
 };
 use std::alloc::{AllocError, Global};
@@ -104,18 +106,18 @@ fn function_outer(specs: Specs, declarator: Box<Declarator>, brace: Pos, body: B
     }
 }
 
-/// The typedef names that a declaration of the file adds, put behind those that there are.
-pub fn push_types(alloc: Global, types: &mut Vec<Name>, outer: &Outer) -> Result<(), AllocError>
-    ensures { IfOk result (λ _. types.new.items ≡ types.old.items ++ new_types (outer_tree outer.now)) }
+/// The typedef names in force behind a declaration of the file.
+pub fn types_after(alloc: Global, types: TypeNames, outer: &Outer) -> Result<TypeNames, AllocError>
+    ensures { IfOk result (λ names. names ≡ types ++ new_types (outer_tree outer.now)) }
 {
     match outer {
         Outer::Declared(decl) => {
             if !has_typedef(decl.specs.as_slice()) {
-                return Ok(());
+                return Ok(types);
             }
-            push_words(alloc, types, decl.inits.as_slice())
+            with_words(alloc, types, decl.inits.as_slice())
         }
-        Outer::Function { .. } => Ok(()),
+        Outer::Function { .. } => Ok(types),
     }
 }
 
@@ -145,33 +147,30 @@ fn is_typedef(spec: &Spec) -> bool
     }
 }
 
-/// The words that the declarators declare, put behind the names.
-fn push_words(
+/// The names, and behind them the words that the declarators declare.
+fn with_words(
     alloc: Global,
-    types: &mut Vec<Name>,
+    types: TypeNames,
     inits: &[InitDeclarator],
-) -> Result<(), AllocError>
-    ensures { IfOk result (λ _. types.new.items ≡ types.old.items ++ declared_words (map initdeclarator_tree inits.now)) }
+) -> Result<TypeNames, AllocError>
+    ensures { IfOk result (λ names. names ≡ types ++ declared_words (map initdeclarator_tree inits.now)) }
 {
+    let mut names = types;
     for item in inits {
-        push_word(alloc, types, &item.declarator)?;
+        names = with_word(alloc, names, &item.declarator)?;
     }
-    Ok(())
+    Ok(names)
 }
 
-fn push_word(
+fn with_word(
     alloc: Global,
-    types: &mut Vec<Name>,
+    types: TypeNames,
     declarator: &Declarator,
-) -> Result<(), AllocError>
-    ensures { IfOk result (λ _. types.new.items ≡ types.old.items ++ with_word (declared_word (declarator_tree declarator.now)) []) }
+) -> Result<TypeNames, AllocError>
+    ensures { IfOk result (λ names. names ≡ types ++ with_word (declared_word (declarator_tree declarator.now)) []) }
 {
     match declared_word(declarator) {
-        Some(name) => {
-            let bytes = name.as_slice().to_vec(alloc)?;
-            types.push(Name::from_vec(bytes))?;
-        }
-        None => {}
+        Some(name) => types.with(name.as_slice().to_vec(alloc)?),
+        None => Ok(types),
     }
-    Ok(())
 }

@@ -12,9 +12,9 @@ ghost use Rattle.c_grammar.specs.Grammar.{at_start};
 ghost use Rattle.c_grammar.specs.Descent.{Done, Goes, Stop};
 ghost use Rattle.c_parser.specs.declared.parsing.ParseError.TheVariants.{NoMemory};
 
-use crate::outer::{outer, push_types};
-use c_parse_steps::{Context, Fault, Setting};
-use c_written::{Construct, File, Name, Outer, Outers, Placed, Pos, Tokens};
+use crate::outer::{outer, types_after};
+use c_parse_steps::{Context, Fault, Setting, TypeNames};
+use c_written::{Construct, File, Outer, Outers, Placed, Pos, Tokens};
 use std::alloc::Global;
 use thiserror::Error;
 
@@ -60,11 +60,11 @@ fn outers(alloc: Global, tokens: &[Placed]) -> Result<Vec<Outer>, Fault<'_>>
     ensures { MatchResult result (λ v. Goes 0 at_start (part.Outers []) tokens.now (Done (map (λ o. outer_tree o) v.items) [])) (λ f. Halts (λ why rest. Goes 0 at_start (part.Outers []) tokens.now (Stop why rest)) f) }
 {
     let mut outers: Vec<Outer> = Vec::new(alloc);
-    let mut types: Vec<Name> = Vec::new(alloc);
+    let mut types = TypeNames::new(alloc);
     let mut rest = tokens;
     while !rest.is_empty() {
-        let (next, after) = outer_here(alloc, types.as_slice(), rest)?;
-        push_types(alloc, &mut types, &next)?;
+        let (next, after) = outer_here(alloc, &types, rest)?;
+        types = types_after(alloc, types, &next)?;
         outers.push(next)?;
         rest = after;
     }
@@ -73,7 +73,7 @@ fn outers(alloc: Global, tokens: &[Placed]) -> Result<Vec<Outer>, Fault<'_>>
 
 fn outer_here<'a>(
     alloc: Global,
-    types: &[Name],
+    types: &TypeNames,
     tokens: &'a [Placed],
 ) -> Result<(Outer, &'a [Placed]), Fault<'a>>
     ensures goes { Answers 0 (record { types = types.now; setting = part.AtFile }) (part.AnOuter part.Outer) tokens.now (λ o. outer_tree o) result }

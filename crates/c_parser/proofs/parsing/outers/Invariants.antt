@@ -9,7 +9,7 @@ use Rattle.c_parser.proofs.parsing.outers.Given as goal
 -- what is left of the tokens decides for all
 abbrev pub invariant-loop-rest : goal.invariant-loop-rest
 invariant-loop-rest l =
-    (o : Outcome (List OuterTree)) → Goes 0 (scene_with l.types.items) (Outers (map (λ o. outer_tree o) l.outers.items)) l.rest o → Reads l.fn.tokens o
+    (o : Outcome (List OuterTree)) → Goes 0 (scene_with l.types) (Outers (map (λ o. outer_tree o) l.outers.items)) l.rest o → Reads l.fn.tokens o
 
 abbrev pub decreases-loop-rest : goal.decreases-loop-rest
 decreases-loop-rest l = length l.rest
