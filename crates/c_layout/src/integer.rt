@@ -186,118 +186,14 @@ fn greatest(t: IntType) -> u64
 #[cfg(test)]
 mod tests {
     use super::*;
-    use c_syntax::IntType::{
-        Char, Int, LLong, Long, SChar, Short, UChar, UInt, ULLong, ULong, UShort,
-    };
+    use c_syntax::IntType::{Char, Int, Long, UInt, UShort};
 
+    // The tables of these calls are those of the program `front_table`.
     #[test]
-    fn promotes(rt: HostRuntime) {
-        let rows = [
-            (Char, Int),
-            (SChar, Int),
-            (UChar, Int),
-            (Short, Int),
-            (UShort, Int),
-            (Int, Int),
-            (UInt, UInt),
-            (Long, Long),
-            (ULong, ULong),
-            (LLong, LLong),
-            (ULLong, ULLong),
-        ];
-        for (t, promoted) in rows {
-            assert_eq!(rt; promote(t), promoted, "{t:?}");
-        }
-    }
-
-    #[test]
-    fn balances(rt: HostRuntime) {
-        let rows = [
-            (Char, SChar, Int),
-            (Char, UChar, Int),
-            (Short, UShort, Int),
-            (Int, Int, Int),
-            (Int, UInt, UInt),
-            (Char, UInt, UInt),
-            (UShort, UInt, UInt),
-            (Int, Long, Long),
-            (UInt, Long, Long),
-            (UInt, ULong, ULong),
-            (Long, ULong, ULong),
-            (Long, LLong, LLong),
-            (UInt, LLong, LLong),
-            (ULong, LLong, ULLong),
-            (LLong, ULLong, ULLong),
-            (Short, ULLong, ULLong),
-            (ULong, ULLong, ULLong),
-        ];
-        for (a, b, balanced) in rows {
-            assert_eq!(rt; balance(a, b), balanced, "{a:?} and {b:?}");
-            assert_eq!(rt; balance(b, a), balanced, "{b:?} and {a:?}");
-        }
-    }
-
-    #[test]
-    fn literals(rt: HostRuntime) {
-        let rows = [
-            (0x7fff_ffff, true, false, 0, Some(Int)),
-            (0x8000_0000, true, false, 0, Some(Long)),
-            (0x7fff_ffff, false, false, 0, Some(Int)),
-            (0x8000_0000, false, false, 0, Some(UInt)),
-            (0xffff_ffff, false, false, 0, Some(UInt)),
-            (0x1_0000_0000, false, false, 0, Some(Long)),
-            (0x7fff_ffff_ffff_ffff, true, false, 0, Some(Long)),
-            (0x8000_0000_0000_0000, true, false, 0, None),
-            (0x8000_0000_0000_0000, false, false, 0, Some(ULong)),
-            (0xffff_ffff_ffff_ffff, false, false, 0, Some(ULong)),
-            (0xffff_ffff, true, true, 0, Some(UInt)),
-            (0x1_0000_0000, true, true, 0, Some(ULong)),
-            (0xffff_ffff_ffff_ffff, false, true, 0, Some(ULong)),
-            (0, true, false, 1, Some(Long)),
-            (0x8000_0000_0000_0000, true, false, 1, None),
-            (0x8000_0000_0000_0000, false, false, 1, Some(ULong)),
-            (0, true, true, 1, Some(ULong)),
-            (0, true, false, 2, Some(LLong)),
-            (0x8000_0000_0000_0000, true, false, 2, None),
-            (0x8000_0000_0000_0000, false, false, 2, Some(ULLong)),
-            (0, false, true, 2, Some(ULLong)),
-        ];
-        for (value, decimal, unsigned, longs, ty) in rows {
-            assert!(rt; longs <= 2);
-            assert_eq!(rt;
-                literal_type(value, decimal, unsigned, longs),
-                ty,
-                "{value}, {decimal}, {unsigned}, {longs}"
-            );
-        }
-    }
-
-    #[test]
-    fn wraps(rt: HostRuntime) {
-        let rows = [
-            (Char, 127, 127),
-            (Char, 128, -128),
-            (Char, -129, 127),
-            (SChar, 255, -1),
-            (UChar, 255, 255),
-            (UChar, 256, 0),
-            (UChar, -1, 255),
-            (Short, 0x8000, -0x8000),
-            (UShort, -1, 0xffff),
-            (Int, 0x7fff_ffff, 0x7fff_ffff),
-            (Int, 0x8000_0000, -0x8000_0000),
-            (Int, -0x8000_0001, 0x7fff_ffff),
-            (UInt, 0x1_0000_0000, 0),
-            (UInt, -1, 0xffff_ffff),
-            (Long, 0x8000_0000_0000_0000, -0x8000_0000_0000_0000),
-            (ULong, -1, 0xffff_ffff_ffff_ffff),
-            (LLong, -0x8000_0000_0000_0001, 0x7fff_ffff_ffff_ffff),
-            (LLong, i128::MIN, 0),
-            (ULLong, 0x1_0000_0000_0000_0000, 0),
-            (ULLong, i128::MAX, 0xffff_ffff_ffff_ffff),
-        ];
-        for (t, n, wrapped) in rows {
-            assert_eq!(rt; wrap(t, n), wrapped, "{n} as {t:?}");
-        }
+    fn types_of_numbers(rt: HostRuntime) {
+        assert_eq!(rt; promote(UShort), Int);
+        assert_eq!(rt; balance(UInt, Long), Long);
+        assert_eq!(rt; literal_type(0x8000_0000, true, false, 0), Some(Long));
+        assert_eq!(rt; wrap(Char, 128), -128);
     }
 }

@@ -166,120 +166,25 @@ pub fn cut_nor_uncut()
 #[cfg(test)]
 mod tests {
     use super::*;
-    use c_written::Token;
     use std::test::Fail;
 
-    fn refusal(alloc: Global, name: &str, pos: Pos) -> Result<String, AllocError> {
-        format!(in alloc; "{name} {}:{}", pos.line, pos.col)
-    }
-
-    /// The kinds and places of the tokens and the place of the end, or the error, as text.
-    fn shown(alloc: Global, text: &[u8]) -> Result<String, AllocError> {
-        if text.len() > 100 {
-            return String::from_str(alloc, "long");
-        }
-        match lex(alloc, 3, text) {
-            Err(LexError::BadByte(pos)) => refusal(alloc, "BadByte", pos),
-            Err(LexError::Unterminated(pos)) => refusal(alloc, "Unterminated", pos),
-            Err(LexError::BadNumber(pos)) => refusal(alloc, "BadNumber", pos),
-            Err(LexError::TooWide(pos)) => refusal(alloc, "TooWide", pos),
-            Err(LexError::BadEscape(pos)) => refusal(alloc, "BadEscape", pos),
-            Err(LexError::Directive(pos)) => refusal(alloc, "Directive", pos),
-            Err(LexError::NoMemory) => String::from_str(alloc, "no memory"),
-            Ok(tokens) => {
-                let mut line = String::new(alloc);
-                for placed in tokens.list.as_slice() {
-                    let kind = match &placed.token {
-                        Token::Word(_) => "w",
-                        Token::Keyword(_) => "k",
-                        Token::Number(_) => "n",
-                        Token::Character(_) => "c",
-                        Token::Text(_) => "s",
-                        Token::Punctuator(_) => "p",
-                    };
-                    let pos = placed.pos;
-                    line.push_str(&format!(in alloc; "{kind}{}:{} ", pos.line, pos.col)?)?;
-                }
-                line.push_str(&format!(in alloc; "{}:{}", tokens.end.line, tokens.end.col)?)?;
-                Ok(line)
-            }
-        }
-    }
-
+    // The table of texts and their tokens is that of the program `front_table`.
     #[test]
     fn cuts(rt: HostRuntime) -> Result<(), Fail> {
-        let rows: [(&[u8], &str); 61] = [
-            (b"", "1:1"),
-            (
-                b"int main(void) { return 2147483647 + 1; }",
-                "k1:1 w1:5 p1:9 k1:10 p1:14 p1:16 k1:18 n1:25 p1:36 n1:38 p1:39 p1:41 1:42",
-            ),
-            (b"int main(void){/*", "Unterminated 1:16"),
-            (b"a \"b", "Unterminated 1:3"),
-            (b"\"b\n\"", "Unterminated 1:1"),
-            (b"'b", "Unterminated 1:1"),
-            (b"\"\\", "Unterminated 1:1"),
-            (b"/*/", "Unterminated 1:1"),
-            (b" 08", "BadNumber 1:2"),
-            (b"0x", "BadNumber 1:1"),
-            (b"1uu", "BadNumber 1:1"),
-            (b"1lL", "BadNumber 1:1"),
-            (b"12ab", "BadNumber 1:1"),
-            (b"1.5", "BadNumber 1:1"),
-            (b"1e+5", "BadNumber 1:1"),
-            (b".5", "BadNumber 1:1"),
-            (b"0x1G", "BadNumber 1:1"),
-            (b"18446744073709551616", "TooWide 1:1"),
-            (b"9223372036854775808", "TooWide 1:1"),
-            (b"9223372036854775808L", "TooWide 1:1"),
-            (b"9223372036854775807", "n1:1 1:20"),
-            (b"18446744073709551615u", "n1:1 1:22"),
-            (b"0x8000000000000000", "n1:1 1:19"),
-            (b"0x10000000000000000", "TooWide 1:1"),
-            (
-                b"07 0Xfull 1LLU 1uLL 1Lu",
-                "n1:1 n1:4 n1:11 n1:16 n1:21 1:24",
-            ),
-            (b"''", "BadEscape 1:1"),
-            (b"'ab'", "BadEscape 1:1"),
-            (b"'\\q'", "BadEscape 1:2"),
-            (b"'\\qa'", "BadEscape 1:1"),
-            (b"\"\\q\"", "BadEscape 1:2"),
-            (b"\"ab\\\"\\x\"", "BadEscape 1:6"),
-            (b"'\\400'", "BadEscape 1:2"),
-            (b"'\\377' '\\x0041'", "c1:1 c1:8 1:16"),
-            (b"'\\3771'", "BadEscape 1:1"),
-            (b"L'a'", "BadEscape 1:1"),
-            (b"u8\"x\"", "BadEscape 1:1"),
-            (b"xL'a'", "w1:1 c1:3 1:6"),
-            (b"'\xc3\xa9'", "BadEscape 1:1"),
-            (b"\"\xc3\xa9\" \"b\"", "s1:1 s1:6 1:9"),
-            (b"//x\\\nb", "BadByte 1:4"),
-            (b"//x\\\r\nb", "BadByte 1:4"),
-            (b"//x\\", "BadByte 1:4"),
-            (b"//\\x\nb", "w2:1 2:2"),
-            (b"a\\b", "BadByte 1:2"),
-            (b"a\\\nb", "w1:1 w2:1 2:2"),
-            (b"a\\\r\nb", "w1:1 w2:1 2:2"),
-            (b"@", "BadByte 1:1"),
-            (b"\x00", "BadByte 1:1"),
-            (b"\xc8", "BadByte 1:1"),
-            (b"a#b", "BadByte 1:2"),
-            (b"# 1 \"x\"", "Directive 1:1"),
-            (b"x\n\t #", "Directive 2:3"),
-            (b"/**/#", "BadByte 1:5"),
-            (b"x\\\n#", "Directive 2:1"),
-            (b"a+++b>>=c", "w1:1 p1:2 p1:4 w1:5 p1:6 w1:9 1:10"),
-            (b"... .. ->--", "p1:1 p1:5 p1:6 p1:8 p1:10 1:12"),
-            (b"a/**/b/**//**/", "w1:1 w1:6 1:15"),
-            (b"a//b*/\n/", "w1:1 p2:1 2:2"),
-            (b"/**\n/ * */b", "w2:7 2:8"),
-            (b"returnx return", "w1:1 k1:9 1:15"),
-            (b"\tint\n\n  x1 ;\r\n}", "k1:2 w3:3 p3:6 p4:1 4:2"),
-        ];
-        for (text, want) in rows {
-            assert_eq!(rt; shown(rt.alloc(), text)?.as_str(), want);
-        }
+        let tokens = lex(rt.alloc(), 3, b"int x1 ;\n")?;
+        let end = Pos {
+            file: 3,
+            line: 2,
+            col: 1,
+        };
+        assert_eq!(rt; tokens.list.as_slice().len(), 3);
+        assert_eq!(rt; tokens.end, end);
+        let quote = Pos {
+            file: 3,
+            line: 1,
+            col: 3,
+        };
+        assert_eq!(rt; lex(rt.alloc(), 3, b"a \"b").err(), Some(LexError::Unterminated(quote)));
         Ok(())
     }
 }

@@ -4,8 +4,6 @@
 mod outer;
 mod parsing;
 #[cfg(test)]
-mod shape;
-#[cfg(test)]
 mod tests;
 
 pub use parsing::{ParseError, parse};

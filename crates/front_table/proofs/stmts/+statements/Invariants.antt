@@ -1,4 +1,4 @@
-use Rattle.c_parser.proofs.shape.+statements.Given as goal
+use Rattle.front_table.proofs.stmts.+statements.Given as goal
 
 abbrev pub decreases-block : goal.decreases-block
 decreases-block l = l.depth

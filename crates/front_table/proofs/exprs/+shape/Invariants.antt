@@ -1,4 +1,4 @@
-use Rattle.c_parser.proofs.shape.+shape.Given as goal
+use Rattle.front_table.proofs.exprs.+shape.Given as goal
 
 abbrev pub decreases-expr : goal.decreases-expr
 decreases-expr l = l.depth

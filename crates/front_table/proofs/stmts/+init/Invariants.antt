@@ -1,4 +1,4 @@
-use Rattle.c_parser.proofs.shape.+init.Given as goal
+use Rattle.front_table.proofs.stmts.+init.Given as goal
 
 abbrev pub decreases-init : goal.decreases-init
 decreases-init l = l.depth
