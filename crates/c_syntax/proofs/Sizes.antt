@@ -1,5 +1,5 @@
 -- An item of a typed list is smaller than the list, and so than the node that holds it.
-use Rattle.std.proofs.Common.{◌≡◌, ℕ, ◌<◌, List, [], ◌∷◌, map, length, get_or, refl, ap}
+use Rattle.std.proofs.Common.{ℕ, ◌<◌, List, map, length, get_or, refl, ap}
 use Rattle.c_syntax.specs.declared.typed.TExpr.{TExpr}
 use Rattle.c_syntax.specs.declared.statement.TStmt.{TStmt}
 use Rattle.c_syntax.specs.declared.statement.TInit.{TInit}

@@ -1,4 +1,4 @@
-use Rattle.std.proofs.Common.{◌≡◌, ◌++◌, ◌∷◌, [], take, ◌+◌, sym, ap, ◌∙◌, arith}
+use Rattle.std.proofs.Common.{ap, ◌∙◌, arith}
 use Rattle.c_syntax.specs.TypedExpr.{texprs_from}
 use Rattle.c_syntax.proofs.Copies.{one_more_expr}
 use Rattle.c_syntax.proofs.typed.+copies.Goals as goal
