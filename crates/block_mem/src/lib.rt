@@ -1,4 +1,19 @@
 //! One memory of bytes, in blocks that are numbered as they are made.
+//!
+//! A block is a list of bytes with two marks, live and read-only. A byte has no value, is a number, or is
+//! a piece of a stored pointer: a pointer is its eight pieces. A number is stored from its lowest byte. A
+//! store or a copy that overwrites a pointer in part makes the rest of it Undef.
+//!
+//! For example, after `0x01020304` was stored as an `int` at offset 0 of a block, a load of a `char` at
+//! offset 1 gives 3, and a load of a `long` at offset 0 is refused: `Access` in a block of four bytes.
+//!
+//! | What | Stated in `specs/` | Promised by |
+//! |---|---|---|
+//! | blocks, accesses, loads, stores, copies | `Block`, `Blocks`, `Bytes`, `Numbers`, `Pieces` | the calls of `Memory` |
+//! | what an access that passes is | `Passing` | `Memory::access` |
+//! | what later loads give | `AfterStore` | `Memory::store`, `put`, `copy` |
+//! | stored pointers are whole | `Whole` | `pointers_stay_whole`, `cut_is_by_contents` |
+//! | bytes are proper | `Proper` | `Memory::count`, `Memory::load` |
 #![tactic(auto)]
 
 ghost use Rattle.std.specs.Prelude.{ℕ, ◌≡◌, ◌<◌, Bool, false, List, [], ◌∷◌, ◌++◌, length, None, slice_index_or};

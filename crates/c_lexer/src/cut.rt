@@ -184,7 +184,10 @@ mod tests {
             line: 1,
             col: 3,
         };
-        assert_eq!(rt; lex(rt.alloc(), 3, b"a \"b").err(), Some(LexError::Unterminated(quote)));
+        assert_eq!(rt;
+            lex(rt.alloc(), 3, b"a \"b").err(),
+            Some(LexError::Unterminated(quote))
+        );
         Ok(())
     }
 }

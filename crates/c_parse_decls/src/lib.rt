@@ -1,4 +1,8 @@
-//! The descent through initialisers and declarations.
+//! The parser of initialisers and declarations.
+//!
+//! For example, `int x = 1, a[2] = {3};` is specs and two declarators, each with what it is initialised
+//! with. `specs/Answers.antt` states the answers; `declaration` and `initial` promise that they go as
+//! the grammar's descent does.
 #![tactic(auto)]
 
 mod decl;

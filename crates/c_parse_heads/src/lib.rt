@@ -1,4 +1,8 @@
-//! What statements are made of: the head of a `for`, and statements of their parts.
+//! The parser of the head of a `for`, and statements that are made of their parts.
+//!
+//! For example, `for (int i = 0; i < 9; i++)` has a declaration, a condition and a step. `specs/Kinds.antt`
+//! has the trees of statements by their parts; `for_head` promises that it goes as the grammar's descent
+//! does, and each maker of a statement that it has the tree of what it is made of.
 #![tactic(auto)]
 
 mod head;

@@ -1,5 +1,12 @@
-//! What the parser of expressions reads that holds no expression: words, constants and literals,
-//! members, and how lists end.
+//! The parser of what holds no expression: words, constants and literals, the name that is declared,
+//! members behind `.` and `->`, tags, and how lists and forms end.
+//!
+//! Each reader takes the tokens of one form from the front, by the steps of `c_parse_steps`, and hands on
+//! what it made with the tokens behind it. For example, `member` reads `.x + 1` up to the `+`, and gives
+//! the word `x`.
+//!
+//! `specs/Readers.antt` and `specs/Tags.antt` state what the readers answer, as the grammar's descent
+//! (`Goes`) does, and `specs/Ends.antt` how a list goes on; each call promises its own.
 #![tactic(auto)]
 
 mod ends;

@@ -1,4 +1,9 @@
-//! The descent through statements that hold no other and no declaration, and what kind of statement comes.
+//! The parser of statements that hold no other and no declaration, of conditions, and what kind of
+//! statement comes.
+//!
+//! For example, `return x;` is read here whole, and of `if (x) y;` the condition. `specs/Kinds.antt` says
+//! which kinds there are; `statement_at` tells which comes, and the call for each kind promises that it
+//! goes as the grammar's descent does.
 #![tactic(auto)]
 
 mod stmt_kind;

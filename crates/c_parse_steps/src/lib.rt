@@ -1,5 +1,16 @@
-//! The single steps of the parser's descent: a token taken or refused, what comes next, and the
-//! nodes that are made.
+//! The parser, its lowest crate: single steps.
+//!
+//! The parser is a recursive descent that the grammar (`c_grammar`) tells step by step: a token that a
+//! production asks for is taken, or the text is refused there for the first reason that applies. This
+//! crate takes single tokens, tells what comes next, and makes nodes of their parts; the crates above
+//! read whole forms with these calls.
+//!
+//! For example, at the tokens `) ;` where a `)` has to come, `taken` gives its place and the tokens
+//! behind it; at `{ ;` it answers `Fault::Syntax`, or `Fault::TooDeep` where 200 forms are unfinished.
+//!
+//! `specs/Answers.antt` states what an answer of the parser is in the grammar's descent (`Answers`,
+//! `Takes`, `Halts`); `taken`, `refused` and `first` promise it for a token, the other calls for what
+//! comes and for nodes.
 #![tactic(auto)]
 
 mod class;

@@ -1,4 +1,11 @@
 //! Cells, which are some bytes of an object each, by number.
+//!
+//! A cell gets its number at its first use and keeps it; no two cells in use share a byte. For example, a
+//! store of two bytes into a cell of four takes it out of use: `overlapping` finds it, and `split` brings
+//! its four one-byte cells into use in its place.
+//!
+//! `specs/Cells.antt` states each call, on the list of slots (`Table`), and what every table keeps
+//! (`IsTable`); the calls of `Cells` promise it.
 #![tactic(auto)]
 
 ghost use Rattle.std.specs.Prelude.{◌≡◌};

@@ -1,4 +1,11 @@
 //! Sets of what a pointer may point to. No call takes memory.
+//!
+//! A set is All, of which nothing is known, or the numbers of at most 16 objects with two marks: Null, and
+//! Dead for an object that has ended. A seventeenth object makes it All. For example, the join of {1, Null}
+//! and {2} is {1, 2, Null}; after object 1 has ended, `kill` makes it {2, Null, Dead}.
+//!
+//! `specs/Targets.antt` states each call, as a function on `BaseSet`; `bases_are_kept` and
+//! `joins_weigh_less` are laws for the layers above.
 #![tactic(auto)]
 
 ghost use Rattle.std.specs.Prelude.{◌≡◌, ℕ, ◌≤◌, ◌<◌, List, [], length, insert, filter, not, true, false, IsTrue, ◌↔◌, MatchOption};

@@ -1,4 +1,11 @@
 //! Verac: what may go wrong in a C file, from its bytes to the report.
+//!
+//! `run` reads the words of the command, reads the file, has it cut, parsed and read as a program, finds the
+//! alarms, and writes the report or the line of the refusal, whole. For example, `verac analyze a.c` on
+//! `int main(void) { return 1 / 0; }` writes one alarm, `DivideByZero`, and ends with status 1.
+//!
+//! The contract of `run` is the headline: its clauses cite `specs/Headline.antt` (what an answer is),
+//! `Command`, `Program`, `Verdict`, `Report` and `RefusalText`.
 #![tactic(auto)]
 
 mod command;
