@@ -2,8 +2,8 @@
 //! members behind `.` and `->`, tags, and how lists and forms end.
 //!
 //! Each reader takes the tokens of one form from the front, by the steps of `c_parse_steps`, and hands on
-//! what it made with the tokens behind it. For example, `member` reads `.x + 1` up to the `+`, and gives
-//! the word `x`.
+//! what it made with the tokens behind it. For example, `simple_suffix` reads `.x + 1` up to the `+`, and
+//! gives the member of what stands before it.
 //!
 //! `specs/Readers.antt` and `specs/Tags.antt` state what the readers answer, as the grammar's descent
 //! (`Goes`) does, and `specs/Ends.antt` how a list goes on; each call promises its own.
