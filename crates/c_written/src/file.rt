@@ -167,10 +167,12 @@ impl BlockItems {
         }
     }
 
-    /// The list of these items.
+    /// The list of these items, in a block of their size.
     pub fn from_vec(items: Vec<BlockItem>) -> BlockItems
         ensures { blockitems_tree result ≡ blockitems_from items.items }
     {
+        let mut items = items;
+        items.shrink_to_fit();
         BlockItems { items }
     }
 
@@ -224,10 +226,12 @@ impl Outers {
         }
     }
 
-    /// The list of these items.
+    /// The list of these items, in a block of their size.
     pub fn from_vec(items: Vec<Outer>) -> Outers
         ensures { result ≡ items.items }
     {
+        let mut items = items;
+        items.shrink_to_fit();
         Outers { items }
     }
 
