@@ -1,4 +1,10 @@
-//! The descent through initialisers and declarations.
+//! The parser of declarations and initialisers.
+//!
+//! An example: `declaration` reads `int a = 1, *b;` as one declaration of two declarators, of which the first has an
+//! initialiser, and answers the tokens behind `;`.
+//!
+//! It promises `Answers` (specs/Answers.antt of `c_parse_steps`) for the part `ADecl` of the grammar (specs/Parts.antt
+//! of `c_grammar`). specs/Answers.antt here states what may follow a declarator.
 #![tactic(auto)]
 
 mod decl;

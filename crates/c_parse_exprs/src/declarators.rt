@@ -15,7 +15,7 @@ use c_parse_leaves::{
     params_come,
 };
 use c_parse_steps::{
-    Class, Context, DirectKind, Fault, Mark, Role, TailKind, array_declarator, barred, comes,
+    Class, Context, DirectKind, Mark, Reading, Role, TailKind, array_declarator, barred, comes,
     direct_at, function_declarator, grouped_declarator, is_given, param_of, plain_word_ahead,
     pointer_declarator, push_param, refused, tail_at, taken, type_name_ahead,
 };
@@ -28,7 +28,7 @@ pub fn declarator<'a>(
     role: Role,
     count: u32,
     tokens: &'a [Placed],
-) -> Result<(Box<Declarator>, &'a [Placed]), Fault<'a>>
+) -> Reading<'a, Box<Declarator>>
     ensures goes { Answers count (scene_of context.now) (part.ADeclarator (part.Declarator (role_view role))) tokens.now (λ d. boxed_declarator d) result }
     ensures shorter { IfOk result (λ x. length x.1.now ≤ length tokens.now) }
 {
@@ -48,7 +48,7 @@ fn pointer<'a>(
     role: Role,
     count: u32,
     tokens: &'a [Placed],
-) -> Result<(Box<Declarator>, &'a [Placed]), Fault<'a>>
+) -> Reading<'a, Box<Declarator>>
     requires { DeclaratorStarts (scene_of context.now) tokens.now }
     ensures goes { Answers count (scene_of context.now) (part.ADeclarator (part.Declarator (role_view role))) tokens.now (λ d. boxed_declarator d) result }
     ensures shorter { IfOk result (λ x. length x.1.now < length tokens.now) }
@@ -70,7 +70,7 @@ fn direct<'a>(
     role: Role,
     count: u32,
     tokens: &'a [Placed],
-) -> Result<(Box<Declarator>, &'a [Placed]), Fault<'a>>
+) -> Reading<'a, Box<Declarator>>
     ensures goes { Answers count (scene_of context.now) (part.ADeclarator (part.Direct (role_view role))) tokens.now (λ d. boxed_declarator d) result }
     ensures shorter { IfOk result (λ x. length x.1.now ≤ length tokens.now) }
 {
@@ -92,7 +92,7 @@ fn named<'a>(
     role: Role,
     count: u32,
     tokens: &'a [Placed],
-) -> Result<(Box<Declarator>, &'a [Placed]), Fault<'a>>
+) -> Reading<'a, Box<Declarator>>
     requires { DirectStarts (scene_of context.now) (role_view role) tokens.now DirectKind.Name }
     ensures goes { Answers count (scene_of context.now) (part.ADeclarator (part.Direct (role_view role))) tokens.now (λ d. boxed_declarator d) result }
     ensures shorter { IfOk result (λ x. length x.1.now < length tokens.now) }
@@ -108,7 +108,7 @@ fn nameless<'a>(
     role: Role,
     count: u32,
     tokens: &'a [Placed],
-) -> Result<(Box<Declarator>, &'a [Placed]), Fault<'a>>
+) -> Reading<'a, Box<Declarator>>
     requires { DirectStarts (scene_of context.now) (role_view role) tokens.now DirectKind.Nameless }
     ensures goes { Answers count (scene_of context.now) (part.ADeclarator (part.Direct (role_view role))) tokens.now (λ d. boxed_declarator d) result }
     ensures shorter { IfOk result (λ x. length x.1.now ≤ length tokens.now) }
@@ -124,7 +124,7 @@ fn grouped<'a>(
     role: Role,
     count: u32,
     tokens: &'a [Placed],
-) -> Result<(Box<Declarator>, &'a [Placed]), Fault<'a>>
+) -> Reading<'a, Box<Declarator>>
     requires { DirectStarts (scene_of context.now) (role_view role) tokens.now DirectKind.Grouped }
     ensures goes { Answers count (scene_of context.now) (part.ADeclarator (part.Direct (role_view role))) tokens.now (λ d. boxed_declarator d) result }
     ensures shorter { IfOk result (λ x. length x.1.now < length tokens.now) }
@@ -150,7 +150,7 @@ fn tails<'a>(
     plain: bool,
     first: Box<Declarator>,
     tokens: &'a [Placed],
-) -> Result<(Box<Declarator>, &'a [Placed]), Fault<'a>>
+) -> Reading<'a, Box<Declarator>>
     ensures goes { Answers count (scene_of context.now) (part.ADeclarator (part.Tails (role_view role) plain (boxed_declarator first))) tokens.now (λ d. boxed_declarator d) result }
     ensures shorter { IfOk result (λ x. length x.1.now ≤ length tokens.now) }
 {
@@ -181,7 +181,7 @@ fn tail<'a>(
     kind: TailKind,
     inner: Box<Declarator>,
     tokens: &'a [Placed],
-) -> Result<(Box<Declarator>, &'a [Placed]), Fault<'a>>
+) -> Reading<'a, Box<Declarator>>
     requires { TailStarts tokens.now kind }
     ensures goes { Extends count (scene_of context.now) (role_view role) (boxed_declarator inner) tokens.now result }
     ensures shorter { IfOk result (λ x. length x.1.now < length tokens.now) }
@@ -201,7 +201,7 @@ fn array<'a>(
     count: u32,
     inner: Box<Declarator>,
     tokens: &'a [Placed],
-) -> Result<(Box<Declarator>, &'a [Placed]), Fault<'a>>
+) -> Reading<'a, Box<Declarator>>
     requires { tail_at tokens.now ≡ TailKind.Array }
     ensures goes { Extends count (scene_of context.now) (role_view role) (boxed_declarator inner) tokens.now result }
     ensures shorter { IfOk result (λ x. length x.1.now < length tokens.now) }
@@ -219,7 +219,7 @@ fn function<'a>(
     count: u32,
     inner: Box<Declarator>,
     tokens: &'a [Placed],
-) -> Result<(Box<Declarator>, &'a [Placed]), Fault<'a>>
+) -> Reading<'a, Box<Declarator>>
     requires { tail_at tokens.now ≡ TailKind.Function }
     ensures goes { Extends count (scene_of context.now) (role_view role) (boxed_declarator inner) tokens.now result }
     ensures shorter { IfOk result (λ x. length x.1.now < length tokens.now) }
@@ -238,7 +238,7 @@ fn size<'a>(
     at: Pos,
     inner: Box<Declarator>,
     tokens: &'a [Placed],
-) -> Result<(Box<Declarator>, &'a [Placed]), Fault<'a>>
+) -> Reading<'a, Box<Declarator>>
     ensures goes { Answers count (scene_of context.now) (part.ADeclarator (part.Size (role_view role) at (boxed_declarator inner))) tokens.now (λ d. boxed_declarator d) result }
     ensures shorter { IfOk result (λ x. length x.1.now < length tokens.now) }
 {
@@ -261,7 +261,7 @@ fn parameters<'a>(
     at: Pos,
     inner: Box<Declarator>,
     tokens: &'a [Placed],
-) -> Result<(Box<Declarator>, &'a [Placed]), Fault<'a>>
+) -> Reading<'a, Box<Declarator>>
     ensures goes { Answers count (scene_of context.now) (part.ADeclarator (part.Parameters at (boxed_declarator inner))) tokens.now (λ d. boxed_declarator d) result }
     ensures shorter { IfOk result (λ x. length x.1.now < length tokens.now) }
 {
@@ -292,11 +292,7 @@ fn parameters<'a>(
 
 /// A parameter.
 #[cycle(descent)]
-fn parameter<'a>(
-    context: &Context<'_>,
-    count: u32,
-    tokens: &'a [Placed],
-) -> Result<(Param, &'a [Placed]), Fault<'a>>
+fn parameter<'a>(context: &Context<'_>, count: u32, tokens: &'a [Placed]) -> Reading<'a, Param>
     ensures goes { Answers count (scene_of context.now) part.Parameter tokens.now (λ p. param_tree p) result }
     ensures shorter { IfOk result (λ x. length x.1.now < length tokens.now) }
 {

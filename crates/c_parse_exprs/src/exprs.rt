@@ -19,7 +19,7 @@ use c_parse_leaves::{
     word_of,
 };
 use c_parse_steps::{
-    AssignKind, Class, Context, Fault, Level, Mark, Operand, PrefixKind, PrimaryKind, Role,
+    AssignKind, Class, Context, Level, Mark, Operand, PrefixKind, PrimaryKind, Reading, Role,
     SuffixKind, assign_at, assign_expr, assign_sign, barred, barred_call, call_expr, cast_expr,
     comes, compound_expr, cond_expr, enclosed_expr, index_expr, joined, joint_at, joint_sign,
     operand_of, pre_step_expr, prefix_at, primary_at, push_expr, sizeof_expr, sizeof_type,
@@ -36,7 +36,7 @@ pub fn run<'a>(
     level: Level,
     count: u32,
     tokens: &'a [Placed],
-) -> Result<(Box<Expr>, &'a [Placed]), Fault<'a>>
+) -> Reading<'a, Box<Expr>>
     ensures goes { Answers count (scene_of context.now) (part.AnExpr (part.Run (level_view level))) tokens.now (λ e. boxed_expr e) result }
     ensures shorter { IfOk result (λ x. length x.1.now < length tokens.now) }
 {
@@ -51,7 +51,7 @@ fn operand<'a>(
     level: Level,
     count: u32,
     tokens: &'a [Placed],
-) -> Result<(Box<Expr>, &'a [Placed]), Fault<'a>>
+) -> Reading<'a, Box<Expr>>
     ensures goes { Answers count (scene_of context.now) (part.AnExpr (operand (level_view level))) tokens.now (λ e. boxed_expr e) result }
     ensures shorter { IfOk result (λ x. length x.1.now < length tokens.now) }
 {
@@ -70,7 +70,7 @@ fn more<'a>(
     count: u32,
     first: Box<Expr>,
     tokens: &'a [Placed],
-) -> Result<(Box<Expr>, &'a [Placed]), Fault<'a>>
+) -> Reading<'a, Box<Expr>>
     ensures goes { Answers count (scene_of context.now) (part.AnExpr (part.More (level_view level) (boxed_expr first))) tokens.now (λ e. boxed_expr e) result }
     ensures shorter { IfOk result (λ x. length x.1.now ≤ length tokens.now) }
 {
@@ -100,7 +100,7 @@ fn right_side<'a>(
     count: u32,
     sign: Punctuator,
     tokens: &'a [Placed],
-) -> Result<((Pos, Box<Expr>), &'a [Placed]), Fault<'a>>
+) -> Reading<'a, (Pos, Box<Expr>)>
     ensures goes { ReadsBehind count (scene_of context.now) sign (operand (level_view level)) tokens.now result }
     ensures within { IfOk result (λ _. count + 1 ≤ 200) }
     ensures shorter { IfOk result (λ x. length x.1.now < length tokens.now) }
@@ -116,7 +116,7 @@ pub fn assignment<'a>(
     context: &Context<'_>,
     count: u32,
     tokens: &'a [Placed],
-) -> Result<(Box<Expr>, &'a [Placed]), Fault<'a>>
+) -> Reading<'a, Box<Expr>>
     ensures goes { Answers count (scene_of context.now) (part.AnExpr part.Assignment) tokens.now (λ e. boxed_expr e) result }
     ensures shorter { IfOk result (λ x. length x.1.now < length tokens.now) }
 {
@@ -131,7 +131,7 @@ fn assigned<'a>(
     count: u32,
     left: Box<Expr>,
     tokens: &'a [Placed],
-) -> Result<(Box<Expr>, &'a [Placed]), Fault<'a>>
+) -> Reading<'a, Box<Expr>>
     ensures goes { Answers count (scene_of context.now) (part.AnExpr (part.Assigned (boxed_expr left))) tokens.now (λ e. boxed_expr e) result }
     ensures shorter { IfOk result (λ x. length x.1.now ≤ length tokens.now) }
 {
@@ -149,7 +149,7 @@ fn plain_assigned<'a>(
     count: u32,
     left: Box<Expr>,
     tokens: &'a [Placed],
-) -> Result<(Box<Expr>, &'a [Placed]), Fault<'a>>
+) -> Reading<'a, Box<Expr>>
     requires { assign_at tokens.now ≡ AssignKind.Plain }
     ensures goes { Answers count (scene_of context.now) (part.AnExpr (part.Assigned (boxed_expr left))) tokens.now (λ e. boxed_expr e) result }
     ensures shorter { IfOk result (λ x. length x.1.now ≤ length tokens.now) }
@@ -167,7 +167,7 @@ fn compound_assigned<'a>(
     op: AssignOp,
     left: Box<Expr>,
     tokens: &'a [Placed],
-) -> Result<(Box<Expr>, &'a [Placed]), Fault<'a>>
+) -> Reading<'a, Box<Expr>>
     requires { assign_at tokens.now ≡ AssignKind.Compound op }
     ensures goes { Answers count (scene_of context.now) (part.AnExpr (part.Assigned (boxed_expr left))) tokens.now (λ e. boxed_expr e) result }
     ensures shorter { IfOk result (λ x. length x.1.now ≤ length tokens.now) }
@@ -188,7 +188,7 @@ pub fn conditional<'a>(
     context: &Context<'_>,
     count: u32,
     tokens: &'a [Placed],
-) -> Result<(Box<Expr>, &'a [Placed]), Fault<'a>>
+) -> Reading<'a, Box<Expr>>
     ensures goes { Answers count (scene_of context.now) (part.AnExpr part.Conditional) tokens.now (λ e. boxed_expr e) result }
     ensures shorter { IfOk result (λ x. length x.1.now < length tokens.now) }
 {
@@ -203,7 +203,7 @@ fn chosen<'a>(
     count: u32,
     condition: Box<Expr>,
     tokens: &'a [Placed],
-) -> Result<(Box<Expr>, &'a [Placed]), Fault<'a>>
+) -> Reading<'a, Box<Expr>>
     ensures goes { Answers count (scene_of context.now) (part.AnExpr (part.Chosen (boxed_expr condition))) tokens.now (λ e. boxed_expr e) result }
     ensures shorter { IfOk result (λ x. length x.1.now ≤ length tokens.now) }
 {
@@ -223,11 +223,7 @@ fn chosen<'a>(
 
 /// A cast, or a unary expression.
 #[cycle(descent)]
-fn cast<'a>(
-    context: &Context<'_>,
-    count: u32,
-    tokens: &'a [Placed],
-) -> Result<(Box<Expr>, &'a [Placed]), Fault<'a>>
+fn cast<'a>(context: &Context<'_>, count: u32, tokens: &'a [Placed]) -> Reading<'a, Box<Expr>>
     ensures goes { Answers count (scene_of context.now) (part.AnExpr part.Cast) tokens.now (λ e. boxed_expr e) result }
     ensures shorter { IfOk result (λ x. length x.1.now < length tokens.now) }
 {
@@ -239,11 +235,7 @@ fn cast<'a>(
 
 /// A cast.
 #[cycle(descent)]
-fn cast_form<'a>(
-    context: &Context<'_>,
-    count: u32,
-    tokens: &'a [Placed],
-) -> Result<(Box<Expr>, &'a [Placed]), Fault<'a>>
+fn cast_form<'a>(context: &Context<'_>, count: u32, tokens: &'a [Placed]) -> Reading<'a, Box<Expr>>
     requires { type_ahead (scene_of context.now) tokens.now ≡ true }
     ensures goes { Answers count (scene_of context.now) (part.AnExpr part.Cast) tokens.now (λ e. boxed_expr e) result }
     ensures shorter { IfOk result (λ x. length x.1.now < length tokens.now) }
@@ -264,7 +256,7 @@ fn cast_operand<'a>(
     context: &Context<'_>,
     count: u32,
     tokens: &'a [Placed],
-) -> Result<(Box<Expr>, &'a [Placed]), Fault<'a>>
+) -> Reading<'a, Box<Expr>>
     ensures goes { Answers count (scene_of context.now) (part.AnExpr part.Operand) tokens.now (λ e. boxed_expr e) result }
     ensures shorter { IfOk result (λ x. length x.1.now < length tokens.now) }
 {
@@ -276,11 +268,7 @@ fn cast_operand<'a>(
 
 /// A unary expression.
 #[cycle(descent)]
-fn unary<'a>(
-    context: &Context<'_>,
-    count: u32,
-    tokens: &'a [Placed],
-) -> Result<(Box<Expr>, &'a [Placed]), Fault<'a>>
+fn unary<'a>(context: &Context<'_>, count: u32, tokens: &'a [Placed]) -> Reading<'a, Box<Expr>>
     ensures goes { Answers count (scene_of context.now) (part.AnExpr part.Unary) tokens.now (λ e. boxed_expr e) result }
     ensures shorter { IfOk result (λ x. length x.1.now < length tokens.now) }
 {
@@ -294,11 +282,7 @@ fn unary<'a>(
 
 /// `sizeof` and what follows it.
 #[cycle(descent)]
-fn size_of<'a>(
-    context: &Context<'_>,
-    count: u32,
-    tokens: &'a [Placed],
-) -> Result<(Box<Expr>, &'a [Placed]), Fault<'a>>
+fn size_of<'a>(context: &Context<'_>, count: u32, tokens: &'a [Placed]) -> Reading<'a, Box<Expr>>
     requires { prefix_at tokens.now ≡ PrefixKind.Sizeof }
     ensures goes { Answers count (scene_of context.now) (part.AnExpr part.Unary) tokens.now (λ e. boxed_expr e) result }
     ensures shorter { IfOk result (λ x. length x.1.now < length tokens.now) }
@@ -315,7 +299,7 @@ fn pre_step<'a>(
     count: u32,
     way: StepWay,
     tokens: &'a [Placed],
-) -> Result<(Box<Expr>, &'a [Placed]), Fault<'a>>
+) -> Reading<'a, Box<Expr>>
     requires { prefix_at tokens.now ≡ PrefixKind.Step way }
     ensures goes { Answers count (scene_of context.now) (part.AnExpr part.Unary) tokens.now (λ e. boxed_expr e) result }
     ensures shorter { IfOk result (λ x. length x.1.now < length tokens.now) }
@@ -333,7 +317,7 @@ fn unary_form<'a>(
     count: u32,
     op: UnaryOp,
     tokens: &'a [Placed],
-) -> Result<(Box<Expr>, &'a [Placed]), Fault<'a>>
+) -> Reading<'a, Box<Expr>>
     requires { prefix_at tokens.now ≡ PrefixKind.Unary op }
     ensures goes { Answers count (scene_of context.now) (part.AnExpr part.Unary) tokens.now (λ e. boxed_expr e) result }
     ensures shorter { IfOk result (λ x. length x.1.now < length tokens.now) }
@@ -351,7 +335,7 @@ fn sized<'a>(
     count: u32,
     at: Pos,
     tokens: &'a [Placed],
-) -> Result<(Box<Expr>, &'a [Placed]), Fault<'a>>
+) -> Reading<'a, Box<Expr>>
     ensures goes { Answers count (scene_of context.now) (part.AnExpr (part.Sized at)) tokens.now (λ e. boxed_expr e) result }
     ensures shorter { IfOk result (λ x. length x.1.now < length tokens.now) }
 {
@@ -369,7 +353,7 @@ fn sized_type<'a>(
     count: u32,
     at: Pos,
     tokens: &'a [Placed],
-) -> Result<(Box<Expr>, &'a [Placed]), Fault<'a>>
+) -> Reading<'a, Box<Expr>>
     requires { type_ahead (scene_of context.now) tokens.now ≡ true }
     ensures goes { Answers count (scene_of context.now) (part.AnExpr (part.Sized at)) tokens.now (λ e. boxed_expr e) result }
     ensures shorter { IfOk result (λ x. length x.1.now < length tokens.now) }
@@ -388,11 +372,7 @@ fn sized_type<'a>(
 
 /// A primary expression and its postfix forms.
 #[cycle(descent)]
-fn postfix<'a>(
-    context: &Context<'_>,
-    count: u32,
-    tokens: &'a [Placed],
-) -> Result<(Box<Expr>, &'a [Placed]), Fault<'a>>
+fn postfix<'a>(context: &Context<'_>, count: u32, tokens: &'a [Placed]) -> Reading<'a, Box<Expr>>
     ensures goes { Answers count (scene_of context.now) (part.AnExpr part.Postfix) tokens.now (λ e. boxed_expr e) result }
     ensures shorter { IfOk result (λ x. length x.1.now < length tokens.now) }
 {
@@ -407,7 +387,7 @@ fn suffixes<'a>(
     count: u32,
     first: Box<Expr>,
     tokens: &'a [Placed],
-) -> Result<(Box<Expr>, &'a [Placed]), Fault<'a>>
+) -> Reading<'a, Box<Expr>>
     ensures goes { Answers count (scene_of context.now) (part.AnExpr (part.Suffixes (boxed_expr first))) tokens.now (λ e. boxed_expr e) result }
     ensures shorter { IfOk result (λ x. length x.1.now ≤ length tokens.now) }
 {
@@ -437,7 +417,7 @@ fn suffix<'a>(
     kind: SuffixKind,
     base: Box<Expr>,
     tokens: &'a [Placed],
-) -> Result<(Box<Expr>, &'a [Placed]), Fault<'a>>
+) -> Reading<'a, Box<Expr>>
     requires { SuffixComes tokens.now kind (boxed_expr base) }
     ensures goes { Steps (λ o. Goes count (scene_of context.now) (part.AnExpr (part.Suffixes (boxed_expr base))) tokens.now o) (λ e rest o. Goes (count + 1) (scene_of context.now) (part.AnExpr (part.Suffixes (boxed_expr e))) rest o) result }
     ensures within { IfOk result (λ _. count + 1 ≤ 200) }
@@ -457,7 +437,7 @@ fn index<'a>(
     count: u32,
     base: Box<Expr>,
     tokens: &'a [Placed],
-) -> Result<(Box<Expr>, &'a [Placed]), Fault<'a>>
+) -> Reading<'a, Box<Expr>>
     requires { suffix_at tokens.now ≡ SuffixKind.Index }
     ensures goes { Steps (λ o. Goes count (scene_of context.now) (part.AnExpr (part.Suffixes (boxed_expr base))) tokens.now o) (λ e rest o. Goes (count + 1) (scene_of context.now) (part.AnExpr (part.Suffixes (boxed_expr e))) rest o) result }
     ensures within { IfOk result (λ _. count + 1 ≤ 200) }
@@ -478,7 +458,7 @@ fn call<'a>(
     count: u32,
     base: Box<Expr>,
     tokens: &'a [Placed],
-) -> Result<(Box<Expr>, &'a [Placed]), Fault<'a>>
+) -> Reading<'a, Box<Expr>>
     requires { CallComes tokens.now (boxed_expr base) }
     ensures goes { Steps (λ o. Goes count (scene_of context.now) (part.AnExpr (part.Suffixes (boxed_expr base))) tokens.now o) (λ e rest o. Goes (count + 1) (scene_of context.now) (part.AnExpr (part.Suffixes (boxed_expr e))) rest o) result }
     ensures within { IfOk result (λ _. count + 1 ≤ 200) }
@@ -493,11 +473,7 @@ fn call<'a>(
 
 /// A primary expression.
 #[cycle(descent)]
-fn primary<'a>(
-    context: &Context<'_>,
-    count: u32,
-    tokens: &'a [Placed],
-) -> Result<(Box<Expr>, &'a [Placed]), Fault<'a>>
+fn primary<'a>(context: &Context<'_>, count: u32, tokens: &'a [Placed]) -> Reading<'a, Box<Expr>>
     ensures goes { Answers count (scene_of context.now) (part.AnExpr part.Primary) tokens.now (λ e. boxed_expr e) result }
     ensures shorter { IfOk result (λ x. length x.1.now < length tokens.now) }
 {
@@ -509,11 +485,7 @@ fn primary<'a>(
 
 /// An expression between parentheses.
 #[cycle(descent)]
-fn enclosed<'a>(
-    context: &Context<'_>,
-    count: u32,
-    tokens: &'a [Placed],
-) -> Result<(Box<Expr>, &'a [Placed]), Fault<'a>>
+fn enclosed<'a>(context: &Context<'_>, count: u32, tokens: &'a [Placed]) -> Reading<'a, Box<Expr>>
     requires { primary_at (scene_of context.now) tokens.now ≡ PrimaryKind.Enclosed }
     ensures goes { Answers count (scene_of context.now) (part.AnExpr part.Primary) tokens.now (λ e. boxed_expr e) result }
     ensures shorter { IfOk result (λ x. length x.1.now < length tokens.now) }
@@ -528,11 +500,7 @@ fn enclosed<'a>(
 
 /// The arguments of a call, up to the parenthesis that closes them.
 #[cycle(descent)]
-fn arguments<'a>(
-    context: &Context<'_>,
-    count: u32,
-    tokens: &'a [Placed],
-) -> Result<(Exprs, &'a [Placed]), Fault<'a>>
+fn arguments<'a>(context: &Context<'_>, count: u32, tokens: &'a [Placed]) -> Reading<'a, Exprs>
     ensures goes { Answers count (scene_of context.now) part.Arguments tokens.now (λ a. exprs_tree a) result }
     ensures shorter { IfOk result (λ x. length x.1.now < length tokens.now) }
 {

@@ -17,7 +17,7 @@ use c_parse_leaves::{
     structure_of, tells_type, type_comes_again,
 };
 use c_parse_steps::{
-    Class, Context, Fault, Mark, Role, SpecKind, barred, comes, name_of, push_declarator,
+    Class, Context, Mark, Reading, Role, SpecKind, barred, comes, name_of, push_declarator,
     push_enumerator, push_member, push_spec, spec_ahead, spec_at, taken, valued_enumerator,
 };
 use c_written::{
@@ -27,11 +27,7 @@ use c_written::{
 
 /// Specs, as many as there are: at least one.
 #[cycle(descent)]
-pub fn specs<'a>(
-    context: &Context<'_>,
-    count: u32,
-    tokens: &'a [Placed],
-) -> Result<(Specs, &'a [Placed]), Fault<'a>>
+pub fn specs<'a>(context: &Context<'_>, count: u32, tokens: &'a [Placed]) -> Reading<'a, Specs>
     ensures goes { Answers count (scene_of context.now) part.Specs tokens.now (λ s. specs_tree s) result }
     ensures shorter { IfOk result (λ x. length x.1.now < length tokens.now) }
 {
@@ -54,11 +50,7 @@ pub fn specs<'a>(
 
 /// A spec.
 #[cycle(descent)]
-fn spec<'a>(
-    context: &Context<'_>,
-    count: u32,
-    tokens: &'a [Placed],
-) -> Result<(Spec, &'a [Placed]), Fault<'a>>
+fn spec<'a>(context: &Context<'_>, count: u32, tokens: &'a [Placed]) -> Reading<'a, Spec>
     ensures goes { Answers count (scene_of context.now) (part.ASpec part.Spec) tokens.now (λ s. spec_tree s) result }
     ensures shorter { IfOk result (λ x. length x.1.now < length tokens.now) }
 {
@@ -71,11 +63,7 @@ fn spec<'a>(
 
 /// `struct` and what follows it.
 #[cycle(descent)]
-fn structure<'a>(
-    context: &Context<'_>,
-    count: u32,
-    tokens: &'a [Placed],
-) -> Result<(Spec, &'a [Placed]), Fault<'a>>
+fn structure<'a>(context: &Context<'_>, count: u32, tokens: &'a [Placed]) -> Reading<'a, Spec>
     requires { spec_at (scene_of context.now) tokens.now ≡ SpecKind.Structure }
     ensures goes { Answers count (scene_of context.now) (part.ASpec part.Spec) tokens.now (λ s. spec_tree s) result }
     ensures shorter { IfOk result (λ x. length x.1.now < length tokens.now) }
@@ -92,7 +80,7 @@ fn structure_form<'a>(
     at: Pos,
     tag: Option<Tag>,
     tokens: &'a [Placed],
-) -> Result<(Spec, &'a [Placed]), Fault<'a>>
+) -> Reading<'a, Spec>
     requires { NamesOrBraces tag tokens.now }
     ensures goes { Answers count (scene_of context.now) (part.ASpec (tagged of_structure at tag)) tokens.now (λ s. spec_tree s) result }
     ensures shorter { IfOk result (λ x. length x.1.now ≤ length tokens.now) }
@@ -113,11 +101,7 @@ fn structure_form<'a>(
 
 /// `enum` and what follows it.
 #[cycle(descent)]
-fn enumeration<'a>(
-    context: &Context<'_>,
-    count: u32,
-    tokens: &'a [Placed],
-) -> Result<(Spec, &'a [Placed]), Fault<'a>>
+fn enumeration<'a>(context: &Context<'_>, count: u32, tokens: &'a [Placed]) -> Reading<'a, Spec>
     requires { spec_at (scene_of context.now) tokens.now ≡ SpecKind.Enumeration }
     ensures goes { Answers count (scene_of context.now) (part.ASpec part.Spec) tokens.now (λ s. spec_tree s) result }
     ensures shorter { IfOk result (λ x. length x.1.now < length tokens.now) }
@@ -134,7 +118,7 @@ fn enumeration_form<'a>(
     at: Pos,
     tag: Option<Tag>,
     tokens: &'a [Placed],
-) -> Result<(Spec, &'a [Placed]), Fault<'a>>
+) -> Reading<'a, Spec>
     requires { NamesOrBraces tag tokens.now }
     ensures goes { Answers count (scene_of context.now) (part.ASpec (tagged of_enumeration at tag)) tokens.now (λ s. spec_tree s) result }
     ensures shorter { IfOk result (λ x. length x.1.now ≤ length tokens.now) }
@@ -155,11 +139,7 @@ fn enumeration_form<'a>(
 
 /// The members of a struct, up to the brace that closes them.
 #[cycle(descent)]
-fn members<'a>(
-    context: &Context<'_>,
-    count: u32,
-    tokens: &'a [Placed],
-) -> Result<(MemberDecls, &'a [Placed]), Fault<'a>>
+fn members<'a>(context: &Context<'_>, count: u32, tokens: &'a [Placed]) -> Reading<'a, MemberDecls>
     ensures goes { Answers count (scene_of context.now) part.Members tokens.now (λ m. memberdecls_tree m) result }
     ensures shorter { IfOk result (λ x. length x.1.now < length tokens.now) }
 {
@@ -178,11 +158,7 @@ fn members<'a>(
 
 /// Members that are declared together.
 #[cycle(descent)]
-fn member<'a>(
-    context: &Context<'_>,
-    count: u32,
-    tokens: &'a [Placed],
-) -> Result<(MemberDecl, &'a [Placed]), Fault<'a>>
+fn member<'a>(context: &Context<'_>, count: u32, tokens: &'a [Placed]) -> Reading<'a, MemberDecl>
     ensures goes { Answers count (scene_of context.now) part.AMember tokens.now (λ m. memberdecl_tree m) result }
     ensures shorter { IfOk result (λ x. length x.1.now < length tokens.now) }
 {
@@ -210,7 +186,7 @@ fn enumerators<'a>(
     context: &Context<'_>,
     count: u32,
     tokens: &'a [Placed],
-) -> Result<(Enumerators, &'a [Placed]), Fault<'a>>
+) -> Reading<'a, Enumerators>
     ensures goes { Answers count (scene_of context.now) part.Enumerators tokens.now (λ e. enumerators_tree e) result }
     ensures shorter { IfOk result (λ x. length x.1.now < length tokens.now) }
 {
@@ -238,7 +214,7 @@ fn enumerator<'a>(
     context: &Context<'_>,
     count: u32,
     tokens: &'a [Placed],
-) -> Result<(Enumerator, &'a [Placed]), Fault<'a>>
+) -> Reading<'a, Enumerator>
     ensures goes { Answers count (scene_of context.now) part.AnEnumerator tokens.now (λ e. enumerator_tree e) result }
     ensures shorter { IfOk result (λ x. length x.1.now < length tokens.now) }
 {
@@ -255,7 +231,7 @@ fn enumerator_value<'a>(
     at: Pos,
     name: Name,
     tokens: &'a [Placed],
-) -> Result<(Enumerator, &'a [Placed]), Fault<'a>>
+) -> Reading<'a, Enumerator>
     ensures goes { Answers count (scene_of context.now) (part.EnumeratorValue at name) tokens.now (λ e. enumerator_tree e) result }
     ensures shorter { IfOk result (λ x. length x.1.now ≤ length tokens.now) }
 {

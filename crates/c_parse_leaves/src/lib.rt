@@ -1,5 +1,12 @@
-//! What the parser of expressions reads that holds no expression: words, constants and literals,
-//! members, and how lists end.
+//! The parser of what holds no expression: words, constants and literals, storage and type words, tags, the name
+//! that a declarator declares, and how lists and forms end. Expressions, types and declarators hold each other, so that
+//! their readers, in `c_parse_exprs`, are one cycle; what can be read without them is read here.
+//!
+//! An example: at the tokens `"ab" "c" ;` the reader of a literal answers one string of the bytes `abc`, and the tokens
+//! from `;` on.
+//!
+//! Each reader promises `Answers` (specs/Answers.antt of `c_parse_steps`): it reads what the grammar's descent reads, and
+//! is refused where that one is. specs/Ends.antt states how a list goes on or ends.
 #![tactic(auto)]
 
 mod ends;

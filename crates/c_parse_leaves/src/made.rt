@@ -6,15 +6,12 @@ ghost use Rattle.c_grammar.specs.Classes.{sign};
 ghost use Rattle.c_parse_steps.specs.Views.{scene_of};
 ghost use Rattle.c_parse_leaves.specs.Ends.{Closes, Hands};
 
-use c_parse_steps::{Class, Context, Fault, taken};
+use c_parse_steps::{Class, Context, Fault, Reading, taken};
 use c_written::{Placed, Punctuator};
 use std::alloc::AllocError;
 
 /// What was made, with the tokens behind it.
-pub fn handed<'a, T>(
-    made: Result<T, AllocError>,
-    tokens: &'a [Placed],
-) -> Result<(T, &'a [Placed]), Fault<'a>>
+pub fn handed<'a, T>(made: Result<T, AllocError>, tokens: &'a [Placed]) -> Reading<'a, T>
     ensures goes { Hands tokens.now made result }
     ensures shorter { IfOk result (λ x. length x.1.now ≤ length tokens.now) }
 {
@@ -32,7 +29,7 @@ pub fn closed<'a, T: Drop>(
     closes: Punctuator,
     made: Result<T, AllocError>,
     tokens: &'a [Placed],
-) -> Result<(T, &'a [Placed]), Fault<'a>>
+) -> Reading<'a, T>
     requires { forms ≤ 200 }
     ensures goes { Closes count (scene_of context.now) forms (sign closes) tokens.now made result }
     ensures shorter { IfOk result (λ x. length x.1.now < length tokens.now) }

@@ -14,7 +14,7 @@ ghost use Rattle.c_parse_steps.specs.Views.{boxed_declarator, role_view, scene_o
 ghost use Rattle.c_parse_leaves.specs.Readers.{ReadsName};
 
 use c_parse_steps::{
-    Class, Context, Fault, Mark, Role, TailKind, comes, empty_declarator, is_given, name_of,
+    Class, Context, Mark, Reading, Role, TailKind, comes, empty_declarator, is_given, name_of,
     open_array_declarator, params_ahead, taken,
 };
 use c_written::{Declarator, Keyword, Placed, Pos, Punctuator};
@@ -24,7 +24,7 @@ pub fn declared_name<'a>(
     context: &Context<'_>,
     count: u32,
     tokens: &'a [Placed],
-) -> Result<(Box<Declarator>, &'a [Placed]), Fault<'a>>
+) -> Reading<'a, Box<Declarator>>
     ensures goes { ReadsName count (scene_of context.now) tokens.now result }
     ensures shorter { IfOk result (λ x. length x.1.now < length tokens.now) }
 {
@@ -42,7 +42,7 @@ pub fn consts<'a>(
     count: u32,
     at: Pos,
     tokens: &'a [Placed],
-) -> Result<(bool, &'a [Placed]), Fault<'a>>
+) -> Reading<'a, bool>
     ensures goes { Consts count (scene_of context.now) (role_view role) at tokens.now result }
     ensures ended { IfOk result (λ x. first_is is_const_word x.1.now ≡ false) }
     ensures shorter { IfOk result (λ x. length x.1.now ≤ length tokens.now) }
@@ -65,7 +65,7 @@ pub fn no_size<'a>(
     at: Pos,
     inner: Box<Declarator>,
     tokens: &'a [Placed],
-) -> Result<(Box<Declarator>, &'a [Placed]), Fault<'a>>
+) -> Reading<'a, Box<Declarator>>
     requires { SizeIsMissing (role_view role) tokens.now }
     ensures goes { Answers count (scene_of context.now) (part.ADeclarator (part.Size (role_view role) at (boxed_declarator inner))) tokens.now (λ d. boxed_declarator d) result }
     ensures shorter { IfOk result (λ x. length x.1.now < length tokens.now) }
@@ -83,7 +83,7 @@ pub fn no_parameters<'a>(
     at: Pos,
     inner: Box<Declarator>,
     tokens: &'a [Placed],
-) -> Result<(Box<Declarator>, &'a [Placed]), Fault<'a>>
+) -> Reading<'a, Box<Declarator>>
     requires { first_is is_close tokens.now ≡ true }
     ensures goes { Answers count (scene_of context.now) (part.ADeclarator (part.Parameters at (boxed_declarator inner))) tokens.now (λ d. boxed_declarator d) result }
     ensures shorter { IfOk result (λ x. length x.1.now < length tokens.now) }

@@ -2,7 +2,6 @@
 #![tactic(auto)]
 
 ghost use Rattle.std.specs.Prelude.{◌≡◌, ℕ, ◌+◌, ◌<◌, ◌≤◌, Bool, List, length, option_map, IfOk};
-ghost use Rattle.c_written.specs.Written.{expr_tree};
 ghost use Rattle.c_written.specs.WrittenFile.{Expression, stmt_tree};
 ghost use Rattle.c_written.specs.WrittenParts.{expr_pos};
 ghost use Rattle.c_grammar.specs.Parts as part;
@@ -14,7 +13,7 @@ ghost use Rattle.c_grammar.specs.Choice.{is_closing};
 ghost use Rattle.c_grammar.specs.Classes.{closing_sign};
 
 use c_parse_exprs::run;
-use c_parse_steps::{Class, Context, Fault, Level, Mark, comes, name_of, taken};
+use c_parse_steps::{Class, Context, Level, Mark, Reading, comes, name_of, taken};
 use c_written::{Expr, Keyword, Placed, Punctuator, Stmt};
 
 /// What ends an expression that may be missing.
@@ -45,11 +44,7 @@ impl Closing {
 }
 
 /// A semicolon alone.
-pub fn empty<'a>(
-    context: &Context<'_>,
-    count: u32,
-    tokens: &'a [Placed],
-) -> Result<(Stmt, &'a [Placed]), Fault<'a>>
+pub fn empty<'a>(context: &Context<'_>, count: u32, tokens: &'a [Placed]) -> Reading<'a, Stmt>
     requires { StatementStarts (scene_of context.now) tokens.now StatementKind.Empty }
     ensures goes { (b : Bool) → Answers count (scene_of context.now) (part.AStmt (part.Statement b)) tokens.now (λ s. stmt_tree s) result }
     ensures shorter { IfOk result (λ x. length x.1.now < length tokens.now) }
@@ -60,11 +55,7 @@ pub fn empty<'a>(
 }
 
 /// An expression and its semicolon.
-pub fn expression<'a>(
-    context: &Context<'_>,
-    count: u32,
-    tokens: &'a [Placed],
-) -> Result<(Stmt, &'a [Placed]), Fault<'a>>
+pub fn expression<'a>(context: &Context<'_>, count: u32, tokens: &'a [Placed]) -> Reading<'a, Stmt>
     requires { StatementStarts (scene_of context.now) tokens.now StatementKind.Expression }
     ensures goes { (b : Bool) → Answers count (scene_of context.now) (part.AStmt (part.Statement b)) tokens.now (λ s. stmt_tree s) result }
     ensures shorter { IfOk result (λ x. length x.1.now < length tokens.now) }
@@ -79,7 +70,6 @@ pub fn expression<'a>(
 fn expression_stmt(value: Box<Expr>) -> Stmt
     ensures { stmt_tree result ≡ Expression (expr_pos (boxed_expr value)) (boxed_expr value) }
 {
-    let value = Box::into_inner(value);
     Stmt::Expression {
         pos: value.pos(),
         value,
@@ -87,11 +77,7 @@ fn expression_stmt(value: Box<Expr>) -> Stmt
 }
 
 /// A jump to a label.
-pub fn goto<'a>(
-    context: &Context<'_>,
-    count: u32,
-    tokens: &'a [Placed],
-) -> Result<(Stmt, &'a [Placed]), Fault<'a>>
+pub fn goto<'a>(context: &Context<'_>, count: u32, tokens: &'a [Placed]) -> Reading<'a, Stmt>
     requires { StatementStarts (scene_of context.now) tokens.now StatementKind.Goto }
     ensures goes { (b : Bool) → Answers count (scene_of context.now) (part.AStmt (part.Statement b)) tokens.now (λ s. stmt_tree s) result }
     ensures shorter { IfOk result (λ x. length x.1.now < length tokens.now) }
@@ -105,11 +91,7 @@ pub fn goto<'a>(
 }
 
 /// `continue`.
-pub fn next_turn<'a>(
-    context: &Context<'_>,
-    count: u32,
-    tokens: &'a [Placed],
-) -> Result<(Stmt, &'a [Placed]), Fault<'a>>
+pub fn next_turn<'a>(context: &Context<'_>, count: u32, tokens: &'a [Placed]) -> Reading<'a, Stmt>
     requires { StatementStarts (scene_of context.now) tokens.now StatementKind.Continue }
     ensures goes { (b : Bool) → Answers count (scene_of context.now) (part.AStmt (part.Statement b)) tokens.now (λ s. stmt_tree s) result }
     ensures shorter { IfOk result (λ x. length x.1.now < length tokens.now) }
@@ -121,11 +103,7 @@ pub fn next_turn<'a>(
 }
 
 /// `break`.
-pub fn leave<'a>(
-    context: &Context<'_>,
-    count: u32,
-    tokens: &'a [Placed],
-) -> Result<(Stmt, &'a [Placed]), Fault<'a>>
+pub fn leave<'a>(context: &Context<'_>, count: u32, tokens: &'a [Placed]) -> Reading<'a, Stmt>
     requires { StatementStarts (scene_of context.now) tokens.now StatementKind.Break }
     ensures goes { (b : Bool) → Answers count (scene_of context.now) (part.AStmt (part.Statement b)) tokens.now (λ s. stmt_tree s) result }
     ensures shorter { IfOk result (λ x. length x.1.now < length tokens.now) }
@@ -141,14 +119,13 @@ pub fn return_statement<'a>(
     context: &Context<'_>,
     count: u32,
     tokens: &'a [Placed],
-) -> Result<(Stmt, &'a [Placed]), Fault<'a>>
+) -> Reading<'a, Stmt>
     requires { StatementStarts (scene_of context.now) tokens.now StatementKind.Return }
     ensures goes { (b : Bool) → Answers count (scene_of context.now) (part.AStmt (part.Statement b)) tokens.now (λ s. stmt_tree s) result }
     ensures shorter { IfOk result (λ x. length x.1.now < length tokens.now) }
 {
     let (at, behind) = taken(context, count, 0, Class::Keyword(Keyword::Return), tokens)?;
     let (value, rest) = optional(context, Closing::BySemicolon, count, behind)?;
-    let value = unboxed(value);
     Ok((Stmt::Return { pos: at.pos, value }, rest))
 }
 
@@ -158,7 +135,7 @@ pub fn optional<'a>(
     closing: Closing,
     count: u32,
     tokens: &'a [Placed],
-) -> Result<(Option<Box<Expr>>, &'a [Placed]), Fault<'a>>
+) -> Reading<'a, Option<Box<Expr>>>
     ensures goes { Answers count (scene_of context.now) (part.Optionally (closing_view closing)) tokens.now (λ e. option_map (λ v. boxed_expr v) e) result }
     ensures shorter { IfOk result (λ x. length x.1.now < length tokens.now) }
 {
@@ -172,22 +149,12 @@ pub fn optional<'a>(
     Ok((Some(value), rest))
 }
 
-/// The expression out of its box, where there is one.
-pub fn unboxed(value: Option<Box<Expr>>) -> Option<Expr>
-    ensures { option_map (λ v. expr_tree v) result ≡ option_map (λ v. boxed_expr v) value }
-{
-    match value {
-        Some(value) => Some(Box::into_inner(value)),
-        None => None,
-    }
-}
-
 /// An expression between parentheses, behind the word of a statement.
 pub fn condition<'a>(
     context: &Context<'_>,
     count: u32,
     tokens: &'a [Placed],
-) -> Result<(Box<Expr>, &'a [Placed]), Fault<'a>>
+) -> Reading<'a, Box<Expr>>
     ensures goes { Conditions count (scene_of context.now) tokens.now result }
     ensures shorter { IfOk result (λ x. length x.1.now < length tokens.now) }
 {

@@ -21,6 +21,14 @@ pub fn name_of(alloc: Global, token: &Token) -> Result<Name, AllocError>
     }
 }
 
+/// The name of a word, in a box.
+pub fn boxed_name_of(alloc: Global, token: &Token) -> Result<Box<Name>, AllocError>
+    ensures { IfOk result (λ n. n.value ≡ name_of token.now) }
+{
+    let name = name_of(alloc, token)?;
+    Ok(Box::new(alloc, name)?)
+}
+
 /// The constant of a number.
 pub fn constant_of(token: &Token) -> Constant
     ensures { result ≡ constant_of token.now }

@@ -33,6 +33,8 @@ pub fn index_expr(
 pub fn call_expr(alloc: Global, pos: Pos, name: Name, args: Exprs) -> Result<Box<Expr>, AllocError>
     ensures { IfOk result (λ e. boxed_expr e ≡ Call pos name (exprs_tree args)) }
 {
+    let name = Box::new(alloc, name)?;
+    let args = Box::new(alloc, args)?;
     Ok(Box::new(alloc, Expr::Call { pos, name, args })?)
 }
 
@@ -45,6 +47,7 @@ pub fn dot_expr(
 ) -> Result<Box<Expr>, AllocError>
     ensures { IfOk result (λ e. boxed_expr e ≡ Dot pos (boxed_expr base) member) }
 {
+    let member = Box::new(alloc, member)?;
     Ok(Box::new(alloc, Expr::Dot { pos, base, member })?)
 }
 
@@ -57,6 +60,7 @@ pub fn arrow_expr(
 ) -> Result<Box<Expr>, AllocError>
     ensures { IfOk result (λ e. boxed_expr e ≡ Arrow pos (boxed_expr base) member) }
 {
+    let member = Box::new(alloc, member)?;
     Ok(Box::new(alloc, Expr::Arrow { pos, base, member })?)
 }
 
@@ -112,6 +116,7 @@ pub fn sizeof_type(
 ) -> Result<Box<Expr>, AllocError>
     ensures { IfOk result (λ e. boxed_expr e ≡ SizeofType pos (specs_tree specs) (boxed_declarator declarator)) }
 {
+    let specs = Box::new(alloc, specs)?;
     Ok(Box::new(
         alloc,
         Expr::SizeofType {
@@ -132,6 +137,7 @@ pub fn cast_expr(
 ) -> Result<Box<Expr>, AllocError>
     ensures { IfOk result (λ e. boxed_expr e ≡ Cast pos (specs_tree specs) (boxed_declarator declarator) (boxed_expr operand)) }
 {
+    let specs = Box::new(alloc, specs)?;
     Ok(Box::new(
         alloc,
         Expr::Cast {

@@ -13,7 +13,7 @@ ghost use Rattle.c_parse_steps.specs.Kinds.{opens, sign_at, sign_of};
 
 use crate::class::Class;
 use crate::context::{Context, Setting};
-use crate::fault::Fault;
+use crate::fault::{Fault, Reading};
 use c_written::{Construct, Keyword, Placed, Punctuator, Token};
 
 // As many forms may be unfinished.
@@ -36,7 +36,7 @@ pub fn taken<'a>(
     forms: u32,
     class: Class,
     tokens: &'a [Placed],
-) -> Result<(&'a Placed, &'a [Placed]), Fault<'a>>
+) -> Reading<'a, &'a Placed>
     requires { forms ≤ 200 }
     ensures goes { Takes count (scene_of context.now) forms (class_of class) tokens.now result }
     ensures shorter { IfOk result (λ x. length tokens.now ≡ length x.1.now + 1) }

@@ -11,8 +11,8 @@ use Rattle.c_parse_steps.specs.declared.fault.Fault.{Fault}
 use Rattle.c_parse_steps.specs.Answers.{Gives, Steps}
 use Rattle.c_parse_steps.proofs.Paths.{Path}
 use Rattle.c_parse_steps.proofs.Steps.{failed, here, stall, step, stops_here}
-use Rattle.c_parse_heads.specs.declared.head.ForHead.{ForHead}
-use Rattle.c_parse_heads.specs.Kinds.{ForHeads, for_rest}
+use Rattle.c_parse_heads.specs.declared.head.ForOpening.{ForOpening}
+use Rattle.c_parse_heads.specs.Kinds.{ForOpenings, for_rest}
 
 -- a block goes on with its next items
 pub last_items : {before more : BlockItemTrees} {d : ℕ} {w s : Scene} {ts : List Placed} (o : Outcome BlockItemTrees) → Goes d s (Items more) ts o → Follows d w (Items before) (part 0 s (Items more) give) ts o
@@ -26,10 +26,10 @@ same_items {d = d} {w} {ts} {o} e g = subst (λ (v : BlockItemTrees). Goes d w (
 pub in_scene : {b : BlockItemTrees} {d : ℕ} {v w : Scene} {ts : List Placed} {o : Outcome BlockItemTrees} → v ≡ w → Goes d v (Items b) ts o → Goes d w (Items b) ts o
 in_scene {b} {d} {v} {w} {ts} {o} e g = subst (λ (s : Scene). Goes d s (Items b) ts o) e g
 
--- the head of a for was read
-pub for_led : {b : Bool} {d : ℕ} {w : Scene} {ts : List Placed} {x : ForHead × Bor (List Placed)} → ForHeads d w ts (Ok x) → Path (AStmt (Statement b)) (λ o. Goes d w (AStmt (Statement b)) ts o) d w (for_rest w x.0) x.1.now
+-- what stands before the statement of a for was read
+pub for_led : {b : Bool} {d : ℕ} {w : Scene} {ts : List Placed} {x : ForOpening × Bor (List Placed)} → ForOpenings d w ts (Ok x) → Path (AStmt (Statement b)) (λ o. Goes d w (AStmt (Statement b)) ts o) d w (for_rest w x.0) x.1.now
 for_led {b} h = record { run = λ o g. step (h b) o g }
 
--- the head was not read
+-- it was not read
 pub not_led : {A B V : Type 0} {goes : Outcome V → Type 0} {next : B → List Placed → Outcome V → Type 0} {view : A → V} {f : Fault} {r : Result (A × Bor (List Placed)) Fault} → IsErrAnd r (λ e. e ≡ f) → Steps goes next (Err f) → Gives goes view r
 not_led e h = failed e (stall h)

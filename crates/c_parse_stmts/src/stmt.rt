@@ -17,14 +17,14 @@ ghost use Rattle.c_parse_heads.specs.Kinds.{boxed_tree};
 use c_parse_decls::declaration;
 use c_parse_exprs::conditional;
 use c_parse_heads::{
-    case_stmt, do_stmt, for_head, for_stmt, if_else_stmt, if_stmt, switch_stmt, while_stmt,
+    case_stmt, do_stmt, for_opening, for_stmt, if_else_stmt, if_stmt, switch_stmt, while_stmt,
 };
 use c_parse_simple::{
     StatementKind, condition, empty, ends_open, expression, goto, leave, next_turn,
     return_statement, statement_at,
 };
 use c_parse_steps::{
-    Class, Context, Fault, Mark, Setting, comes, label_ahead, name_of, spec_ahead, taken,
+    Class, Context, Mark, Reading, Setting, boxed_name_of, comes, label_ahead, spec_ahead, taken,
 };
 use c_written::{BlockItem, BlockItems, Expr, Keyword, Placed, Pos, Punctuator, Stmt};
 use std::alloc::AllocError;
@@ -36,7 +36,7 @@ fn statement<'a>(
     switched: bool,
     count: u32,
     tokens: &'a [Placed],
-) -> Result<(Stmt, &'a [Placed]), Fault<'a>>
+) -> Reading<'a, Stmt>
     ensures goes { Answers count (scene_of context.now) (part.AStmt (part.Statement switched)) tokens.now (λ s. stmt_tree s) result }
     ensures shorter { IfOk result (λ x. length x.1.now < length tokens.now) }
 {
@@ -68,7 +68,7 @@ fn label<'a>(
     switched: bool,
     count: u32,
     tokens: &'a [Placed],
-) -> Result<(Stmt, &'a [Placed]), Fault<'a>>
+) -> Reading<'a, Stmt>
     requires { label_ahead (scene_of context.now) tokens.now ≡ true }
     ensures goes { Answers count (scene_of context.now) (part.AStmt (part.Statement switched)) tokens.now (λ s. stmt_tree s) result }
     ensures shorter { IfOk result (λ x. length x.1.now < length tokens.now) }
@@ -77,7 +77,7 @@ fn label<'a>(
     let (at, behind) = taken(context, count, 0, Class::Word, tokens)?;
     let (_colon, behind) = taken(context, count, 0, colon, behind)?;
     let (body, rest) = boxed(context, false, count + 1, behind)?;
-    let name = name_of(context.alloc, &at.token)?;
+    let name = boxed_name_of(context.alloc, &at.token)?;
     Ok((
         Stmt::Label {
             pos: at.pos,
@@ -95,7 +95,7 @@ fn case<'a>(
     switched: bool,
     count: u32,
     tokens: &'a [Placed],
-) -> Result<(Stmt, &'a [Placed]), Fault<'a>>
+) -> Reading<'a, Stmt>
     requires { StatementStarts (scene_of context.now) tokens.now StatementKind.Case }
     ensures goes { Answers count (scene_of context.now) (part.AStmt (part.Statement switched)) tokens.now (λ s. stmt_tree s) result }
     ensures shorter { IfOk result (λ x. length x.1.now < length tokens.now) }
@@ -115,7 +115,7 @@ fn otherwise<'a>(
     switched: bool,
     count: u32,
     tokens: &'a [Placed],
-) -> Result<(Stmt, &'a [Placed]), Fault<'a>>
+) -> Reading<'a, Stmt>
     requires { StatementStarts (scene_of context.now) tokens.now StatementKind.Default }
     ensures goes { Answers count (scene_of context.now) (part.AStmt (part.Statement switched)) tokens.now (λ s. stmt_tree s) result }
     ensures shorter { IfOk result (λ x. length x.1.now < length tokens.now) }
@@ -134,7 +134,7 @@ fn block<'a>(
     switched: bool,
     count: u32,
     tokens: &'a [Placed],
-) -> Result<(Stmt, &'a [Placed]), Fault<'a>>
+) -> Reading<'a, Stmt>
     requires { StatementStarts (scene_of context.now) tokens.now StatementKind.Block }
     ensures goes { Answers count (scene_of context.now) (part.AStmt (part.Statement switched)) tokens.now (λ s. stmt_tree s) result }
     ensures shorter { IfOk result (λ x. length x.1.now < length tokens.now) }
@@ -152,7 +152,7 @@ fn conditional_statement<'a>(
     switched: bool,
     count: u32,
     tokens: &'a [Placed],
-) -> Result<(Stmt, &'a [Placed]), Fault<'a>>
+) -> Reading<'a, Stmt>
     requires { StatementStarts (scene_of context.now) tokens.now StatementKind.If }
     ensures goes { Answers count (scene_of context.now) (part.AStmt (part.Statement switched)) tokens.now (λ s. stmt_tree s) result }
     ensures shorter { IfOk result (λ x. length x.1.now < length tokens.now) }
@@ -172,7 +172,7 @@ fn else_part<'a>(
     condition: Box<Expr>,
     then: Box<Stmt>,
     tokens: &'a [Placed],
-) -> Result<(Stmt, &'a [Placed]), Fault<'a>>
+) -> Reading<'a, Stmt>
     ensures goes { Answers count (scene_of context.now) (part.AStmt (part.Else at (boxed_expr condition) (boxed_tree then))) tokens.now (λ s. stmt_tree s) result }
     ensures shorter { IfOk result (λ x. length x.1.now ≤ length tokens.now) }
 {
@@ -198,7 +198,7 @@ fn else_form<'a>(
     condition: Box<Expr>,
     then: Box<Stmt>,
     tokens: &'a [Placed],
-) -> Result<(Stmt, &'a [Placed]), Fault<'a>>
+) -> Reading<'a, Stmt>
     requires { (first_is is_else_word tokens.now && not (ends_open (boxed_tree then))) ≡ true }
     ensures goes { Answers count (scene_of context.now) (part.AStmt (part.Else at (boxed_expr condition) (boxed_tree then))) tokens.now (λ s. stmt_tree s) result }
     ensures shorter { IfOk result (λ x. length x.1.now < length tokens.now) }
@@ -215,7 +215,7 @@ fn choice<'a>(
     switched: bool,
     count: u32,
     tokens: &'a [Placed],
-) -> Result<(Stmt, &'a [Placed]), Fault<'a>>
+) -> Reading<'a, Stmt>
     requires { StatementStarts (scene_of context.now) tokens.now StatementKind.Switch }
     ensures goes { Answers count (scene_of context.now) (part.AStmt (part.Statement switched)) tokens.now (λ s. stmt_tree s) result }
     ensures shorter { IfOk result (λ x. length x.1.now < length tokens.now) }
@@ -233,7 +233,7 @@ fn while_loop<'a>(
     switched: bool,
     count: u32,
     tokens: &'a [Placed],
-) -> Result<(Stmt, &'a [Placed]), Fault<'a>>
+) -> Reading<'a, Stmt>
     requires { StatementStarts (scene_of context.now) tokens.now StatementKind.While }
     ensures goes { Answers count (scene_of context.now) (part.AStmt (part.Statement switched)) tokens.now (λ s. stmt_tree s) result }
     ensures shorter { IfOk result (λ x. length x.1.now < length tokens.now) }
@@ -251,7 +251,7 @@ fn do_loop<'a>(
     switched: bool,
     count: u32,
     tokens: &'a [Placed],
-) -> Result<(Stmt, &'a [Placed]), Fault<'a>>
+) -> Reading<'a, Stmt>
     requires { StatementStarts (scene_of context.now) tokens.now StatementKind.Do }
     ensures goes { Answers count (scene_of context.now) (part.AStmt (part.Statement switched)) tokens.now (λ s. stmt_tree s) result }
     ensures shorter { IfOk result (λ x. length x.1.now < length tokens.now) }
@@ -272,14 +272,14 @@ fn for_loop<'a>(
     switched: bool,
     count: u32,
     tokens: &'a [Placed],
-) -> Result<(Stmt, &'a [Placed]), Fault<'a>>
+) -> Reading<'a, Stmt>
     requires { StatementStarts (scene_of context.now) tokens.now StatementKind.For }
     ensures goes { Answers count (scene_of context.now) (part.AStmt (part.Statement switched)) tokens.now (λ s. stmt_tree s) result }
     ensures shorter { IfOk result (λ x. length x.1.now < length tokens.now) }
 {
-    let (head, rest) = for_head(context, count, tokens)?;
+    let (opening, rest) = for_opening(context, count, tokens)?;
     let (body, rest) = substatement(context, false, count + 1, rest)?;
-    Ok((for_stmt(head, body), rest))
+    Ok((for_stmt(opening, body), rest))
 }
 
 /// A statement that is a part of another one and stands where that one does.
@@ -289,7 +289,7 @@ fn boxed<'a>(
     switched: bool,
     count: u32,
     tokens: &'a [Placed],
-) -> Result<(Box<Stmt>, &'a [Placed]), Fault<'a>>
+) -> Reading<'a, Box<Stmt>>
     ensures goes { Answers count (scene_of context.now) (part.AStmt (part.Statement switched)) tokens.now (λ s. boxed_tree s) result }
     ensures shorter { IfOk result (λ x. length x.1.now < length tokens.now) }
 {
@@ -304,7 +304,7 @@ fn substatement<'a>(
     switched: bool,
     count: u32,
     tokens: &'a [Placed],
-) -> Result<(Box<Stmt>, &'a [Placed]), Fault<'a>>
+) -> Reading<'a, Box<Stmt>>
     ensures goes { Answers count (part.within (scene_of context.now)) (part.AStmt (part.Statement switched)) tokens.now (λ s. boxed_tree s) result }
     ensures shorter { IfOk result (λ x. length x.1.now < length tokens.now) }
 {
@@ -334,7 +334,7 @@ pub fn block_items<'a>(
     switched: bool,
     count: u32,
     tokens: &'a [Placed],
-) -> Result<(BlockItems, &'a [Placed]), Fault<'a>>
+) -> Reading<'a, BlockItems>
     ensures goes { Answers count (block_scene switched (scene_of context.now)) (part.Items none) tokens.now (λ i. blockitems_tree i) result }
     ensures shorter { IfOk result (λ x. length x.1.now < length tokens.now) }
 {
@@ -348,11 +348,7 @@ pub fn block_items<'a>(
 
 /// The items of a block, up to the brace that closes it.
 #[cycle(statements)]
-fn items<'a>(
-    context: &Context<'_>,
-    count: u32,
-    tokens: &'a [Placed],
-) -> Result<(BlockItems, &'a [Placed]), Fault<'a>>
+fn items<'a>(context: &Context<'_>, count: u32, tokens: &'a [Placed]) -> Reading<'a, BlockItems>
     ensures goes { Answers count (scene_of context.now) (part.Items none) tokens.now (λ i. blockitems_tree i) result }
     ensures shorter { IfOk result (λ x. length x.1.now < length tokens.now) }
 {
@@ -379,16 +375,13 @@ fn push_item(items: &mut Vec<BlockItem>, next: BlockItem) -> Result<(), AllocErr
 
 /// An item of a block.
 #[cycle(statements)]
-fn item<'a>(
-    context: &Context<'_>,
-    count: u32,
-    tokens: &'a [Placed],
-) -> Result<(BlockItem, &'a [Placed]), Fault<'a>>
+fn item<'a>(context: &Context<'_>, count: u32, tokens: &'a [Placed]) -> Reading<'a, BlockItem>
     ensures goes { Answers count (scene_of context.now) part.Item tokens.now (λ i. blockitem_tree i) result }
     ensures shorter { IfOk result (λ x. length x.1.now < length tokens.now) }
 {
     if spec_ahead(context, tokens) {
         let (decl, rest) = declaration(context, count, tokens)?;
+        let decl = Box::new(context.alloc, decl)?;
         return Ok((BlockItem::Declaration(decl), rest));
     }
     let (stmt, rest) = statement(context, false, count, tokens)?;

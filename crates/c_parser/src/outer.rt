@@ -14,7 +14,7 @@ ghost use Rattle.c_parse_steps.specs.Views.{boxed_declarator, scene_of};
 use c_parse_decls::{initial, no_declarators};
 use c_parse_exprs::{declarator, specs};
 use c_parse_steps::{
-    Class, Context, Fault, Mark, Role, TypeNames, comes, declared_word, specs_pos, taken,
+    Class, Context, Mark, Reading, Role, TypeNames, comes, declared_word, specs_pos, taken,
 };
 use c_parse_stmts::block_items;
 use c_written::{
@@ -24,11 +24,7 @@ use c_written::{
 use std::alloc::{AllocError, Global};
 
 /// A declaration of a file, or a function with its body.
-pub fn outer<'a>(
-    context: &Context<'_>,
-    count: u32,
-    tokens: &'a [Placed],
-) -> Result<(Outer, &'a [Placed]), Fault<'a>>
+pub fn outer<'a>(context: &Context<'_>, count: u32, tokens: &'a [Placed]) -> Reading<'a, Outer>
     ensures goes { Answers count (scene_of context.now) (part.AnOuter part.Outer) tokens.now (λ o. outer_tree o) result }
     ensures shorter { IfOk result (λ x. length x.1.now < length tokens.now) }
 {
@@ -42,7 +38,7 @@ fn outer_declared<'a>(
     count: u32,
     specs: Specs,
     tokens: &'a [Placed],
-) -> Result<(Outer, &'a [Placed]), Fault<'a>>
+) -> Reading<'a, Outer>
     ensures goes { Answers count (scene_of context.now) (part.AnOuter (part.OuterDeclared (specs_tree specs))) tokens.now (λ o. outer_tree o) result }
     ensures shorter { IfOk result (λ x. length x.1.now < length tokens.now) }
 {
@@ -63,7 +59,7 @@ fn outer_initial<'a>(
     specs: Specs,
     first: Box<Declarator>,
     tokens: &'a [Placed],
-) -> Result<(Outer, &'a [Placed]), Fault<'a>>
+) -> Reading<'a, Outer>
     ensures goes { Answers count (scene_of context.now) (part.AnOuter (part.OuterInitial (specs_tree specs) (boxed_declarator first))) tokens.now (λ o. outer_tree o) result }
     ensures shorter { IfOk result (λ x. length x.1.now < length tokens.now) }
 {
@@ -81,7 +77,7 @@ fn function<'a>(
     specs: Specs,
     declarator: Box<Declarator>,
     tokens: &'a [Placed],
-) -> Result<(Outer, &'a [Placed]), Fault<'a>>
+) -> Reading<'a, Outer>
     requires { first_is is_brace tokens.now ≡ true }
     ensures goes { Answers count (scene_of context.now) (part.AnOuter (part.OuterInitial (specs_tree specs) (boxed_declarator declarator))) tokens.now (λ o. outer_tree o) result }
     ensures shorter { IfOk result (λ x. length x.1.now < length tokens.now) }
@@ -96,7 +92,6 @@ fn function<'a>(
 fn function_outer(specs: Specs, declarator: Box<Declarator>, brace: Pos, body: BlockItems) -> Outer
     ensures { outer_tree result ≡ Function (specs_pos (specs_tree specs)) (specs_tree specs) (boxed_declarator declarator) brace (blockitems_tree body) }
 {
-    let declarator = Box::into_inner(declarator);
     Outer::Function {
         pos: specs_pos(&specs),
         specs,

@@ -13,7 +13,7 @@ ghost use Rattle.c_grammar.specs.Descent.{Done, Goes, Stop};
 ghost use Rattle.c_parser.specs.declared.parsing.ParseError.TheVariants.{NoMemory};
 
 use crate::outer::{outer, types_after};
-use c_parse_steps::{Context, Fault, Setting, TypeNames};
+use c_parse_steps::{Context, Fault, Reading, Setting, TypeNames};
 use c_written::{Construct, File, Outer, Outers, Placed, Pos, Tokens};
 use std::alloc::Global;
 use thiserror::Error;
@@ -71,11 +71,7 @@ fn outers(alloc: Global, tokens: &[Placed]) -> Result<Vec<Outer>, Fault<'_>>
     Ok(outers)
 }
 
-fn outer_here<'a>(
-    alloc: Global,
-    types: &TypeNames,
-    tokens: &'a [Placed],
-) -> Result<(Outer, &'a [Placed]), Fault<'a>>
+fn outer_here<'a>(alloc: Global, types: &TypeNames, tokens: &'a [Placed]) -> Reading<'a, Outer>
     ensures goes { Answers 0 (record { types = types.now; setting = part.AtFile }) (part.AnOuter part.Outer) tokens.now (λ o. outer_tree o) result }
     ensures shorter { IfOk result (λ x. length x.1.now < length tokens.now) }
 {

@@ -483,15 +483,9 @@ fn stmt(out: &mut String, depth: u32, s: &Stmt) -> Written {
             stmt(out, depth - 1, body)?;
             out.push(')')
         }
-        Stmt::For {
-            start,
-            condition,
-            step,
-            body,
-            ..
-        } => {
+        Stmt::For { head, body, .. } => {
             out.push_str("(for ")?;
-            match start {
+            match &head.start {
                 ForStart::Nothing => out.push(';')?,
                 ForStart::Value(value) => {
                     expr(out, depth, value)?;
@@ -499,9 +493,9 @@ fn stmt(out: &mut String, depth: u32, s: &Stmt) -> Written {
                 }
                 ForStart::Declares(found) => decl(out, depth, found)?,
             }
-            maybe(out, condition)?;
+            maybe(out, &head.condition)?;
             out.push(';')?;
-            maybe(out, step)?;
+            maybe(out, &head.step)?;
             out.push(' ')?;
             stmt(out, depth - 1, body)?;
             out.push(')')
@@ -527,7 +521,7 @@ fn head(out: &mut String, word: &str, condition: &Expr) -> Written {
     out.push(' ')
 }
 
-fn maybe(out: &mut String, value: &Option<Expr>) -> Written {
+fn maybe(out: &mut String, value: &Option<Box<Expr>>) -> Written {
     match value {
         Some(found) => expr(out, 400, found),
         None => Ok(()),

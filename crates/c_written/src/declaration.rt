@@ -28,7 +28,7 @@ pub struct Inits {
 #[derive(Drop)]
 pub struct InitDeclarator {
     pub declarator: Declarator,
-    pub init: Option<Init>,
+    pub init: Option<Box<Init>>,
 }
 
 /// A declaration. The place is that of the first of its specs. It may have no declarator.

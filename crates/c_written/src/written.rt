@@ -122,18 +122,18 @@ pub enum Expr {
     /// A call of a word, whose place is that of the call.
     Call {
         pos: Pos,
-        name: Name,
-        args: Exprs,
+        name: Box<Name>,
+        args: Box<Exprs>,
     },
     Dot {
         pos: Pos,
         base: Box<Expr>,
-        member: Name,
+        member: Box<Name>,
     },
     Arrow {
         pos: Pos,
         base: Box<Expr>,
-        member: Name,
+        member: Box<Name>,
     },
     /// `++` or `--` after its operand.
     PostStep {
@@ -158,13 +158,13 @@ pub enum Expr {
     },
     SizeofType {
         pos: Pos,
-        specs: Specs,
+        specs: Box<Specs>,
         declarator: Box<Declarator>,
     },
     /// The place is that of the opening parenthesis.
     Cast {
         pos: Pos,
-        specs: Specs,
+        specs: Box<Specs>,
         declarator: Box<Declarator>,
         operand: Box<Expr>,
     },

@@ -1,7 +1,9 @@
 use Rattle.c_grammar.specs.Parts.{AStmt, Statement, Else, Item, Items}
 use Rattle.std.proofs.Common.{refl, sym, ap, ◌∙◌, arith}
 use Rattle.std.specs.Prelude.{not, ◌&&◌}
+use Rattle.c_written.specs.declared.declaration.Decl.{Decl}
 use Rattle.c_written.specs.declared.file.Stmt.{Stmt}
+use Rattle.c_written.specs.WrittenDecl.{decl_tree}
 use Rattle.c_grammar.specs.Choice.{is_else_word}
 use Rattle.c_grammar.specs.Made.{ends_open}
 use Rattle.c_grammar.specs.Refused.{first_is}
@@ -125,14 +127,14 @@ do_loop-returns-in_err-_end-clause-goes t c = not_after c.from_residual-in_err-_
 pub do_loop-returns-clause-goes : goal.do_loop-returns-clause-goes
 do_loop-returns-clause-goes t c = ends (after (tried (after (inside (after (statement_begins statements.Do c.requires refl) c.in_ok-at.ensures.goes) c.in_ok-body.ensures.goes) c.in_ok-_word.ensures.goes) c.in_ok-condition.ensures.goes) c.in_ok-_end.ensures.goes) c.do_stmt.ensures
 
-pub for_loop-returns-in_err-head-clause-goes : goal.for_loop-returns-in_err-head-clause-goes
-for_loop-returns-in_err-head-clause-goes t c = not_led c.from_residual.ensures.1 (c.in_err-head.ensures.goes c.args.switched)
+pub for_loop-returns-in_err-opening-clause-goes : goal.for_loop-returns-in_err-opening-clause-goes
+for_loop-returns-in_err-opening-clause-goes t c = not_led c.from_residual.ensures.1 (c.in_err-opening.ensures.goes c.args.switched)
 
 pub for_loop-returns-in_err-body-clause-goes : goal.for_loop-returns-in_err-body-clause-goes
-for_loop-returns-in_err-body-clause-goes t c = not_inside c.from_residual-in_err-body.ensures.1 (for_led {b = c.args.switched} c.in_ok-head.ensures.goes) c.in_err-body.ensures.goes
+for_loop-returns-in_err-body-clause-goes t c = not_inside c.from_residual-in_err-body.ensures.1 (for_led {b = c.args.switched} c.in_ok-opening.ensures.goes) c.in_err-body.ensures.goes
 
 pub for_loop-returns-clause-goes : goal.for_loop-returns-clause-goes
-for_loop-returns-clause-goes t c = ends (inside (for_led {b = c.args.switched} c.in_ok-head.ensures.goes) c.in_ok-body.ensures.goes) c.for_stmt.ensures
+for_loop-returns-clause-goes t c = ends (inside (for_led {b = c.args.switched} c.in_ok-opening.ensures.goes) c.in_ok-body.ensures.goes) c.for_stmt.ensures
 
 pub boxed-returns-in_err-whole-clause-goes : goal.boxed-returns-in_err-whole-clause-goes
 boxed-returns-in_err-whole-clause-goes t c = failed c.from_residual.ensures.1 (halt c.in_err-whole.ensures.goes)
@@ -153,7 +155,10 @@ pub item-returns-in_err-decl-clause-goes : goal.item-returns-in_err-decl-clause-
 item-returns-in_err-decl-clause-goes t c = not_behind c.from_residual.ensures.1 (where_so (begin {p = Item} (λ o g. g) refl (if_true _ (sym c.spec_ahead.ensures ∙ c.if-spec_ahead.true))) (sym c.spec_ahead.ensures ∙ c.if-spec_ahead.true)) c.in_err-decl.ensures.goes
 
 pub item-returns-then-spec_ahead-clause-goes : goal.item-returns-then-spec_ahead-clause-goes
-item-returns-then-spec_ahead-clause-goes t c = ends (behind (where_so (begin {p = Item} (λ o g. g) refl (if_true _ (sym c.spec_ahead.ensures ∙ c.if-spec_ahead.true))) (sym c.spec_ahead.ensures ∙ c.if-spec_ahead.true)) c.in_ok-decl.ensures.goes) (blockitem_declaration _)
+item-returns-then-spec_ahead-clause-goes t c = ends (behind (where_so (begin {p = Item} (λ o g. g) refl (if_true _ (sym c.spec_ahead.ensures ∙ c.if-spec_ahead.true))) (sym c.spec_ahead.ensures ∙ c.if-spec_ahead.true)) c.in_ok-decl.ensures.goes) (blockitem_declaration _ ∙ ap (λ (v : Decl). trees.Declaration (decl_tree v)) c.in_ok-decl-2.ensures.ok)
+
+pub item-returns-in_err-decl-2-clause-goes : goal.item-returns-in_err-decl-2-clause-goes
+item-returns-in_err-decl-2-clause-goes t c = starved c.from_residual-in_err-decl-2.ensures.1
 
 pub item-returns-in_err-stmt-clause-goes : goal.item-returns-in_err-stmt-clause-goes
 item-returns-in_err-stmt-clause-goes t c = not_behind c.from_residual-in_err-stmt.ensures.1 (where_so (begin {p = Item} (λ o g. g) refl (if_false _ (sym c.spec_ahead.ensures ∙ c.if-spec_ahead.false))) (ap not (sym c.spec_ahead.ensures ∙ c.if-spec_ahead.false))) c.in_err-stmt.ensures.goes
