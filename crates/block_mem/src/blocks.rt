@@ -158,9 +158,9 @@ impl Memory {
         ensures whole { KeepsWhole self.old self.new at (size_of ty) }
     {
         let size = scalar_size(ty);
-        let bytes = value_bytes(ty, v);
+        let whole = value_bytes(ty, v);
         let block = &mut self.blocks[at.block as usize];
-        block.store(start_of(at), &bytes[..size]);
+        block.store(start_of(at), &whole[..size]);
     }
 
     /// Takes the value of every byte of a block away, in a read-only block and in a dead one too.

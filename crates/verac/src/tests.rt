@@ -455,6 +455,20 @@ fn sink_faults(rt: HostRuntime) -> Result<(), Fail> {
     Ok(())
 }
 
+// A run that cannot read makes no call of the sink, so that the next run's write is the first.
+#[test]
+fn read_fault_leaves_the_sink(rt: HostRuntime) -> Result<(), Fail> {
+    let alloc = rt.alloc();
+    let mut files = MemFiles::new(alloc, failing(alloc, &[1])?);
+    files.add("a.c", OVERFLOW.as_bytes())?;
+    let mut out = MemSink::new(alloc, 1000, failing(alloc, &[2])?)?;
+    let words = words_of(alloc, &["verac", "analyze", "a.c"])?;
+    let status = run(alloc, &words, &mut files, &mut out);
+    assert_eq!(rt; status, Status::ReadFault);
+    assert_eq!(rt; run(alloc, &words, &mut files, &mut out), Status::Alarms);
+    Ok(())
+}
+
 #[test]
 fn words_that_are_no_command(rt: HostRuntime) -> Result<(), Fail> {
     let alloc = rt.alloc();
