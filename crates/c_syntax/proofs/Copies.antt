@@ -1,12 +1,6 @@
 -- A list that is copied item by item: what is copied has the tree of what was gone through.
 use Rattle.std.proofs.Common.{◌≡◌, ℕ, ◌+◌, ◌<◌, List, [], ◌∷◌, ◌++◌, map, length, take, get_or, refl, sym, ap, ◌∙◌}
 use Rattle.std.proofs.lemmas.List.{take_more}
-use Rattle.c_syntax.specs.declared.typed.TExpr.{TExpr}
-use Rattle.c_syntax.specs.declared.statement.TStmt.{TStmt}
-use Rattle.c_syntax.specs.TypedExpr.{texpr_tree, texprs_from, texprs_then}
-use Rattle.c_syntax.specs.TypedStmt.{tstmt_tree, tstmts_from, tstmts_then}
-use Rattle.c_syntax.proofs.TypedExprTrees.{texprs_push}
-use Rattle.c_syntax.proofs.TypedStmtTrees.{tstmts_push}
 
 -- the list up to the item behind place i
 next_item : {A : Type 0} (items : List A) (i : ℕ) (item : A) → i < length items → item ≡ get_or items i item → take i items ++ item ∷ [] ≡ take (i + 1) items
@@ -23,19 +17,3 @@ one_more f copies items i copy item h e is same =
     ∙ ap (λ x. map f (take i items) ++ x ∷ []) same
     ∙ sym (map_push f (take i items) item)
     ∙ ap (map f) (next_item items i item h is)
-
-pub one_more_expr : (copies items : List TExpr) (i : ℕ) (copy item : TExpr) → i < length items → texprs_from copies ≡ texprs_from (take i items) → item ≡ get_or items i item → texpr_tree copy ≡ texpr_tree item → texprs_from (copies ++ copy ∷ []) ≡ texprs_from (take (i + 1) items)
-one_more_expr copies items i copy item h e is same =
-    texprs_push copies copy
-    ∙ ap (λ rest. texprs_then rest (texpr_tree copy)) e
-    ∙ ap (texprs_then (texprs_from (take i items))) same
-    ∙ sym (texprs_push (take i items) item)
-    ∙ ap texprs_from (next_item items i item h is)
-
-pub one_more_stmt : (copies items : List TStmt) (i : ℕ) (copy item : TStmt) → i < length items → tstmts_from copies ≡ tstmts_from (take i items) → item ≡ get_or items i item → tstmt_tree copy ≡ tstmt_tree item → tstmts_from (copies ++ copy ∷ []) ≡ tstmts_from (take (i + 1) items)
-one_more_stmt copies items i copy item h e is same =
-    tstmts_push copies copy
-    ∙ ap (λ rest. tstmts_then rest (tstmt_tree copy)) e
-    ∙ ap (tstmts_then (tstmts_from (take i items))) same
-    ∙ sym (tstmts_push (take i items) item)
-    ∙ ap tstmts_from (next_item items i item h is)

@@ -12,8 +12,8 @@
 //!
 //! The pure trees stand in `specs/Types.antt`, `TypedExpr.antt`, `TypedStmt.antt` and `Program.antt`; where a
 //! node stands and what type it has in `specs/TypedParts.antt`, which `TExpr::pos`, `TExpr::ty` and the like
-//! promise. Each `copy` promises the tree of its source, and `same_type` tells whether two types have one
-//! tree. How large a tree is stands in `specs/Sizes.antt`, and what an alarm shows in `specs/Admission.antt`.
+//! promise. Each `copy`, of a type, an object or a struct, promises the tree of its source, and `same_type`
+//! tells whether two types have one tree. How large a tree is stands in `specs/Sizes.antt`, and what an alarm shows in `specs/Admission.antt`.
 #![tactic(auto)]
 
 mod alarm;

@@ -155,6 +155,7 @@ fn a_program_is_built(rt: HostRuntime) -> Result<(), Fail> {
     assert_eq!(rt; value.pos(), at(3));
     let called = call(alloc, at(4), 1, other)?;
     assert_eq!(rt; called.pos(), at(4));
+    assert!(rt; same_type(&called.ty()?, &CType::Int(IntType::Int)));
     let body = body(alloc, at(2), value, called)?;
     assert_eq!(rt; body.pos(), at(2));
     let mut functions = Vec::new(alloc);
@@ -174,42 +175,5 @@ fn a_program_is_built(rt: HostRuntime) -> Result<(), Fail> {
     assert_eq!(rt; program.functions.as_slice().len(), 1);
     let TProgram { functions, .. } = program;
     assert_eq!(rt; functions.into_vec().len(), 1);
-    Ok(())
-}
-
-/// How many calls stand in an expression that is made of constants, sums and calls.
-#[cycle(counting)]
-#[tactic(auto, using(crate::proofs::Trees::the_trees, crate::proofs::Sizes::the_typed_sizes))]
-fn calls_in(expr: &TExpr) -> u64 {
-    match expr {
-        TExpr::Call { args, .. } => calls_among(args.as_slice()),
-        TExpr::Binary { left, right, .. } => calls_in(left).saturating_add(calls_in(right)),
-        _ => 0,
-    }
-}
-
-#[cycle(counting)]
-#[tactic(auto, using(crate::proofs::Trees::the_trees, crate::proofs::Sizes::the_typed_sizes))]
-fn calls_among(exprs: &[TExpr]) -> u64 {
-    let mut count = 1u64;
-    for expr in exprs {
-        count = count.saturating_add(calls_in(expr));
-    }
-    count
-}
-
-#[test]
-fn a_tree_is_copied(rt: HostRuntime) -> Result<(), Fail> {
-    let alloc = rt.alloc();
-    let value = next(alloc, at(3), 0)?;
-    let other = next(alloc, at(5), 0)?;
-    let called = call(alloc, at(4), 1, other)?;
-    assert!(rt; same_type(&called.ty()?, &CType::Int(IntType::Int)));
-    let copy = called.copy()?;
-    assert_eq!(rt; copy.pos(), at(4));
-    assert_eq!(rt; calls_in(&copy), 1);
-    let statement = body(alloc, at(2), value, called)?;
-    let copy = statement.copy()?;
-    assert_eq!(rt; copy.pos(), at(2));
     Ok(())
 }
