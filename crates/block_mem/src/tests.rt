@@ -1,4 +1,5 @@
 ghost use Rattle.std.specs.Prelude.{◌≡◌, ◌<◌, length};
+ghost use Rattle.block_mem.specs.Proper.{IsProper};
 
 use crate::*;
 use c_syntax::{IntType, WrongKind};
@@ -7,16 +8,6 @@ use std::alloc::AllocError as NoMemory;
 const INT: Scalar = Scalar::Int(IntType::Int);
 
 const CHAR: Scalar = Scalar::Int(IntType::Char);
-
-const TARGET: Pointer = Pointer {
-    block: 5,
-    offset: -3,
-};
-
-const OTHER: Pointer = Pointer {
-    block: 5,
-    offset: 3,
-};
 
 // 0x01020304 is the bytes 4, 3, 2, 1, and 0xff is -1 as a char.
 #[test]
@@ -104,7 +95,8 @@ fn refuses_accesses_in_order(rt: HostRuntime) -> Result<(), NoMemory> {
 
 // Puts in a byte, where there is one.
 fn put(memory: &mut Memory, at: Pointer, byte: Byte) -> bool
-    requires { at.block < length memory.old }
+    requires made { at.block < length memory.old }
+    requires proper { IsProper (length memory.old) byte }
     ensures { length memory.new ≡ length memory.old }
 {
     match memory.access(at, 1, 1, false) {
@@ -139,11 +131,9 @@ fn cuts_pointers(rt: HostRuntime) -> Result<(), NoMemory> {
     let mut memory = Memory::new(rt.alloc());
     let block = memory.alloc_block(32, false)?;
     let at = Pointer { block, offset: 8 };
-    assert_eq!(rt;
-        memory.store(at, Scalar::Pointer, Value::Ptr(TARGET)),
-        Ok(())
-    );
-    assert_eq!(rt; memory.load(at, Scalar::Pointer), Ok(Value::Ptr(TARGET)));
+    let aim = Pointer { block, offset: -3 };
+    assert_eq!(rt; memory.store(at, Scalar::Pointer, Value::Ptr(aim)), Ok(()));
+    assert_eq!(rt; memory.load(at, Scalar::Pointer), Ok(Value::Ptr(aim)));
     assert_eq!(rt; memory.load(at, INT), Err(WrongKind::Fragment));
     let part = Pointer { block, offset: 11 };
     assert_eq!(rt;
@@ -159,15 +149,12 @@ fn cuts_pointers(rt: HostRuntime) -> Result<(), NoMemory> {
         memory.load(Pointer { block, offset: 15 }, CHAR),
         Err(WrongKind::Indeterminate)
     );
-    assert_eq!(rt;
-        memory.store(at, Scalar::Pointer, Value::Ptr(TARGET)),
-        Ok(())
-    );
+    assert_eq!(rt; memory.store(at, Scalar::Pointer, Value::Ptr(aim)), Ok(()));
     assert!(rt;
         put(
             &mut memory,
             Pointer { block, offset: 15 },
-            Byte::Frag(OTHER, 7)
+            Byte::Frag(Pointer { block, offset: 3 }, 7)
         )
     );
     assert_eq!(rt; memory.load(at, Scalar::Pointer), Err(WrongKind::Fragment));
@@ -187,12 +174,10 @@ fn copies_pointers(rt: HostRuntime) -> Result<(), NoMemory> {
         block: target,
         offset: 0,
     };
-    assert_eq!(rt;
-        memory.store(at, Scalar::Pointer, Value::Ptr(TARGET)),
-        Ok(())
-    );
+    let aim = Pointer { block, offset: -3 };
+    assert_eq!(rt; memory.store(at, Scalar::Pointer, Value::Ptr(aim)), Ok(()));
     assert!(rt; copied(&mut memory, to, at, 8));
-    assert_eq!(rt; memory.load(to, Scalar::Pointer), Ok(Value::Ptr(TARGET)));
+    assert_eq!(rt; memory.load(to, Scalar::Pointer), Ok(Value::Ptr(aim)));
     assert!(rt; copied(&mut memory, to, at, 4));
     assert_eq!(rt;
         memory.load(to, Scalar::Pointer),
@@ -202,19 +187,19 @@ fn copies_pointers(rt: HostRuntime) -> Result<(), NoMemory> {
     assert!(rt; copied(&mut memory, at, Pointer { block, offset: 0 }, 16));
     assert_eq!(rt;
         memory.load(Pointer { block, offset: 16 }, Scalar::Pointer),
-        Ok(Value::Ptr(TARGET))
+        Ok(Value::Ptr(aim))
     );
     assert_eq!(rt;
         memory.load(at, Scalar::Pointer),
         Err(WrongKind::Indeterminate)
     );
     assert!(rt; copied(&mut memory, Pointer { block, offset: 0 }, at, 16));
-    assert_eq!(rt; memory.load(at, Scalar::Pointer), Ok(Value::Ptr(TARGET)));
+    assert_eq!(rt; memory.load(at, Scalar::Pointer), Ok(Value::Ptr(aim)));
     // To a place that is no multiple of 8, over the pointer's own front.
     assert!(rt; copied(&mut memory, Pointer { block, offset: 12 }, at, 8));
     assert_eq!(rt; memory.load(at, CHAR), Err(WrongKind::Indeterminate));
     assert!(rt; copied(&mut memory, at, Pointer { block, offset: 12 }, 8));
-    assert_eq!(rt; memory.load(at, Scalar::Pointer), Ok(Value::Ptr(TARGET)));
+    assert_eq!(rt; memory.load(at, Scalar::Pointer), Ok(Value::Ptr(aim)));
     Ok(())
 }
 
@@ -231,5 +216,23 @@ fn puts_bytes_into_read_only_blocks(rt: HostRuntime) -> Result<(), NoMemory> {
         Err(WrongKind::ReadOnly)
     );
     assert_eq!(rt; memory.load(at, CHAR), Ok(Value::Int(IntType::Char, -56)));
+    Ok(())
+}
+
+#[test]
+fn puts_values_into_read_only_blocks(rt: HostRuntime) -> Result<(), NoMemory> {
+    let mut memory = Memory::new(rt.alloc());
+    let block = memory.alloc_block(2, true)?;
+    let at = Pointer { block, offset: 1 };
+    match memory.access(at, 1, 1, false) {
+        Ok(()) => memory.put(at, CHAR, Value::Int(IntType::Char, 7)),
+        Err(_) => return Ok(()),
+    }
+    assert_eq!(rt; memory.load(at, CHAR), Ok(Value::Int(IntType::Char, 7)));
+    assert_eq!(rt; memory.count(), 1);
+    assert_eq!(rt; memory.size(block), 2);
+    assert!(rt; memory.is_live(block));
+    memory.undefine(block);
+    assert_eq!(rt; memory.load(at, CHAR), Err(WrongKind::Indeterminate));
     Ok(())
 }
