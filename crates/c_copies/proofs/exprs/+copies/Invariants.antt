@@ -1,0 +1,49 @@
+use Rattle.std.proofs.Common.{◌≡◌, ◌+◌, ◌*◌, take}
+use Rattle.c_syntax.specs.TypedExpr.{texpr_tree, texprs_from, texprs_tree, tlvalue_tree}
+use Rattle.c_syntax.specs.Sizes.{texpr_size, texprs_size, tlvalue_size}
+use Rattle.c_copies.proofs.exprs.+copies.Given as goal
+
+abbrev pub invariant-copy_exprs-loop-item : goal.invariant-copy_exprs-loop-item
+invariant-copy_exprs-loop-item l = texprs_from l.items.items ≡ texprs_from (take l.item-index l.item-items)
+
+abbrev pub decreases-copy_expr : goal.decreases-copy_expr
+decreases-copy_expr l = 3 * texpr_size (texpr_tree l.expr.now)
+
+abbrev pub decreases-copy_place : goal.decreases-copy_place
+decreases-copy_place l = 3 * tlvalue_size (tlvalue_tree l.place.now)
+
+abbrev pub decreases-copy_exprs : goal.decreases-copy_exprs
+decreases-copy_exprs l = 3 * texprs_size (texprs_tree l.exprs.now)
+
+abbrev pub decreases-boxed_expr : goal.decreases-boxed_expr
+decreases-boxed_expr l = 3 * texpr_size (texpr_tree l.expr.now) + 1
+
+abbrev pub decreases-boxed_place : goal.decreases-boxed_place
+decreases-boxed_place l = 3 * tlvalue_size (tlvalue_tree l.place.now) + 1
+
+abbrev pub decreases-copy_conversion : goal.decreases-copy_conversion
+decreases-copy_conversion l = 3 * texpr_size (texpr_tree l.operand.now) + 2
+
+abbrev pub decreases-copy_binary : goal.decreases-copy_binary
+decreases-copy_binary l = 3 * (texpr_size (texpr_tree l.left.now) + texpr_size (texpr_tree l.right.now)) + 2
+
+abbrev pub decreases-copy_and : goal.decreases-copy_and
+decreases-copy_and l = 3 * (texpr_size (texpr_tree l.left.now) + texpr_size (texpr_tree l.right.now)) + 2
+
+abbrev pub decreases-copy_or : goal.decreases-copy_or
+decreases-copy_or l = 3 * (texpr_size (texpr_tree l.left.now) + texpr_size (texpr_tree l.right.now)) + 2
+
+abbrev pub decreases-copy_comma : goal.decreases-copy_comma
+decreases-copy_comma l = 3 * (texpr_size (texpr_tree l.left.now) + texpr_size (texpr_tree l.right.now)) + 2
+
+abbrev pub decreases-copy_assignment : goal.decreases-copy_assignment
+decreases-copy_assignment l = 3 * (tlvalue_size (tlvalue_tree l.place.now) + texpr_size (texpr_tree l.value.now)) + 2
+
+abbrev pub decreases-copy_struct_assignment : goal.decreases-copy_struct_assignment
+decreases-copy_struct_assignment l = 3 * (tlvalue_size (tlvalue_tree l.place.now) + texpr_size (texpr_tree l.source.now)) + 2
+
+abbrev pub decreases-copy_compound : goal.decreases-copy_compound
+decreases-copy_compound l = 3 * (tlvalue_size (tlvalue_tree l.place.now) + texpr_size (texpr_tree l.value.now)) + 2
+
+abbrev pub decreases-copy_choice : goal.decreases-copy_choice
+decreases-copy_choice l = 3 * (texpr_size (texpr_tree l.condition.now) + texpr_size (texpr_tree l.then.now) + texpr_size (texpr_tree l.otherwise.now)) + 2

@@ -1,0 +1,265 @@
+// Copies of typed statements and of what initialises an object.
+#![tactic(auto, using(c_syntax::proofs::Trees::the_trees, c_syntax::proofs::Sizes::the_typed_sizes))]
+
+ghost use Rattle.std.specs.Prelude.{◌≡◌, IfOk, map, option_map};
+ghost use Rattle.c_syntax.specs.TypedExpr.{texpr_tree};
+ghost use Rattle.c_syntax.specs.TypedStmt.{tinit_tree, tstmt_tree, tstmts_tree};
+ghost use Rattle.c_syntax.specs.TypedStmt as trees;
+
+use crate::exprs::copy_expr;
+use c_syntax::{BlockKind, Numbers, Pos, TExpr, TInit, TInits, TStmt, TStmts};
+use std::alloc::{AllocError as NoMemory, Global};
+
+/// The same item once more, which shares the types that stand in it.
+pub fn copy_init(alloc: Global, init: &TInit) -> Result<TInit, NoMemory>
+    ensures { IfOk result (λ copy. tinit_tree copy ≡ tinit_tree init.now) }
+{
+    match init {
+        TInit::Store { offset, ty, value } => Ok(TInit::Store {
+            offset: *offset,
+            ty: ty.copy()?,
+            value: copy_expr(alloc, value)?,
+        }),
+        TInit::Copy {
+            offset,
+            extent,
+            source,
+        } => Ok(TInit::Copy {
+            offset: *offset,
+            extent: *extent,
+            source: copy_expr(alloc, source)?,
+        }),
+    }
+}
+
+/// The same items once more, which share the types that stand in them.
+pub fn copy_inits(alloc: Global, inits: &TInits) -> Result<TInits, NoMemory>
+    ensures { IfOk result (λ copy. map tinit_tree copy ≡ map tinit_tree inits.now) }
+{
+    let mut items = Vec::new(alloc);
+    for item in inits.as_slice() {
+        items.push(copy_init(alloc, item)?)?;
+    }
+    Ok(TInits::from_vec(items))
+}
+
+/// The same statement once more, which shares the types that stand in it.
+#[cycle(copies)]
+pub fn copy_stmt(alloc: Global, stmt: &TStmt) -> Result<TStmt, NoMemory>
+    ensures { IfOk result (λ copy. tstmt_tree copy ≡ tstmt_tree stmt.now) }
+{
+    match stmt {
+        TStmt::Empty { pos } => Ok(TStmt::Empty { pos: *pos }),
+        TStmt::Expr { pos, value } => Ok(TStmt::Expr {
+            pos: *pos,
+            value: copy_expr(alloc, value)?,
+        }),
+        TStmt::Block {
+            pos,
+            kind,
+            objects,
+            items,
+        } => copy_block(alloc, *pos, *kind, objects, items),
+        TStmt::Declare {
+            pos,
+            object,
+            inits,
+            zeroes_rest,
+        } => Ok(TStmt::Declare {
+            pos: *pos,
+            object: *object,
+            inits: copy_inits(alloc, inits)?,
+            zeroes_rest: *zeroes_rest,
+        }),
+        TStmt::Static { pos, object } => Ok(TStmt::Static {
+            pos: *pos,
+            object: *object,
+        }),
+        TStmt::If {
+            pos,
+            condition,
+            then,
+            otherwise,
+        } => copy_if(alloc, *pos, condition, then, otherwise),
+        TStmt::While {
+            pos,
+            condition,
+            body,
+        } => copy_while(alloc, *pos, condition, body),
+        TStmt::DoWhile {
+            pos,
+            body,
+            condition,
+        } => copy_do_while(alloc, *pos, body, condition),
+        TStmt::For {
+            pos,
+            objects,
+            head,
+            condition,
+            step,
+            body,
+        } => copy_for(alloc, *pos, objects, head, condition, step, body),
+        TStmt::Switch {
+            pos,
+            value,
+            kind,
+            objects,
+            items,
+        } => copy_switch(alloc, *pos, value, *kind, objects, items),
+        TStmt::Break { pos } => Ok(TStmt::Break { pos: *pos }),
+        TStmt::Continue { pos } => Ok(TStmt::Continue { pos: *pos }),
+        TStmt::Goto { pos, label } => Ok(TStmt::Goto {
+            pos: *pos,
+            label: *label,
+        }),
+        TStmt::Return { pos, value } => Ok(TStmt::Return {
+            pos: *pos,
+            value: copy_option(alloc, value)?,
+        }),
+        TStmt::Label { pos, label } => Ok(TStmt::Label {
+            pos: *pos,
+            label: *label,
+        }),
+        TStmt::Case { pos, value } => Ok(TStmt::Case {
+            pos: *pos,
+            value: *value,
+        }),
+        TStmt::Default { pos } => Ok(TStmt::Default { pos: *pos }),
+    }
+}
+
+/// The same statements once more, which share the types that stand in them.
+#[cycle(copies)]
+pub fn copy_stmts(alloc: Global, stmts: &TStmts) -> Result<TStmts, NoMemory>
+    ensures { IfOk result (λ copy. tstmts_tree copy ≡ tstmts_tree stmts.now) }
+{
+    let mut items = Vec::new(alloc);
+    for item in stmts.as_slice() {
+        items.push(copy_stmt(alloc, item)?)?;
+    }
+    Ok(TStmts::from_vec(items))
+}
+
+#[cycle(copies)]
+fn boxed_stmt(alloc: Global, stmt: &TStmt) -> Result<Box<TStmt>, NoMemory>
+    ensures { IfOk result (λ copy. tstmt_tree copy.value ≡ tstmt_tree stmt.now) }
+{
+    let copy = copy_stmt(alloc, stmt)?;
+    Ok(Box::new(alloc, copy)?)
+}
+
+fn copy_option(alloc: Global, value: &Option<TExpr>) -> Result<Option<TExpr>, NoMemory>
+    ensures { IfOk result (λ copy. option_map texpr_tree copy ≡ option_map texpr_tree value.now) }
+{
+    match value {
+        None => Ok(None),
+        Some(expr) => Ok(Some(copy_expr(alloc, expr)?)),
+    }
+}
+
+#[cycle(copies)]
+fn copy_block(
+    alloc: Global,
+    pos: Pos,
+    kind: BlockKind,
+    objects: &Numbers,
+    items: &TStmts,
+) -> Result<TStmt, NoMemory>
+    ensures { IfOk result (λ copy. tstmt_tree copy ≡ trees.Block pos kind objects.now (tstmts_tree items.now)) }
+{
+    Ok(TStmt::Block {
+        pos,
+        kind,
+        objects: objects.copy()?,
+        items: copy_stmts(alloc, items)?,
+    })
+}
+
+#[cycle(copies)]
+fn copy_if(
+    alloc: Global,
+    pos: Pos,
+    condition: &TExpr,
+    then: &TStmt,
+    otherwise: &TStmt,
+) -> Result<TStmt, NoMemory>
+    ensures { IfOk result (λ copy. tstmt_tree copy ≡ trees.If pos (texpr_tree condition.now)
+        (tstmt_tree then.now) (tstmt_tree otherwise.now)) }
+{
+    Ok(TStmt::If {
+        pos,
+        condition: copy_expr(alloc, condition)?,
+        then: boxed_stmt(alloc, then)?,
+        otherwise: boxed_stmt(alloc, otherwise)?,
+    })
+}
+
+#[cycle(copies)]
+fn copy_while(alloc: Global, pos: Pos, condition: &TExpr, body: &TStmt) -> Result<TStmt, NoMemory>
+    ensures { IfOk result (λ copy. tstmt_tree copy ≡ trees.While pos (texpr_tree condition.now) (tstmt_tree body.now)) }
+{
+    Ok(TStmt::While {
+        pos,
+        condition: copy_expr(alloc, condition)?,
+        body: boxed_stmt(alloc, body)?,
+    })
+}
+
+#[cycle(copies)]
+fn copy_do_while(
+    alloc: Global,
+    pos: Pos,
+    body: &TStmt,
+    condition: &TExpr,
+) -> Result<TStmt, NoMemory>
+    ensures { IfOk result (λ copy. tstmt_tree copy ≡ trees.DoWhile pos (tstmt_tree body.now) (texpr_tree condition.now)) }
+{
+    Ok(TStmt::DoWhile {
+        pos,
+        body: boxed_stmt(alloc, body)?,
+        condition: copy_expr(alloc, condition)?,
+    })
+}
+
+#[cycle(copies)]
+fn copy_for(
+    alloc: Global,
+    pos: Pos,
+    objects: &Numbers,
+    head: &TStmts,
+    condition: &Option<TExpr>,
+    step: &Option<TExpr>,
+    body: &TStmt,
+) -> Result<TStmt, NoMemory>
+    ensures { IfOk result (λ copy. tstmt_tree copy ≡ trees.For pos objects.now (tstmts_tree head.now)
+        (option_map texpr_tree condition.now) (option_map texpr_tree step.now) (tstmt_tree body.now)) }
+{
+    Ok(TStmt::For {
+        pos,
+        objects: objects.copy()?,
+        head: copy_stmts(alloc, head)?,
+        condition: copy_option(alloc, condition)?,
+        step: copy_option(alloc, step)?,
+        body: boxed_stmt(alloc, body)?,
+    })
+}
+
+#[cycle(copies)]
+fn copy_switch(
+    alloc: Global,
+    pos: Pos,
+    value: &TExpr,
+    kind: BlockKind,
+    objects: &Numbers,
+    items: &TStmts,
+) -> Result<TStmt, NoMemory>
+    ensures { IfOk result (λ copy. tstmt_tree copy ≡ trees.Switch pos (texpr_tree value.now) kind objects.now (tstmts_tree items.now)) }
+{
+    Ok(TStmt::Switch {
+        pos,
+        value: copy_expr(alloc, value)?,
+        kind,
+        objects: objects.copy()?,
+        items: copy_stmts(alloc, items)?,
+    })
+}
