@@ -2,8 +2,8 @@
 //! initialises an object.
 //!
 //! A copy is built node by node from the leaves up. The types that stand in a tree are shared and
-//! not gone through, so a copy takes as many steps as the tree has nodes, however long its types
-//! are. The source stays as it is, and want of memory is the only error.
+//! not gone through, so a type of any length is one step. The source stays as it is, and want of
+//! memory is the only error.
 //!
 //! For example, the copy of `a + 1` is a new `Binary` with a new `Load` of `a` and a new `Const`
 //! of 1, at the same places of the text.

@@ -1,4 +1,5 @@
-// Copies of typed statements and of what initialises an object.
+// Copies of typed statements and of what initialises an object. Expressions are copied last, as a
+// step that fails then has few of them to drop.
 #![tactic(auto, using(c_syntax::proofs::Trees::the_trees, c_syntax::proofs::Sizes::the_typed_sizes))]
 
 ghost use Rattle.std.specs.Prelude.{◌≡◌, IfOk, map, option_map};
@@ -186,11 +187,13 @@ fn copy_if(
     ensures { IfOk result (λ copy. tstmt_tree copy ≡ trees.If pos (texpr_tree condition.now)
         (tstmt_tree then.now) (tstmt_tree otherwise.now)) }
 {
+    let then = boxed_stmt(alloc, then)?;
+    let otherwise = boxed_stmt(alloc, otherwise)?;
     Ok(TStmt::If {
         pos,
         condition: copy_expr(alloc, condition)?,
-        then: boxed_stmt(alloc, then)?,
-        otherwise: boxed_stmt(alloc, otherwise)?,
+        then,
+        otherwise,
     })
 }
 
@@ -198,10 +201,11 @@ fn copy_if(
 fn copy_while(alloc: Global, pos: Pos, condition: &TExpr, body: &TStmt) -> Result<TStmt, NoMemory>
     ensures { IfOk result (λ copy. tstmt_tree copy ≡ trees.While pos (texpr_tree condition.now) (tstmt_tree body.now)) }
 {
+    let body = boxed_stmt(alloc, body)?;
     Ok(TStmt::While {
         pos,
         condition: copy_expr(alloc, condition)?,
-        body: boxed_stmt(alloc, body)?,
+        body,
     })
 }
 
@@ -234,13 +238,15 @@ fn copy_for(
     ensures { IfOk result (λ copy. tstmt_tree copy ≡ trees.For pos objects.now (tstmts_tree head.now)
         (option_map texpr_tree condition.now) (option_map texpr_tree step.now) (tstmt_tree body.now)) }
 {
+    let head = copy_stmts(alloc, head)?;
+    let body = boxed_stmt(alloc, body)?;
     Ok(TStmt::For {
         pos,
         objects: objects.copy()?,
-        head: copy_stmts(alloc, head)?,
+        head,
         condition: copy_option(alloc, condition)?,
         step: copy_option(alloc, step)?,
-        body: boxed_stmt(alloc, body)?,
+        body,
     })
 }
 
@@ -255,11 +261,13 @@ fn copy_switch(
 ) -> Result<TStmt, NoMemory>
     ensures { IfOk result (λ copy. tstmt_tree copy ≡ trees.Switch pos (texpr_tree value.now) kind objects.now (tstmts_tree items.now)) }
 {
+    let objects = objects.copy()?;
+    let items = copy_stmts(alloc, items)?;
     Ok(TStmt::Switch {
         pos,
         value: copy_expr(alloc, value)?,
         kind,
-        objects: objects.copy()?,
-        items: copy_stmts(alloc, items)?,
+        objects,
+        items,
     })
 }
