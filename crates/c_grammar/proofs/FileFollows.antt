@@ -6,7 +6,7 @@ use Rattle.c_written.specs.Written.{ExprTree}
 use Rattle.c_written.specs.WrittenFile.{StmtTree}
 use Rattle.c_written.specs.WrittenFile as trees
 use Rattle.c_grammar.specs.Parts.{Scene, Part, within, Statement, Else, AStmt, Value}
-use Rattle.c_grammar.specs.Classes.{Class}
+use Rattle.c_grammar.specs.declared.class.Class.{Class}
 use Rattle.c_grammar.specs.Process.{Process, give, part}
 use Rattle.c_grammar.specs.Made.{ends_open}
 use Rattle.c_grammar.specs.Ahead.{is_spec_word}

@@ -9,8 +9,11 @@ use Rattle.c_written.specs.WrittenDecl.{InitTree, InitTrees, no_inits, more_init
 use Rattle.c_written.specs.WrittenDecl as inits
 use Rattle.c_written.specs.WrittenFile.{StmtTree, BlockItemTrees, none, more, blockitems_then, OuterTree}
 use Rattle.c_written.specs.WrittenFile as trees
-use Rattle.c_grammar.specs.Parts.{Scene, by_semicolon, by_parenthesis, within, switched, Naming, Assignment, Conditional, Declarator, Statement, Else, Declaration, Declared, Initial, Ending, Outer, OuterDeclared, OuterInitial, Part, AnExpr, ADeclarator, AStmt, ADecl, AnOuter, Close, Specs, Initialiser, Initialisers, MoreInitialisers, NextInitialiser, Optionally, ForStart, Items, Item, Outers, Value}
-use Rattle.c_grammar.specs.Classes.{keyword, sign, word, any_word, name_of}
+use Rattle.c_grammar.specs.declared.parts.Role.TheVariants.{Naming}
+use Rattle.c_grammar.specs.declared.parts.Closing.TheVariants.{BySemicolon as by_semicolon, ByParenthesis as by_parenthesis}
+use Rattle.c_grammar.specs.Parts.{Scene, within, switched, Assignment, Conditional, Declarator, Statement, Else, Declaration, Declared, Initial, Ending, Outer, OuterDeclared, OuterInitial, Part, AnExpr, ADeclarator, AStmt, ADecl, AnOuter, Close, Specs, Initialiser, Initialisers, MoreInitialisers, NextInitialiser, Optionally, ForStart, Items, Item, Outers, Value}
+use Rattle.c_grammar.specs.declared.class.Class.TheVariants.{Keyword as keyword, Sign as sign, Word as word, AnyWord as any_word}
+use Rattle.c_grammar.specs.Classes.{name_of}
 use Rattle.c_grammar.specs.Process.{Process, give, token, part, only}
 use Rattle.c_grammar.specs.Made.{specs_pos, ends_open, new_types}
 use Rattle.c_grammar.specs.Ahead.{spec_ahead, no_spec_ahead, label_ahead, no_label_ahead, no_left_bracket, at_end}
