@@ -68,21 +68,21 @@ pub data FileRule : Scene → (p : Part) → Process (Value p) → Type 0 where
   case : {w : Scene} {b : Bool} → FileRule w (AStmt (Statement b))
       (token 0 (keyword keywords.Case) (λ t. part 0 w (AnExpr Conditional) (λ v. token 0 (sign signs.Colon) (λ colon. substatement w false (λ body.
       give (trees.Case t.pos v body))))))
-  otherwise : {w : Scene} {b : Bool} → FileRule w (AStmt (Statement b))
+  default_statement : {w : Scene} {b : Bool} → FileRule w (AStmt (Statement b))
       (token 0 (keyword keywords.Default) (λ t. token 0 (sign signs.Colon) (λ colon. substatement w false (λ body. give (trees.Default t.pos body)))))
   block : {w : Scene} {b : Bool} → FileRule w (AStmt (Statement b))
       (token 1 (sign signs.LeftBrace) (λ t. part 1 (block_scene b w) (Items none) (λ items. give (trees.Block t.pos items))))
   empty : {w : Scene} {b : Bool} → FileRule w (AStmt (Statement b)) (token 0 (sign signs.Semicolon) (λ t. give (trees.Empty t.pos)))
   expression : {w : Scene} {b : Bool} → FileRule w (AStmt (Statement b))
       (only (no_label_ahead w) (part 0 w (AnExpr Expression) (λ e. token 0 (sign signs.Semicolon) (λ t. give (trees.Expression (expr_pos e) e)))))
-  conditional_statement : {w : Scene} {b : Bool} → FileRule w (AStmt (Statement b))
+  if_statement : {w : Scene} {b : Bool} → FileRule w (AStmt (Statement b))
       (token 0 (keyword keywords.If) (λ t. token 1 (sign signs.LeftParenthesis) (λ opening. part 1 w (AnExpr Expression) (λ condition.
       part 1 w (Close by_parenthesis) (λ close. substatement (within w) false (λ first. part 0 w (AStmt (Else t.pos condition first)) give))))))
   no_else : {w : Scene} {at : Pos} {condition : ExprTree} {first : StmtTree} → FileRule w (AStmt (Else at condition first)) (give (trees.If at condition first))
   with_else : {w : Scene} {at : Pos} {condition : ExprTree} {first : StmtTree} → FileRule w (AStmt (Else at condition first))
       (only (λ rest. not (ends_open first)) (token 0 (keyword keywords.Else) (λ t. substatement (within w) false (λ second.
       give (trees.IfElse at condition first second)))))
-  choice : {w : Scene} {b : Bool} → FileRule w (AStmt (Statement b))
+  switch_statement : {w : Scene} {b : Bool} → FileRule w (AStmt (Statement b))
       (token 0 (keyword keywords.Switch) (λ t. token 1 (sign signs.LeftParenthesis) (λ opening. part 1 w (AnExpr Expression) (λ v.
       part 1 w (Close by_parenthesis) (λ close. substatement (within w) true (λ body. give (trees.Switch t.pos v body)))))))
   while_loop : {w : Scene} {b : Bool} → FileRule w (AStmt (Statement b))
@@ -99,9 +99,9 @@ pub data FileRule : Scene → (p : Part) → Process (Value p) → Type 0 where
   jump : {w : Scene} {b : Bool} → FileRule w (AStmt (Statement b))
       (token 0 (keyword keywords.Goto) (λ t. token 0 any_word (λ name. token 0 (sign signs.Semicolon) (λ end.
       give (trees.Goto t.pos (name_of name.token))))))
-  next_turn : {w : Scene} {b : Bool} → FileRule w (AStmt (Statement b))
+  continue_statement : {w : Scene} {b : Bool} → FileRule w (AStmt (Statement b))
       (token 0 (keyword keywords.Continue) (λ t. token 0 (sign signs.Semicolon) (λ end. give (trees.Continue t.pos))))
-  leave : {w : Scene} {b : Bool} → FileRule w (AStmt (Statement b))
+  break_statement : {w : Scene} {b : Bool} → FileRule w (AStmt (Statement b))
       (token 0 (keyword keywords.Break) (λ t. token 0 (sign signs.Semicolon) (λ end. give (trees.Break t.pos))))
   return_statement : {w : Scene} {b : Bool} → FileRule w (AStmt (Statement b))
       (token 0 (keyword keywords.Return) (λ t. part 0 w (Optionally by_semicolon) (λ v. give (trees.Return t.pos v))))
