@@ -1,7 +1,8 @@
 // What is said of one token.
 #![tactic(auto, using(c_written::proofs::Trees::the_written_trees))]
 
-use crate::{Class, Context, Fault, Mark, Setting, TypeNames, comes, refused, taken};
+use crate::{Context, Fault, Mark, TypeNames, comes, refused, taken};
+use c_grammar::{Class, Setting};
 use c_written::{Placed, Pos, Punctuator, Token};
 use std::test::Fail;
 
