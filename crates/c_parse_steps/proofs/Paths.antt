@@ -81,11 +81,6 @@ pub lasts : {A : Type 0} {p i : Part} {goes : Outcome (Value p) → Type 0} {d :
 lasts {p = p} {d = d} {w = w} {view = view} {r = Ok x} path (given h) e = given (path.run _ (here h (subst (λ q. Follows d w p q x.1.now (Done (view x.0) x.1.now)) (sym (e x.0)) is_done)))
 lasts {r = Err f} path (halted g) e = halted (halts g (λ why rest h. path.run _ (stops_here h)))
 
--- what is left decides for all
-pub decides : {A V : Type 0} {goes others : Outcome V → Type 0} {view : A → V} (r : Result (A × Bor (List Placed)) Fault) → ((o : Outcome V) → goes o → others o) → Gives goes view r → Gives others view r
-decides (Ok x) step (given h) = given (step _ h)
-decides (Err f) step (halted h) = halted (halts h (λ why rest g. step _ g))
-
 -- what was read is the whole, in another form
 pub same_value : {A B V : Type 0} {goes : Outcome V → Type 0} {view : A → V} {other : B → V} {x : A × Bor (List Placed)} {y : B} → Gives goes view (Ok x) → other y ≡ view x.0 → Gives goes other (Ok (y, x.1))
 same_value {goes = goes} {x = x} (given h) e = given (subst (λ v. goes (Done v x.1.now)) (sym e) h)

@@ -13,8 +13,8 @@ use Rattle.c_grammar.specs.Ahead.{is_open, is_close, is_colon}
 use Rattle.c_grammar.specs.Refused.{is_brace, is_right_bracket}
 use Rattle.c_grammar.specs.Choice.{is_right_brace, is_semicolon, is_assign, is_star, is_const_word, is_else_word}
 use Rattle.c_parse_steps.specs.declared.context.Context.{Context}
-use Rattle.c_parse_steps.specs.declared.look.Mark.{Mark}
-use Rattle.c_parse_steps.specs.declared.look.Mark.TheVariants as marks
+use Rattle.c_parse_steps.specs.declared.look.Lookahead.{Lookahead}
+use Rattle.c_parse_steps.specs.declared.look.Lookahead.TheVariants as lookaheads
 
 -- the scene of the tokens
 abbrev pub scene_of : Context → Scene
@@ -36,17 +36,17 @@ is_text (kinds.Text bytes) = true
 is_text _ = false
 
 -- the token is the one that is looked for
-abbrev pub mark_test : Mark → Token → Bool
-mark_test marks.Open = is_open
-mark_test marks.Close = is_close
-mark_test marks.RightBracket = is_right_bracket
-mark_test marks.Brace = is_brace
-mark_test marks.RightBrace = is_right_brace
-mark_test marks.Semicolon = is_semicolon
-mark_test marks.Colon = is_colon
-mark_test marks.Assign = is_assign
-mark_test marks.Star = is_star
-mark_test marks.Question = is_question
-mark_test marks.Const = is_const_word
-mark_test marks.Else = is_else_word
-mark_test marks.Text = is_text
+abbrev pub lookahead_test : Lookahead → Token → Bool
+lookahead_test lookaheads.Open = is_open
+lookahead_test lookaheads.Close = is_close
+lookahead_test lookaheads.RightBracket = is_right_bracket
+lookahead_test lookaheads.Brace = is_brace
+lookahead_test lookaheads.RightBrace = is_right_brace
+lookahead_test lookaheads.Semicolon = is_semicolon
+lookahead_test lookaheads.Colon = is_colon
+lookahead_test lookaheads.Assign = is_assign
+lookahead_test lookaheads.Star = is_star
+lookahead_test lookaheads.Question = is_question
+lookahead_test lookaheads.Const = is_const_word
+lookahead_test lookaheads.Else = is_else_word
+lookahead_test lookaheads.Text = is_text

@@ -43,13 +43,13 @@ pub use kind::{
 };
 pub use level::{Operand, joint_at, joint_sign, operand_of};
 pub use look::{
-    Mark, comes, designator_ahead, label_ahead, params_ahead, plain_word_ahead, spec_ahead,
+    Lookahead, comes, designator_ahead, label_ahead, params_ahead, plain_word_ahead, spec_ahead,
     type_ahead, type_name_ahead,
 };
 pub use token::{barred, barred_call, first, refused, sign_at, taken};
 pub use type_kind::{
-    DirectKind, SpecKind, TagKind, TailKind, direct_at, spec_at, storage_word, tag_at,
-    tail_at, type_word,
+    DirectKind, SpecKind, TagKind, TailKind, direct_at, spec_at, storage_word, tag_at, tail_at,
+    type_word,
 };
 pub use type_names::TypeNames;
 pub use type_node::{
