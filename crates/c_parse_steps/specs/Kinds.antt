@@ -22,8 +22,8 @@ use Rattle.c_grammar.specs.Classes.{names_type, level_of}
 use Rattle.c_grammar.specs.Made.{is_bare_void}
 use Rattle.c_grammar.specs.Choice.{joint_of, same_level, assign_of_sign as compound_of_sign}
 use Rattle.c_grammar.specs.declared.parts.Level.TheVariants as levels
-use Rattle.c_parse_steps.specs.declared.level.Operand.{Operand}
-use Rattle.c_parse_steps.specs.declared.level.Operand.TheVariants as operands
+use Rattle.c_parse_steps.specs.declared.level.OperandKind.{OperandKind}
+use Rattle.c_parse_steps.specs.declared.level.OperandKind.TheVariants as operands
 use Rattle.c_parse_steps.specs.declared.kind.AssignKind.{AssignKind}
 use Rattle.c_parse_steps.specs.declared.kind.AssignKind.TheVariants as assigns
 use Rattle.c_parse_steps.specs.declared.kind.PrefixKind.{PrefixKind}
@@ -56,7 +56,7 @@ sign_at [] = None
 sign_at (t ∷ ts) = sign_of t.token
 
 -- what the joints of a level stand between
-abbrev pub operand_of : Level → Operand
+abbrev pub operand_of : Level → OperandKind
 operand_of levels.Commas = operands.Assignment
 operand_of levels.Ors = operands.Run levels.Ands
 operand_of levels.Ands = operands.Run levels.BitOrs

@@ -11,7 +11,7 @@ use c_written::{BinaryOp, Placed, Punctuator};
 
 /// What stands on either side of a joint of a level.
 #[derive(Clone, Copy, Debug, PartialEq, Eq)]
-pub enum Operand {
+pub enum OperandKind {
     Assignment,
     /// The operands of the next level, and joints between them.
     Run(Level),
@@ -19,21 +19,21 @@ pub enum Operand {
 }
 
 /// The operands of a level.
-pub fn operand_of(level: Level) -> Operand
+pub fn operand_of(level: Level) -> OperandKind
     ensures { result ≡ operand_of level }
 {
     match level {
-        Level::Commas => Operand::Assignment,
-        Level::Ors => Operand::Run(Level::Ands),
-        Level::Ands => Operand::Run(Level::BitOrs),
-        Level::BitOrs => Operand::Run(Level::BitXors),
-        Level::BitXors => Operand::Run(Level::BitAnds),
-        Level::BitAnds => Operand::Run(Level::Equalities),
-        Level::Equalities => Operand::Run(Level::Relations),
-        Level::Relations => Operand::Run(Level::Shifts),
-        Level::Shifts => Operand::Run(Level::Sums),
-        Level::Sums => Operand::Run(Level::Products),
-        Level::Products => Operand::Cast,
+        Level::Commas => OperandKind::Assignment,
+        Level::Ors => OperandKind::Run(Level::Ands),
+        Level::Ands => OperandKind::Run(Level::BitOrs),
+        Level::BitOrs => OperandKind::Run(Level::BitXors),
+        Level::BitXors => OperandKind::Run(Level::BitAnds),
+        Level::BitAnds => OperandKind::Run(Level::Equalities),
+        Level::Equalities => OperandKind::Run(Level::Relations),
+        Level::Relations => OperandKind::Run(Level::Shifts),
+        Level::Shifts => OperandKind::Run(Level::Sums),
+        Level::Sums => OperandKind::Run(Level::Products),
+        Level::Products => OperandKind::Cast,
     }
 }
 

@@ -41,7 +41,7 @@ pub use kind::{
     AssignKind, PrefixKind, PrimaryKind, SuffixKind, assign_at, assign_sign, prefix_at, primary_at,
     step_sign, suffix_at, unary_sign,
 };
-pub use level::{Operand, joint_at, joint_sign, operand_of};
+pub use level::{OperandKind, joint_at, joint_sign, operand_of};
 pub use look::{
     Lookahead, comes, designator_ahead, label_ahead, params_ahead, plain_word_ahead, spec_ahead,
     type_ahead, type_name_ahead,

@@ -12,18 +12,31 @@ use c_written::{Keyword, Placed, Punctuator, Token};
 /// Tokens that tell which production goes on.
 #[derive(Clone, Copy, Debug, PartialEq, Eq)]
 pub enum Lookahead {
+    /// `(`
     Open,
+    /// `)`
     Close,
+    /// `]`
     RightBracket,
+    /// `{`
     Brace,
+    /// `}`
     RightBrace,
+    /// `;`
     Semicolon,
+    /// `:`
     Colon,
+    /// `=`
     Assign,
+    /// `*`
     Star,
+    /// `?`
     Question,
+    /// `const`
     Const,
+    /// `else`
     Else,
+    /// `"a\n"`
     Text,
 }
 
