@@ -1,5 +1,5 @@
 -- What operators on numbers come to, from their checks.
-use Rattle.std.proofs.Common.{◌≡◌, ℕ, ◌-◌, ℤ, pos, neg_ℤ, Bool, true, false, refl, sym, subst, ap, ◌∙◌, ◌<◌, arith, List, [], ◌∷◌, Option, Some, None}
+use Rattle.std.proofs.Common.{◌≡◌, ℕ, ◌-◌, ℤ, pos, neg_ℤ, Bool, true, false, refl, sym, subst, ap, ◌∙◌, ◌<◌, arith, List, [], ◌∷◌, Option, Some}
 use Rattle.std.specs.Prelude.{◌&&◌, ◌≢◌, if◌then◌else◌, int_div, int_rem, int_lt, int_le, Result}
 use Rattle.std.specs.Ordering.{int_eq}
 use Rattle.std.proofs.lemmas.Int.{ints, quot-rem}
@@ -20,7 +20,7 @@ use Rattle.block_mem.specs.declared.types.Scalar.TheVariants as scalars
 use Rattle.block_mem.specs.declared.types.Value.{Value}
 use Rattle.block_mem.specs.declared.types.Value.TheVariants as values
 use Rattle.c_values.specs.Places.{ObjectMemory}
-use Rattle.c_values.specs.Looks.{looks, judge, Judged, Passes, FailsAs, Outcome, Gives, GoesWrong, outcome}
+use Rattle.c_values.specs.Looks.{looks, judge, Judged, Passes, FailsAs, Gives, GoesWrong, outcome}
 use Rattle.c_values.specs.Numbers.{exact_arithmetic, arithmetic, exact_shift, remainder}
 use Rattle.c_values.specs.Operators.{binary, unary, number_operand}
 use Rattle.c_values.specs.Answers.{Answers, ranged, divided}

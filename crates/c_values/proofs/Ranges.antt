@@ -1,9 +1,9 @@
 -- Numbers of the types lie within 65 bits, and so do their products within 128.
-use Rattle.std.proofs.Common.{◌≡◌, ℕ, suc, true, ◌+◌, ◌*◌, ◌-◌, ◌^◌, ◌<◌, ◌≤◌, ℤ, pos, negsuc, neg_ℤ, ◌*ℤ◌, ◌≤ℤ◌, ◌<ℤ◌, arith, FitsSigned, to_z, of_z, lit<, lit≤, sym, subst, ap, ◌∙◌}
+use Rattle.std.proofs.Common.{◌≡◌, ℕ, suc, true, ◌-◌, ◌^◌, ◌<◌, ◌≤◌, ℤ, pos, negsuc, ◌*ℤ◌, ◌≤ℤ◌, arith, FitsSigned, to_z, of_z, lit<, lit≤, sym, subst, ap, ◌∙◌}
 use Rattle.std.proofs.Math.Nat.{pow-le-pow_right, div-le_self}
 use Rattle.std.specs.Prelude.{nat_abs, int_div, int_lt, ◌-ℤ◌}
-use Rattle.std.specs.Int.{Width, w8, w16, w32, w64, w128, FitsUnsigned}
-use Rattle.std.proofs.lemmas.Int.{ints, fits_signed_mul, to_z-of_z}
+use Rattle.std.specs.Int.{Width, w64, w128}
+use Rattle.std.proofs.lemmas.Int.{ints, fits_signed_mul, to_z-of_z, quot_is}
 use Rattle.c_written.specs.declared.int_type.IntType.{IntType}
 use Rattle.c_written.specs.declared.int_type.IntType.TheVariants.{Char, SChar, UChar, Short, UShort, Int, UInt, Long, ULong, LLong, ULLong}
 use Rattle.c_written.specs.Integer.{HasNumber, is_signed, least, greatest, width}
@@ -171,3 +171,13 @@ code_bits t n l h low fn fl e =
     let is : n -ℤ (pos 2 *ℤ l) ≡ pos (bits_in t n) = ap (λ x. n -ℤ (pos 2 *ℤ x)) e ∙ bits_of_negative t n h low in
     let fits : FitsSigned w128 (pos (bits_in t n)) = omega (arith, ints, bits_below t n h low) in
     rw (to_z-of_z w128 n fn) (rw (to_z-of_z w128 l fl) (rw (to_z-of_z w128 (pos 2 *ℤ l) twice) (rw is (to_z-of_z w128 (pos (bits_in t n)) fits))))
+
+-- what the code's quotient of a difference is
+pub code_difference : (p q f g h : ℤ) (e : ℕ) → FitsSigned w64 p → FitsSigned w64 q → e < 2 ^ 64 → f ≡ p → g ≡ q → h ≡ pos e
+    → to_z w128 (of_z w128 (int_div (to_z w128 (of_z w128 (to_z w128 (of_z w128 f) -ℤ to_z w128 (of_z w128 g)))) (to_z w128 (of_z w128 h)))) ≡ int_div (p -ℤ q) (pos e)
+code_difference p q f g h e fp fq fe is same of =
+    let bytes : to_z w128 (of_z w128 p) -ℤ to_z w128 (of_z w128 q) ≡ p -ℤ q = omega (arith, ints) in
+    let few : FitsSigned w128 (p -ℤ q) = omega (arith, ints) in
+    let element : FitsSigned w128 (pos e) = omega (arith, ints) in
+    let fits : FitsSigned w128 (int_div (p -ℤ q) (pos e)) = omega (arith, ints, size_of_quotient (p -ℤ q) (pos e)) in
+    rw is (rw same (rw of (rw bytes (quot_is w128 (p -ℤ q) (pos e) few element fits))))

@@ -1,5 +1,5 @@
 -- Loads, stores, copies, tests of values and ends of calls: what their checks look at.
-use Rattle.std.specs.Prelude.{ℕ, pos, Bool, true, if◌then◌else◌, List, [], ◌∷◌, ◌++◌, Option, Some, None, Result, Ok, Err}
+use Rattle.std.specs.Prelude.{ℕ, pos, if◌then◌else◌, List, [], ◌∷◌, ◌++◌, Option, Some, None, Result, Ok, Err}
 use Rattle.c_syntax.specs.declared.alarm.WrongKind.{WrongKind}
 use Rattle.c_syntax.specs.declared.alarm.WrongKind.TheVariants as kinds
 use Rattle.c_syntax.specs.Types.{ObjectTree}
@@ -47,7 +47,7 @@ load_looks m ty v = looks (access_operand m ty v) (load_checks (plain_type ty))
 abbrev pub store_looks : ObjectMemory → Option Scalar → Value → List Look
 store_looks m ty v = looks (access_operand m None v) (store_checks (plain_type ty))
 
-abbrev ok_of : {A B : Type 0} → Result A B → Option A
+abbrev pub ok_of : {A B : Type 0} → Result A B → Option A
 ok_of (Ok a) = Some a
 ok_of (Err b) = None
 

@@ -6,3 +6,4 @@ pub mod Operators
 pub mod Accesses
 pub mod Typed
 pub mod Answers
+pub mod Memory

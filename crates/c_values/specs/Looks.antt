@@ -1,5 +1,5 @@
 -- What a row looks at before it acts: its checks in their order, each with its operand.
-use Rattle.std.specs.Prelude.{Bool, if◌then◌else◌, List, [], ◌∷◌, map, Option, None, Some}
+use Rattle.std.specs.Prelude.{if◌then◌else◌, List, [], ◌∷◌, map, Option, None, Some}
 use Rattle.c_syntax.specs.declared.alarm.Check.{Check}
 use Rattle.c_syntax.specs.declared.alarm.WrongKind.{WrongKind}
 use Rattle.c_syntax.specs.Types.{ObjectTree}

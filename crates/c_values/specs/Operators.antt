@@ -1,6 +1,5 @@
 -- Operators on values: what their checks look at, and what they give.
-use Rattle.std.specs.Prelude.{ℕ, ℤ, pos, ◌==◌, ◌+ℤ◌, ◌-ℤ◌, ◌*ℤ◌, neg_ℤ, int_div, Bool, not, if◌then◌else◌, List, Option, Some, None, option_and_then, option_map}
-use Rattle.c_written.specs.declared.int_type.IntType.{IntType}
+use Rattle.std.specs.Prelude.{ℕ, ℤ, pos, ◌==◌, ◌+ℤ◌, ◌-ℤ◌, ◌*ℤ◌, neg_ℤ, int_div, not, if◌then◌else◌, List, Option, Some, None, option_and_then, option_map}
 use Rattle.c_written.specs.declared.int_type.IntType.TheVariants as ints
 use Rattle.c_written.specs.Integer.{wrapped}
 use Rattle.c_syntax.specs.declared.alarm.WrongKind.{WrongKind}
@@ -27,7 +26,7 @@ use Rattle.c_values.specs.Numbers.{exact_arithmetic, arithmetic, exact_shift, sh
 
 -- ---- what operators give where their checks pass
 
-abbrev compared : Comparison → ℤ → ℤ → Option Value
+abbrev pub compared : Comparison → ℤ → ℤ → Option Value
 compared c a b = Some (bit (compares c a b))
 
 -- pointers into one block compare as their offsets; those into two blocks, and one that is null beside one that is not, are unequal (C11 6.5.8p5, 6.5.9p6)
@@ -109,7 +108,7 @@ pair_operand s t kinds.Unrelated = both s t
 pair_operand s t kind = None
 
 -- a pointer that is moved to this one
-abbrev moving_operand : ObjectMemory → Value → Option Value → WrongKind → Option Operand
+abbrev pub moving_operand : ObjectMemory → Value → Option Value → WrongKind → Option Operand
 moving_operand m v new = move_operand (spot m v) (option_and_then (spot m) new)
 
 abbrev pub binary_operand : ObjectMemory → TBinaryOp → Value → Value → WrongKind → Option Operand

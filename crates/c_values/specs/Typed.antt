@@ -1,8 +1,10 @@
 -- Operands and results of the operators' types.
-use Rattle.std.specs.Prelude.{◌≡◌, ◌^◌, ◌<◌, ◌≤◌, ℕ, Option, Some, None, IfSome}
-use Rattle.c_written.specs.declared.int_type.IntType.{IntType}
+use Rattle.std.specs.Prelude.{◌≡◌, ◌^◌, ◌<◌, ◌≤◌, ℕ, Option, Some, None, FitsSigned}
+use Rattle.std.specs.Int.{w64}
 use Rattle.c_written.specs.declared.int_type.IntType.TheVariants as ints
 use Rattle.c_written.specs.Integer.{HasNumber}
+use Rattle.c_syntax.specs.declared.alarm.Spot.{Spot}
+use Rattle.c_syntax.specs.declared.alarm.Spot.TheVariants as spots
 use Rattle.c_syntax.specs.declared.operator.TUnaryOp.{TUnaryOp}
 use Rattle.c_syntax.specs.declared.operator.TUnaryOp.TheVariants as unaries
 use Rattle.c_syntax.specs.declared.operator.TBinaryOp.{TBinaryOp}
@@ -73,3 +75,9 @@ IsConvertible (Some (scalars.Int t)) (givens.Value (values.Int u n)) = Unit {0}
 IsConvertible (Some scalars.Pointer) (givens.Value (values.Ptr p)) = Unit {0}
 IsConvertible (Some scalars.Pointer) (givens.Value values.Null) = Unit {0}
 IsConvertible ty g = ⊥
+
+-- the offset is one that a pointer may have
+abbrev pub IsNear : Spot → Type 0
+IsNear spots.Null = Unit {0}
+IsNear spots.Dead = Unit {0}
+IsNear (spots.At o d) = FitsSigned w64 d

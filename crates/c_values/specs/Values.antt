@@ -1,7 +1,6 @@
 -- What expressions give, and conversions.
-use Rattle.std.specs.Prelude.{ℕ, ℤ, pos, Bool, true, false, not, if◌then◌else◌, Option, None, Some}
+use Rattle.std.specs.Prelude.{pos, Bool, true, false, not, if◌then◌else◌, Option, None, Some}
 use Rattle.std.specs.Ordering.{int_eq}
-use Rattle.c_written.specs.declared.int_type.IntType.{IntType}
 use Rattle.c_written.specs.declared.int_type.IntType.TheVariants as ints
 use Rattle.c_written.specs.Integer.{wrapped}
 use Rattle.c_syntax.specs.Types.{CTypeTree, Void, Int, Pointer}

@@ -1,15 +1,11 @@
-use Rattle.std.proofs.Common.{◌≡◌, ℕ, ℤ, pos, neg_ℤ, ◌-ℤ◌, ◌+ℤ◌, ◌*ℤ◌, ◌<◌, ◌≤◌, ◌^◌, FitsSigned, to_z, of_z, ap, sym, subst, ◌∙◌, arith, refl, rules, Some}
+use Rattle.std.proofs.Common.{◌≡◌, ◌-ℤ◌, ◌+ℤ◌, FitsSigned, ap, sym, subst, ◌∙◌, arith}
 use Rattle.std.specs.Int.{w128}
-use Rattle.std.proofs.lemmas.Int.{ints, to_z-of_z, quot_is, rem_is}
-use Rattle.c_values.specs.Answers.{Answers, ranged, divided}
-use Rattle.c_values.specs.Looks.{outcome}
-use Rattle.c_values.specs.Operators.{binary, unary}
-use Rattle.c_values.proofs.Outcomes.{multiplied, added, subtracted, quotients, remainders, negated, left_answers, division_passes, division_fails, remainder_is}
-use Rattle.c_values.proofs.Ranges.{width_some, signed_product, shifted_product, product_is, size_of_number}
-use Rattle.c_written.specs.Integer.{least, greatest, wrapped}
-use Rattle.c_syntax.specs.declared.alarm.WrongKind.TheVariants as kinds
+use Rattle.std.proofs.lemmas.Int.{ints, to_z-of_z}
+use Rattle.c_values.specs.Answers.{Answers}
+use Rattle.c_values.specs.Operators.{binary}
+use Rattle.c_values.proofs.Outcomes.{multiplied, added, subtracted, quotients, remainders}
+use Rattle.c_values.proofs.Ranges.{size_of_number}
 use Rattle.c_syntax.specs.declared.operator.TBinaryOp.TheVariants as binaries
-use Rattle.c_syntax.specs.declared.operator.Arithmetic.{Arithmetic}
 use Rattle.block_mem.specs.declared.types.Value.TheVariants as values
 use Rattle.c_values.proofs.numbers.arithmetic.Goals as goal
 
@@ -49,4 +45,3 @@ returns-in-Subtract c = λ objects m.
     let is : binary objects m (binaries.Arithmetic c.args.op t) (values.Int t a) (values.Int t b) ≡ _ = ap (λ op. binary objects m (binaries.Arithmetic op t) (values.Int t a) (values.Int t b)) c.in-Subtract.is ∙ subtracted objects m t a b in
     let fits : FitsSigned w128 (a -ℤ b) = omega (arith, ints, size_of_number t a c.requires.left, size_of_number t b c.requires.right) in
     subst (λ o. Answers c.of_type-in-Subtract.result o) (sym is) (simp to_z-of_z at c.of_type-in-Subtract.ensures)
-

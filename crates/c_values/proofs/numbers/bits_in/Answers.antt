@@ -1,4 +1,4 @@
-use Rattle.std.proofs.Common.{◌≡◌, true, ℤ, pos, FitsSigned, ap, rules, arith}
+use Rattle.std.proofs.Common.{◌≡◌, true, pos, FitsSigned, ap, rules, arith}
 use Rattle.std.specs.Prelude.{int_lt, nat_abs}
 use Rattle.std.specs.Int.{w128}
 use Rattle.std.proofs.lemmas.Int.{to_z-of_z}

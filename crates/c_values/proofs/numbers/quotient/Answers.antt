@@ -1,18 +1,14 @@
-use Rattle.std.proofs.Common.{◌≡◌, ℕ, ℤ, pos, neg_ℤ, ◌-ℤ◌, ◌+ℤ◌, ◌*ℤ◌, ◌<◌, ◌≤◌, ◌^◌, FitsSigned, to_z, of_z, ap, sym, subst, ◌∙◌, arith, refl, rules, Some}
+use Rattle.std.proofs.Common.{◌≡◌, pos, FitsSigned, of_z, ap, subst, arith}
 use Rattle.std.specs.Int.{w128}
-use Rattle.std.proofs.lemmas.Int.{ints, to_z-of_z, quot_is, rem_is}
-use Rattle.c_values.specs.Answers.{Answers, ranged, divided}
+use Rattle.std.proofs.lemmas.Int.{ints, quot_is}
+use Rattle.c_values.specs.Answers.{ranged}
 use Rattle.std.specs.Prelude.{int_div}
 use Rattle.c_syntax.specs.Operand.{operand_of}
-use Rattle.c_values.specs.Looks.{outcome, Gives, GoesWrong}
-use Rattle.c_values.specs.Operators.{binary, unary}
-use Rattle.c_values.proofs.Outcomes.{multiplied, added, subtracted, quotients, remainders, negated, left_answers, division_passes, division_fails, remainder_is}
-use Rattle.c_values.proofs.Ranges.{width_some, signed_product, shifted_product, product_is, size_of_number, size_of_quotient}
-use Rattle.c_written.specs.Integer.{least, greatest, wrapped}
+use Rattle.c_values.specs.Looks.{Gives, GoesWrong}
+use Rattle.c_values.proofs.Outcomes.{division_passes, division_fails}
+use Rattle.c_values.proofs.Ranges.{size_of_number, size_of_quotient}
+use Rattle.c_written.specs.Integer.{least, greatest}
 use Rattle.c_syntax.specs.declared.alarm.WrongKind.TheVariants as kinds
-use Rattle.c_syntax.specs.declared.operator.TBinaryOp.TheVariants as binaries
-use Rattle.c_syntax.specs.declared.operator.Arithmetic.{Arithmetic}
-use Rattle.block_mem.specs.declared.types.Value.TheVariants as values
 use Rattle.c_values.proofs.numbers.quotient.Goals as goal
 
 pub returns-in-Ok-clause-checked : goal.returns-in-Ok-clause-checked
