@@ -1,0 +1,11 @@
+pub mod World
+pub mod SameTypes
+pub mod Names
+pub mod Stub
+pub mod Operands
+pub mod Constants
+pub mod Rows
+pub mod Specifiers
+pub mod Declarators
+pub mod Nodes
+pub mod Typing
