@@ -9,3 +9,5 @@ pub mod Specifiers
 pub mod Declarators
 pub mod Nodes
 pub mod Typing
+pub mod CurrentObject
+pub mod Inits
