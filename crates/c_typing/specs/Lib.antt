@@ -11,3 +11,5 @@ pub mod Nodes
 pub mod Typing
 pub mod CurrentObject
 pub mod Inits
+pub mod Context
+pub mod Decls
