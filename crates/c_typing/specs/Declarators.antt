@@ -4,7 +4,7 @@ use Rattle.c_written.specs.declared.place.Pos.{Pos}
 use Rattle.c_written.specs.declared.construct.Construct.TheVariants as constructs
 use Rattle.c_syntax.specs.declared.op.Op.TheVariants as ops
 use Rattle.c_syntax.specs.Types.{CTypeTree, Void, Int, Pointer, Array, Struct, Function}
-use Rattle.c_typing.specs.World.{World, Form, Whole, Unsized, Callable, Binding, TagBinding, Refusal, NoRule, NotConstant, ObjectTooLarge, Unsupported, Outcome, Typed, Refused}
+use Rattle.c_typing.specs.World.{World, Form, Whole, Unsized, Callable, Binding, TagBinding, Refusal, no_rule, NotConstant, ObjectTooLarge, Unsupported, Outcome, Typed, Refused}
 use Rattle.c_typing.specs.Operands.{complete_size}
 
 -- a name that a declarator has, and its place
@@ -52,7 +52,7 @@ if_sized refusal outcome (Some size) = outcome size
 
 -- an object, a member, a parameter and an element have a complete type (C11 6.7p7, 6.7.2.1p3, 6.7.6.2p1, 6.7.6.3p4)
 abbrev pub unless_incomplete : {A : Type 0} → World → Pos → CTypeTree → (ℕ → Outcome A) → Outcome A
-unless_incomplete w at ty outcome = if_sized (NoRule at ops.Init ty None) outcome (complete_size w.structs ty)
+unless_incomplete w at ty outcome = if_sized (no_rule w at ops.Init ty None) outcome (complete_size w.structs ty)
 
 -- a pointer to what the rest of the declarator says (C11 6.7.6.1p1)
 abbrev pub pointer_form : World → Pos → Bool → Form → Outcome Form
@@ -79,13 +79,13 @@ open_form w at (Callable params result) = Refused (Unsupported at constructs.Fun
 
 -- a result is a scalar or void; const of it is ignored (C11 6.7.6.3p1, this profile)
 abbrev pub result_form : World → Pos → List CTypeTree → CTypeTree → Outcome Form
-result_form w at params (Array of is_const n) = Refused (NoRule at ops.Init (Array of is_const n) None)
+result_form w at params (Array of is_const n) = Refused (no_rule w at ops.Init (Array of is_const n) None)
 result_form w at params (Struct n) = Refused (Unsupported at constructs.StructByValue)
 result_form w at params ty = Typed (Callable params ty) w
 
 abbrev pub function_form : World → Pos → List CTypeTree → Form → Outcome Form
 function_form w at params (Whole ty is_const) = result_form w at params ty
-function_form w at params result = Refused (NoRule at ops.Init (shown w result) None)
+function_form w at params result = Refused (no_rule w at ops.Init (shown w result) None)
 
 abbrev pub types_of_params : List ParameterTree → List CTypeTree
 types_of_params params = map (λ param. param.ty) params

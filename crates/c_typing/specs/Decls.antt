@@ -16,7 +16,7 @@ use Rattle.c_syntax.specs.TypedStmt as stmts
 use Rattle.c_layout.specs.Layout.{size_in}
 use Rattle.c_layout.specs.RowTypes.{has_const_elements}
 use Rattle.c_layout.specs.WellTyped.{is_array}
-use Rattle.c_typing.specs.World.{World, Form, Whole, Unsized, Callable, Meaning, Object, Missing, Function, TypeName, Binding, Linked, NoRule, Undeclared, Redeclared, NotConstant, ObjectTooLarge, Unsupported, Outcome, Typed, Refused, Then, Is, unless}
+use Rattle.c_typing.specs.World.{World, Form, Whole, Unsized, Callable, Meaning, Object, Missing, Function, TypeName, Binding, Linked, no_rule, Undeclared, Redeclared, NotConstant, ObjectTooLarge, Unsupported, Outcome, Typed, Refused, Then, Is, unless}
 use Rattle.c_typing.specs.SameTypes.{is_same_truth, is_same, are_same}
 use Rattle.c_typing.specs.Names.{input_type, is_assume, is_assert, is_reserved, first_here, unless_declared, with_name, linked_as, object_limit, within_limits, with_initial}
 use Rattle.c_typing.specs.Operands.{is_unsized}
@@ -76,11 +76,16 @@ abbrev pub reserved_declared : World → DeclaredName → List CTypeTree → CTy
 reserved_declared w named params result has_body =
     if is_input_type params result (input_type named.name) && not has_body then Typed None w else Refused (Redeclared named.pos named.pos)
 
--- the function of this number has these parameters and this result
-abbrev pub is_function_so : World → List CTypeTree → CTypeTree → Meaning → Bool
-is_function_so w params result (Function n) =
-    are_same params (unwrap_or (slice_get w.signatures n) []) && is_same result (unwrap_or (option_map (λ f. f.result) (slice_get w.functions n)) Void)
-is_function_so w params result meaning = false
+-- whether a function has a body already
+abbrev pub has_body_before : World → ℕ → Bool
+has_body_before w n = is_some (option_and_then (λ f. f.body) (slice_get w.functions n))
+
+-- the function of this number has these parameters and this result, and a body once at most (C11 6.7p4, 6.9p3)
+abbrev pub is_function_so : World → List CTypeTree → CTypeTree → Bool → Meaning → Bool
+is_function_so w params result has_body (Function n) =
+    (are_same params (unwrap_or (slice_get w.signatures n) []) && is_same result (unwrap_or (option_map (λ f. f.result) (slice_get w.functions n)) Void))
+    && not (has_body && has_body_before w n)
+is_function_so w params result has_body meaning = false
 
 -- main takes nothing, and its result is int (C11 5.1.2.2.1p1, this profile)
 abbrev pub is_main_shape : List CTypeTree → CTypeTree → Bool
@@ -136,7 +141,7 @@ function_again w around named params types result (Some l) = Typed (Some (number
 abbrev pub function_declared : World → Context → DeclaredName → List ParameterTree → List CTypeTree → CTypeTree → Bool → Outcome (Option ℕ)
 function_declared w around named params types result has_body =
     if is_reserved named.name then reserved_declared w named types result has_body
-    else unless_other named.pos (binding_here w named.name) (linked_as w named.name) (is_function_so w types result) (λ linked.
+    else unless_other named.pos (binding_here w named.name) (linked_as w named.name) (is_function_so w types result has_body) (λ linked.
       unless_main_shape named (is_main_shape types result) (function_again w around named params types result linked))
 
 -- ---- objects
@@ -186,7 +191,7 @@ local_declared w named (Unsized of is_const) is_static has_init =
     unless_declared named.pos (first_here w named.pos named.name)
       (unless (not has_init) (NotConstant named.pos)
       (Typed (AnObject (local_now w named (Array of is_const 0) is_static true)) (local_object w named (Array of is_const 0) false is_static 0)))
-local_declared w named (Callable params result) is_static has_init = Refused (NoRule named.pos ops.Init (unknown_function w) None)
+local_declared w named (Callable params result) is_static has_init = Refused (no_rule w named.pos ops.Init (unknown_function w) None)
 
 -- an array without size agrees with any array of its element (C11 6.7.6.2p6)
 abbrev pub is_same_object : CTypeTree → CTypeTree → Bool
@@ -261,17 +266,21 @@ abbrev pub file_now : World → DeclaredName → CTypeTree → FileObject → Op
 file_now w named ty how linked measured =
     record { number = object_number w linked; pos = named.pos; ty = ty; is_static = true; in_block = how.in_block; measured = measured }
 
+-- an object that the file has, whose initialiser may follow
+abbrev pub declares : FileObject → ObjectNow → Declares
+declares how object = if how.is_there then AnObject object else NoObject
+
 -- an object of the file whose size is told, here or before
 abbrev pub file_sized : World → DeclaredName → CTypeTree → Bool → FileObject → Option Linked → Outcome Declares
 file_sized w named ty is_const how linked =
     unless_incomplete w named.pos ty (λ size. counted_once w named.pos size how linked (λ v.
-      unless_main_shape named false (Typed (AnObject (file_now w named ty how linked false)) (object_world v named ty is_const size how linked))))
+      unless_main_shape named false (Typed (declares how (file_now w named ty how linked false)) (object_world v named ty is_const size how linked))))
 
 -- one whose size is not told yet: by its initialiser, or, in an `extern` declaration alone, later (C11 6.7.9p22, this profile)
 abbrev pub file_unsized : World → DeclaredName → CTypeTree → FileObject → Option Linked → Outcome Declares
 file_unsized w named ty how linked =
     unless (how.defines && not how.has_init) (NotConstant named.pos)
-      (unless_main_shape named false (Typed (AnObject (file_now w named ty how linked how.has_init)) (object_world w named ty false 0 how linked)))
+      (unless_main_shape named false (Typed (declares how (file_now w named ty how linked how.has_init)) (object_world w named ty false 0 how linked)))
 
 abbrev pub file_object : World → DeclaredName → CTypeTree → Bool → FileObject → Option Linked → Outcome Declares
 file_object w named ty is_const how linked =
@@ -284,7 +293,7 @@ composite_type w ty (Some l) = composite (type_before w l.meaning ty) ty
 -- an object of the file, in the file or by `extern` in a block, where it takes no initialiser (C11 6.7.9p5, 6.9.2)
 abbrev pub file_declared : World → DeclaredName → CTypeTree → Bool → FileObject → Outcome Declares
 file_declared w named ty is_const how =
-    unless (how.in_block && how.has_init) (NoRule named.pos ops.Init ty None)
+    unless (how.in_block && how.has_init) (no_rule w named.pos ops.Init ty None)
       (if is_reserved named.name then Refused (Redeclared named.pos named.pos)
       else unless_other named.pos (binding_here w named.name) (linked_as w named.name) (is_object_again w ty is_const how.has_init) (λ linked.
         file_object w named (composite_type w ty linked) is_const how linked))
@@ -293,7 +302,7 @@ file_declared w named ty is_const how =
 abbrev pub file_form : World → DeclaredName → Form → FileObject → Outcome Declares
 file_form w named (Whole ty is_const) how = unless_incomplete w named.pos ty (λ size. file_declared w named ty is_const how)
 file_form w named (Unsized of is_const) how = file_declared w named (Array of is_const 0) false how
-file_form w named (Callable params result) how = Refused (NoRule named.pos ops.Init (unknown_function w) None)
+file_form w named (Callable params result) how = Refused (no_rule w named.pos ops.Init (unknown_function w) None)
 
 -- ---- typedef names
 
@@ -334,7 +343,7 @@ no_object (Refused r) = Refused r
 -- a function takes no initialiser (C11 6.7.9p3)
 abbrev pub prototype_declared : World → Context → List Step → DeclaredName → List CTypeTree → CTypeTree → Bool → Outcome Declares
 prototype_declared w around steps named types result has_init =
-    unless has_init (NoRule named.pos ops.Init (unknown_function w) None)
+    unless has_init (no_rule w named.pos ops.Init (unknown_function w) None)
       (no_object (function_declared w around named (parameters_of steps types named.pos) types result false))
 
 abbrev pub name_declared : World → Context → List StorageWord → List Step → DeclaredName → Bool → Outcome Form → Outcome Declares

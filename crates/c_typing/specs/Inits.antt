@@ -19,7 +19,7 @@ use Rattle.c_syntax.specs.Types.{CTypeTree, Void, Int, Pointer, Array, Struct, O
 use Rattle.c_syntax.specs.TypedExpr.{TExprTree, Const}
 use Rattle.c_syntax.specs.TypedParts.{texpr_type}
 use Rattle.c_syntax.specs.TypedStmt.{TInitTree, Store, Copy}
-use Rattle.c_typing.specs.World.{World, Form, Whole, Unsized, Callable, NoRule, NotConstant, Refusal, Outcome, Typed, Refused, Then, Is, unless}
+use Rattle.c_typing.specs.World.{World, Form, Whole, Unsized, Callable, no_rule, NotConstant, Refusal, Outcome, Typed, Refused, Then, Is, unless}
 use Rattle.c_typing.specs.Constants.{constant_value, Address, Nowhere, Inside, static_address}
 use Rattle.c_typing.specs.Rows.{Stored, Scalar, Copied, is_scalar, stored_row}
 use Rattle.c_typing.specs.Operands.{OperandTree}
@@ -48,12 +48,12 @@ filled_by w static part at refusal (Some stored) =
     unless (static && not (is_static_item w.objects stored)) (NotConstant at) (Typed (item_of part.offset part.ty stored) w)
 
 -- what a scalar takes has its type beside it where it is refused; an aggregate has none
-abbrev pub no_init : Pos → CTypeTree → TExprTree → Refusal
-no_init at ty e = NoRule at ops.Init ty (if is_scalar ty then Some (texpr_type e) else None)
+abbrev pub no_init : World → Pos → CTypeTree → TExprTree → Refusal
+no_init w at ty e = no_rule w at ops.Init ty (if is_scalar ty then Some (texpr_type e) else None)
 
 -- a value at this place of the text fills a part, as by `=` (C11 6.7.9p11 and p13)
 abbrev pub fill : World → Bool → Part → Pos → TExprTree → Outcome TInitTree
-fill w static part at e = filled_by w static part at (no_init at part.ty e) (stored_row w.structs part.ty (texpr_type e) e)
+fill w static part at e = filled_by w static part at (no_init w at part.ty e) (stored_row w.structs part.ty (texpr_type e) e)
 
 -- ---- a string literal in an array of characters
 
@@ -77,7 +77,7 @@ text_for n text = if length text == n then text else text ++ 0 ∷ []
 -- a literal in an array of so many characters
 abbrev pub fill_text : World → Part → ℕ → Pos → List ℕ → Outcome (List TInitTree)
 fill_text w part n at text =
-    unless (nat_lt n (length text)) (NoRule at ops.Init part.ty None) (Typed (text_items at (element_type part.ty) part.offset (text_for n text)) w)
+    unless (nat_lt n (length text)) (no_rule w at ops.Init part.ty None) (Typed (text_items at (element_type part.ty) part.offset (text_for n text)) w)
 
 -- how many characters a literal has room for: those of the array, or as many as it has with its zero where the array has no size
 abbrev pub room : Option ℕ → List ℕ → ℕ
@@ -114,12 +114,12 @@ pub record Into {A : Type 0} (structs : _) (takes : CTypeTree → Bool) (part : 
   pub goes : next part2 after o
 
 -- an expression, and then this refusal
-abbrev pub TypedAndRefused : {A : Type 0} → World → written.ExprTree → Refusal → Outcome A → Type 0
-TypedAndRefused w e refusal o = Then (Valued (Types w e)) (λ x w1. Is (Refused refusal)) o
+abbrev pub TypedAndRefused : {A : Type 0} → World → written.ExprTree → (World → Refusal) → Outcome A → Type 0
+TypedAndRefused w e refusal o = Then (Valued (Types w e)) (λ x w1. Is (Refused (refusal w1))) o
 
 -- one item too many, which is typed before it is refused
-abbrev pub excess : CTypeTree → Pos → Refusal
-excess ty at = NoRule at ops.Init ty None
+abbrev pub excess : World → CTypeTree → Pos → Refusal
+excess w ty at = no_rule w at ops.Init ty None
 
 -- a literal fills an array of characters, or is a pointer's value
 abbrev pub WithText : World → Bool → Part → Pos → List ℕ → Outcome (List TInitTree) → Type 0
@@ -137,28 +137,28 @@ unfoldable mutual
   pub TypesItems : World → Bool → CTypeTree → Filled → InitTrees → Outcome Filled → Type 0
   TypesItems w static whole done inits.no_inits o = Is (Typed done w) o
   TypesItems w static whole done (inits.more_inits (inits.Braces at inner) rest) o =
-      AtPart (next_part w.structs done.aggregates) (Is (Refused (excess whole at))) (λ part.
-      Either (is_scalar_in_braces done.aggregates) (TypesInBraces w (λ e. excess whole (expr_pos e)) at inner)
+      AtPart (next_part w.structs done.aggregates) (Is (Refused (excess w whole at))) (λ part.
+      Either (is_scalar_in_braces done.aggregates) (TypesInBraces w (λ v e. excess v whole (expr_pos e)) at inner)
         (Then (TypesItems w static part.ty (filled_so [] (in_braces (frame_of w.structs part))) inner) (λ filled w1.
         TypesItems w1 static whole (filled_so (done.items ++ filled.items) (after_part done.aggregates)) rest))) o
   TypesItems w static whole done (inits.more_inits (inits.Value (written.Strings at text)) rest) o =
       Either (is_text_in_braces done.aggregates)
         (Then (Is (fill_text w (record { ty = whole; offset = done.aggregates.inner.offset }) (room done.aggregates.inner.count text) at text)) (λ items w1.
         TypesItems w1 static whole (filled_so items (full_of done.aggregates text)) rest))
-        (AtPart (next_part w.structs done.aggregates) (TypedAndRefused w (written.Strings at text) (excess whole at)) (λ part.
+        (AtPart (next_part w.structs done.aggregates) (TypedAndRefused w (written.Strings at text) (λ v. excess v whole at)) (λ part.
         Into w.structs takes_text part (after_part done.aggregates) (λ inner after.
         Then (WithText w static inner at text) (λ items w1. TypesItems w1 static whole (filled_so (done.items ++ items) after) rest)))) o
   TypesItems w static whole done (inits.more_inits (inits.Value e) rest) o =
-      AtPart (next_part w.structs done.aggregates) (TypedAndRefused w e (excess whole (expr_pos e))) (λ part.
+      AtPart (next_part w.structs done.aggregates) (TypedAndRefused w e (λ v. excess v whole (expr_pos e))) (λ part.
       Then (Valued (Types w e)) (λ x w1.
       Into w1.structs (takes_value (texpr_type x)) part (after_part done.aggregates) (λ inner after.
       Then (Is (fill w1 static inner (expr_pos e) x)) (λ item w2. TypesItems w2 static whole (filled_so (done.items ++ item ∷ []) after) rest)))) o
 
   -- the first expression in braces that stand round a scalar's own braces (this profile)
-  pub TypesInBraces : World → (written.ExprTree → Refusal) → Pos → InitTrees → Outcome Filled → Type 0
+  pub TypesInBraces : World → (World → written.ExprTree → Refusal) → Pos → InitTrees → Outcome Filled → Type 0
   TypesInBraces w refusal at inits.no_inits o = Is (Refused (NotConstant at)) o
   TypesInBraces w refusal at (inits.more_inits (inits.Braces inner_at inner) rest) o = TypesInBraces w refusal inner_at inner o
-  TypesInBraces w refusal at (inits.more_inits (inits.Value e) rest) o = TypedAndRefused w e (refusal e) o
+  TypesInBraces w refusal at (inits.more_inits (inits.Value e) rest) o = TypedAndRefused w e (λ v. refusal v e) o
 
 -- ---- whole initialisers
 

@@ -13,3 +13,4 @@ pub mod CurrentObject
 pub mod Inits
 pub mod Context
 pub mod Decls
+pub mod Stmts

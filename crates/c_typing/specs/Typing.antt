@@ -15,7 +15,7 @@ use Rattle.c_syntax.specs.TypedExpr.{TExprTree, TExprTrees, none, texprs_then}
 use Rattle.c_syntax.specs.Program.{MemberTree}
 use Rattle.c_layout.specs.Layout.{Space, padded, members_end, spaces_by, stored, align_in}
 use Rattle.c_layout.specs.RowTypes.{has_const_elements}
-use Rattle.c_typing.specs.World.{World, Form, Whole, Unsized, Callable, Binding, TagBinding, Meaning, Parameter, TypeName, Enumeration, NoRule, Undeclared, Redeclared, NotConstant, ObjectTooLarge, Unsupported, Outcome, Typed, Refused, Then, Is, unless}
+use Rattle.c_typing.specs.World.{World, Form, Whole, Unsized, Callable, Binding, TagBinding, Meaning, Parameter, TypeName, Enumeration, no_rule, Undeclared, Redeclared, NotConstant, ObjectTooLarge, Unsupported, Outcome, Typed, Refused, Then, Is, unless}
 use Rattle.c_typing.specs.Names.{meaning_of, first_here, unless_declared, opened, closed, with_name, struct_named, struct_opened, with_members, enum_named, enum_opened, enum_closed}
 use Rattle.c_typing.specs.Constants.{constant_value}
 use Rattle.c_typing.specs.Operands.{OperandTree, Place, Value, value_of, operand_type}
@@ -105,7 +105,7 @@ member_sized w named ty is_const done size =
 abbrev pub member_of : World → DeclaredName → Form → List MemberMade → Outcome (List MemberMade)
 member_of w named (Whole ty is_const) done = unless_incomplete w named.pos ty (member_sized w named ty is_const done)
 member_of w named (Unsized of is_const) done = Refused (Unsupported named.pos constructs.FlexibleArray)
-member_of w named (Callable params result) done = Refused (NoRule named.pos ops.Init (unknown_function w) None)
+member_of w named (Callable params result) done = Refused (no_rule w named.pos ops.Init (unknown_function w) None)
 
 abbrev pub member_laid : DeclaredName → List MemberMade → Outcome Form → Outcome (List MemberMade)
 member_laid named done (Typed form w) = member_of w named form done

@@ -1,5 +1,5 @@
 -- What a program has up to a place of its text, and what comes of typing a part of it.
-use Rattle.std.specs.Prelude.{◌≡◌, ℕ, ℤ, Bool, if◌then◌else◌, List, Option}
+use Rattle.std.specs.Prelude.{◌≡◌, ℕ, ℤ, Bool, if◌then◌else◌, List, map, Option}
 use Rattle.c_written.specs.declared.place.Pos.{Pos}
 use Rattle.c_written.specs.declared.construct.Construct.{Construct}
 use Rattle.c_syntax.specs.declared.op.Op.{Op}
@@ -78,9 +78,10 @@ pub record World : Type 0 where
   pub cases : List CaseAt
   pub default : Option Pos
 
--- why a program has no types. What is Redeclared has its own place and that of the first declaration; what is too large its size
+-- why a program has no types. No row has these operand types, printed by the tags of the structs so far; what is Redeclared has its own place
+-- and that of the first declaration; what is too large its size
 pub data Refusal : Type 0 where
-  NoRule : Pos → Op → CTypeTree → Option CTypeTree → Refusal
+  NoRule : Pos → Op → CTypeTree → Option CTypeTree → List (List ℕ) → Refusal
   Undeclared : Pos → Refusal
   Redeclared : Pos → Pos → Refusal
   NotConstant : Pos → Refusal
@@ -102,6 +103,14 @@ pub data Then {A B : Type 0} (first : Outcome A → Type 0) (next : A → World 
 -- this is the outcome
 abbrev pub Is : {A : Type 0} → Outcome A → Outcome A → Type 0
 Is outcome o = o ≡ outcome
+
+-- the tags of the structs that are declared so far, by their numbers
+abbrev pub tags_of : World → List (List ℕ)
+tags_of w = map (λ def. def.tag) w.structs
+
+-- no row has these types
+abbrev pub no_rule : World → Pos → Op → CTypeTree → Option CTypeTree → Refusal
+no_rule w at op left right = NoRule at op left right (tags_of w)
 
 -- typed as it is, or refused
 abbrev pub unless : {A : Type 0} → Bool → Refusal → Outcome A → Outcome A
