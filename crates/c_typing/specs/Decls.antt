@@ -242,8 +242,18 @@ first_object w named ty is_const size how =
     if how.is_there then with_linked (with_object w (object_of named ty is_const size true)) named (Object (length w.objects)) how.defines
     else with_linked w named (Missing ty is_const) false
 
+abbrev pub missing_if : List ℕ → CTypeTree → Bool → Linked → Linked
+missing_if name ty is_const l = if bytes_eq l.name name then record l { meaning = Missing ty is_const } else l
+
+-- the entity has the type of all its declarations so far
+abbrev pub with_type : World → List ℕ → Meaning → CTypeTree → ℕ → World
+with_type w name (Object n) ty size = with_sized w n ty size
+with_type w name (Missing before is_const) ty size = record w { linked = map (missing_if name ty is_const) w.linked }
+with_type w name meaning ty size = w
+
 abbrev pub again_object : World → DeclaredName → CTypeTree → ℕ → FileObject → Linked → World
-again_object w named ty size how l = with_defined (with_name (with_sized w (number_of l.meaning) ty size) named.pos named.name l.meaning) named.name how.defines
+again_object w named ty size how l =
+    with_defined (with_name (with_type w named.name l.meaning ty size) named.pos named.name l.meaning) named.name how.defines
 
 abbrev pub object_world : World → DeclaredName → CTypeTree → Bool → ℕ → FileObject → Option Linked → World
 object_world w named ty is_const size how None = first_object w named ty is_const size how

@@ -14,3 +14,6 @@ pub mod Inits
 pub mod Context
 pub mod Decls
 pub mod Stmts
+pub mod Settled
+pub mod File
+pub mod Laws
