@@ -98,11 +98,11 @@ abbrev pub filled_so : List TInitTree → Aggregates → Filled
 filled_so items a = record { items = items; aggregates = a }
 
 -- with this in the next part, or what is refused where all parts are filled
-abbrev pub AtPart : {A : Type 0} → Option Part → (Outcome A → Type 0) → (Part → Outcome A → Type 0) → Outcome A → Type 0
+unfoldable pub AtPart : {A : Type 0} → Option Part → (Outcome A → Type 0) → (Part → Outcome A → Type 0) → Outcome A → Type 0
 AtPart None full next o = full o
 AtPart (Some part) full next o = next part o
 
-abbrev pub Either : {A : Type 0} → Bool → (Outcome A → Type 0) → (Outcome A → Type 0) → Outcome A → Type 0
+unfoldable pub Either : {A : Type 0} → Bool → (Outcome A → Type 0) → (Outcome A → Type 0) → Outcome A → Type 0
 Either true one other o = one o
 Either false one other o = other o
 
