@@ -1,8 +1,10 @@
 /* Loaded before the C library, it lets the allocation of number FAIL_AT fail, counted from 1. With FAIL_COUNT set it
-   tells on standard error how many there were. The repository's own checks run the program over it. */
+   tells on standard error how many there were. A realloc that fits the block wants no memory, as that of a list which
+   gives back what it does not use, and is not counted. The repository's own checks run the program over it. */
 #define _GNU_SOURCE
 #include <dlfcn.h>
 #include <errno.h>
+#include <malloc.h>
 #include <stdio.h>
 #include <stdlib.h>
 
@@ -25,7 +27,7 @@ void *malloc(size_t size) {
 void *realloc(void *old, size_t size) {
   static void *(*real)(void *, size_t);
   if (real == NULL) real = (void *(*)(void *, size_t))dlsym(RTLD_NEXT, "realloc");
-  if (!fails()) return real(old, size);
+  if (size <= malloc_usable_size(old) || !fails()) return real(old, size);
   errno = ENOMEM;
   return NULL;
 }

@@ -95,6 +95,10 @@ stored_bytes m at ty v made of inside =
     ∙ ap (get_bytes (stored (block_at m at.block).bytes (place at) (bytes_of v)) (place at)) (sym size)
     ∙ get-stored (block_at m at.block).bytes (place at) (bytes_of v) (omega (arith, size))
 
+-- what was put in stands there, whatever else is asked of the access
+pub loaded-store : (m : List BlockView) (at : Pointer) (ty : Scalar) (v : Value) → at.block < length m → IsOf ty v → place at + size_of ty ≤ length (block_at m at.block).bytes → loaded ty (bytes_at (store m at v) at (size_of ty)) ≡ Ok v
+loaded-store m at ty v made of inside = ap (loaded ty) (stored_bytes m at ty v made of inside) ∙ loaded-value ty v of
+
 -- what was stored is loaded
 pub load-store : (m : List BlockView) (at : Pointer) (ty : Scalar) (v : Value) → at.block < length m → IsOf ty v → wrong_access m at (size_of ty) (size_of ty) true ≡ None → load (store m at v) at ty ≡ Ok v
 load-store m at ty v made of passes =
@@ -104,14 +108,7 @@ load-store m at ty v made of passes =
     ap (λ (x : BlockView). wrong_in x at.offset (size_of ty) (size_of ty) false) (block-same m at.block bs made)
     ∙ read_after b bs at.offset (size_of ty) (size_of ty) (length-stored b.bytes (place at) (bytes_of v)) passes in
     ap (λ w. after_access w (loaded ty (bytes_at (store m at v) at (size_of ty)))) right
-    ∙ ap (loaded ty) (stored_bytes m at ty v made of (inside_access b at.offset (size_of ty) (size_of ty) true passes))
-    ∙ loaded-value ty v of
-
--- what was put in stands there
-pub loaded-put : (m : List BlockView) (at : Pointer) (ty : Scalar) (v : Value) → at.block < length m → IsOf ty v → wrong_access m at (size_of ty) 1 false ≡ None → loaded ty (bytes_at (store m at v) at (size_of ty)) ≡ Ok v
-loaded-put m at ty v made of passes =
-    ap (loaded ty) (stored_bytes m at ty v made of (inside_access (block_at m at.block) at.offset (size_of ty) 1 false passes))
-    ∙ loaded-value ty v of
+    ∙ loaded-store m at ty v made of (inside_access b at.offset (size_of ty) (size_of ty) true passes)
 
 -- some of some bytes
 pub get-get : (bs : List Byte) (p s i k : ℕ) → i + k ≤ s → get_bytes bs (p + i) k ≡ get_bytes (get_bytes bs p s) i k

@@ -328,14 +328,9 @@ keeps_whole m at n new made size inside is =
       left = subst (λ k. AreWhole m → (q : ℕ) → IsOutside (place at) k q → IsLeft bs (place at) k q (get_or (block_at (with_bytes m at.block (stored bs (place at) new)) at.block).bytes q Undef)) size (left_written m at new made);
     }
 
-pub whole-store : (m : List BlockView) (at : Pointer) (ty : Scalar) (v : Value) → at.block < length m → IsOf ty v → wrong_access m at (size_of ty) (size_of ty) true ≡ None → KeepsWhole m (store m at v) at (size_of ty)
-whole-store m at ty v made of passes =
-    keeps_whole m at (size_of ty) (bytes_of v) made (length-value ty v of) (inside_access (block_at m at.block) at.offset (size_of ty) (size_of ty) true passes) (λ _. whole-value v)
-
--- a value that is put in with no alignment asked and into a block that may be read-only
-pub whole-put : (m : List BlockView) (at : Pointer) (ty : Scalar) (v : Value) → at.block < length m → IsOf ty v → wrong_access m at (size_of ty) 1 false ≡ None → KeepsWhole m (store m at v) at (size_of ty)
-whole-put m at ty v made of passes =
-    keeps_whole m at (size_of ty) (bytes_of v) made (length-value ty v of) (inside_access (block_at m at.block) at.offset (size_of ty) 1 false passes) (λ _. whole-value v)
+-- a value that is stored, or put in with no alignment asked and into a block that may be read-only
+pub whole-store : (m : List BlockView) (at : Pointer) (ty : Scalar) (v : Value) → at.block < length m → IsOf ty v → place at + size_of ty ≤ length (block_at m at.block).bytes → KeepsWhole m (store m at v) at (size_of ty)
+whole-store m at ty v made of inside = keeps_whole m at (size_of ty) (bytes_of v) made (length-value ty v of) inside (λ _. whole-value v)
 
 pub whole-copy : (m : List BlockView) (to from : Pointer) (n : ℕ) → to.block < length m → wrong_access m to n 1 false ≡ None → wrong_access m from n 1 false ≡ None → KeepsWhole m (copy m to from n) to n
 whole-copy m to from n made target source =

@@ -1,7 +1,7 @@
 // Whole numbers as bytes.
-ghost use Rattle.std.specs.Prelude.{◌≡◌, ◌<◌, ◌≤◌, ◌+◌, ◌*◌, ◌^◌, pos, IsTrue, ◌↔◌, length, IfSome};
+ghost use Rattle.std.specs.Prelude.{◌≡◌, ◌<◌, ◌≤◌, ◌+◌, ◌*◌, ◌^◌, pos, length, IfSome};
 ghost use Rattle.std.specs.Int.{byte_len};
-ghost use Rattle.c_written.specs.Integer.{std_width, is_signed, HasNumber};
+ghost use Rattle.c_written.specs.Integer.{std_width, HasNumber};
 ghost use Rattle.block_mem.specs.Numbers.{bits_in, number_in, low_bytes, number_of};
 
 use crate::types::Byte;
@@ -12,12 +12,7 @@ pub fn size_of(ty: IntType) -> usize
     ensures value { result ≡ byte_len (std_width ty) }
     ensures bound { result ≤ 8 }
 {
-    match ty {
-        IntType::Char | IntType::SChar | IntType::UChar => 1,
-        IntType::Short | IntType::UShort => 2,
-        IntType::Int | IntType::UInt => 4,
-        IntType::Long | IntType::ULong | IntType::LLong | IntType::ULLong => 8,
-    }
+    usize::from(ty.bytes())
 }
 
 /// How many numbers a type has.
@@ -29,21 +24,6 @@ fn count_of(ty: IntType) -> i128
         2 => 0x1_0000,
         4 => 0x1_0000_0000,
         _ => 0x1_0000_0000_0000_0000,
-    }
-}
-
-fn has_sign(ty: IntType) -> bool
-    ensures { result ≡ is_signed ty }
-{
-    match ty {
-        IntType::Char
-        | IntType::SChar
-        | IntType::Short
-        | IntType::Int
-        | IntType::Long
-        | IntType::LLong => true,
-        IntType::UChar | IntType::UShort | IntType::UInt | IntType::ULong | IntType::ULLong =>
-            false,
     }
 }
 
@@ -66,7 +46,7 @@ pub fn number_in(ty: IntType, bits: u64) -> i128
     ensures fits { HasNumber ty result }
 {
     let number = i128::from(bits);
-    if has_sign(ty) && number >= count_of(ty) / 2 {
+    if ty.is_signed() && number >= count_of(ty) / 2 {
         number - count_of(ty)
     } else {
         number

@@ -5,8 +5,12 @@ use Rattle.c_written.specs.declared.construct.Construct.TheVariants as construct
 use Rattle.c_written.specs.declared.token.Placed.{Placed}
 use Rattle.c_written.specs.declared.token.Token.{Token}
 use Rattle.c_written.specs.declared.token.Token.TheVariants as kinds
-use Rattle.c_grammar.specs.Parts.{Scene, Role, Naming, OfParameter, Level, Commas, Operand, Suffixes, Declarator, Pointed, Direct, Tails, Size, Parameters, Declared, OuterDeclared, Part, AnExpr, ADeclarator, ADecl, AnOuter, AfterType, MoreSpecs, MoreDeclarators, Parameter, Initialiser, Initialisers, NextInitialiser, Value}
-use Rattle.c_grammar.specs.Classes.{Class}
+use Rattle.c_grammar.specs.declared.parts.Level.{Level}
+use Rattle.c_grammar.specs.declared.parts.Level.TheVariants.{Commas}
+use Rattle.c_grammar.specs.declared.parts.Role.{Role}
+use Rattle.c_grammar.specs.declared.parts.Role.TheVariants.{Naming, OfParameter}
+use Rattle.c_grammar.specs.Parts.{Scene, Operand, Suffixes, Declarator, Pointed, Direct, Tails, Size, Parameters, Declared, OuterDeclared, Part, AnExpr, ADeclarator, ADecl, AnOuter, AfterType, MoreSpecs, MoreDeclarators, Parameter, Initialiser, Initialisers, NextInitialiser, Value}
+use Rattle.c_grammar.specs.declared.class.Class.{Class}
 use Rattle.c_grammar.specs.Process.{Process}
 use Rattle.c_grammar.specs.Ahead.{is_open, is_spec_word, begins_spec, spec_ahead, close_ahead, params_ahead}
 use Rattle.c_grammar.specs.ExprRules.{ExprRule, operand}

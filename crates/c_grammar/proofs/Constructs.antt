@@ -5,8 +5,14 @@ use Rattle.c_written.specs.declared.token.Keyword.{Keyword}
 use Rattle.c_written.specs.declared.token.Placed.{Placed}
 use Rattle.c_written.specs.declared.token.Token.{Token}
 use Rattle.c_written.specs.declared.token.Token.TheVariants as kinds
-use Rattle.c_grammar.specs.Parts.{Setting, AtFile, InBlock, InSwitch, Scene, Level, Commas, ExprPart, Run, More, Operand, Unary, Suffixes, DeclaratorPart, Declarator, Direct, Tails, Size, Part, AnExpr, ASpec, ADeclarator, AStmt, AfterType, Specs, MoreSpecs, MoreDeclarators, AnEnumerator, EnumeratorValue, Parameter, Initialiser, Item, Value}
-use Rattle.c_grammar.specs.Classes.{Class, keyword, sign, names_type}
+use Rattle.c_grammar.specs.declared.parts.Setting.{Setting}
+use Rattle.c_grammar.specs.declared.parts.Setting.TheVariants.{AtFile, InBlock, InSwitch}
+use Rattle.c_grammar.specs.declared.parts.Level.{Level}
+use Rattle.c_grammar.specs.declared.parts.Level.TheVariants.{Commas}
+use Rattle.c_grammar.specs.Parts.{Scene, ExprPart, Run, More, Operand, Unary, Suffixes, DeclaratorPart, Declarator, Direct, Tails, Size, Part, AnExpr, ASpec, ADeclarator, AStmt, AfterType, Specs, MoreSpecs, MoreDeclarators, AnEnumerator, EnumeratorValue, Parameter, Initialiser, Item, Value}
+use Rattle.c_grammar.specs.declared.class.Class.{Class}
+use Rattle.c_grammar.specs.declared.class.Class.TheVariants.{Keyword as keyword, Sign as sign}
+use Rattle.c_grammar.specs.Classes.{names_type}
 use Rattle.c_grammar.specs.Made.{is_word, has_type, is_given, ends_open}
 use Rattle.c_grammar.specs.Ahead.{is_open, is_colon, is_plain_word, is_spec_word, spec_ahead, close_ahead, params_ahead}
 use Rattle.c_grammar.specs.Refused.{token_construct, keyword_construct, sign_construct, part_construct, where_true, may_name, may_omit, in_member, is_brace, begins_designator, is_right_bracket, is_type_name}

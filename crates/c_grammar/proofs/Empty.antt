@@ -6,8 +6,13 @@ use Rattle.c_written.specs.declared.token.Punctuator.TheVariants as signs
 use Rattle.c_written.specs.declared.token.Token.{Token}
 use Rattle.c_written.specs.declared.token.Token.TheVariants as kinds
 use Rattle.c_written.specs.Written.{ExprTree, DeclaratorTree}
-use Rattle.c_grammar.specs.Parts.{Scene, Part, Level, Commas, Ors, Ands, BitOrs, BitXors, BitAnds, Equalities, Relations, Shifts, Sums, Products, Joint, Role, Value}
-use Rattle.c_grammar.specs.Classes.{sign, level_of, names_type}
+use Rattle.c_grammar.specs.declared.parts.Level.{Level}
+use Rattle.c_grammar.specs.declared.parts.Level.TheVariants.{Commas, Ors, Ands, BitOrs, BitXors, BitAnds, Equalities, Relations, Shifts, Sums, Products}
+use Rattle.c_grammar.specs.declared.parts.Joint.{Joint}
+use Rattle.c_grammar.specs.declared.parts.Role.{Role}
+use Rattle.c_grammar.specs.Parts.{Scene, Part, Value}
+use Rattle.c_grammar.specs.declared.class.Class.TheVariants.{Sign as sign}
+use Rattle.c_grammar.specs.Classes.{level_of, names_type}
 use Rattle.c_grammar.specs.Process.{Process}
 use Rattle.c_grammar.specs.Made.{ends_open}
 use Rattle.c_grammar.specs.Ahead.{spec_ahead}

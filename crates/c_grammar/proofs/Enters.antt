@@ -1,8 +1,10 @@
 -- What a production begins with, its part begins with.
 use Rattle.std.proofs.Common.{◌≡◌, refl, sym, ◌∙◌, subst, Bool, true, List, [], ◌∷◌}
 use Rattle.c_written.specs.declared.token.Placed.{Placed}
-use Rattle.c_grammar.specs.Parts.{Scene, Part, Level, Commas, AnExpr, Value}
-use Rattle.c_grammar.specs.Classes.{Class}
+use Rattle.c_grammar.specs.declared.parts.Level.{Level}
+use Rattle.c_grammar.specs.declared.parts.Level.TheVariants.{Commas}
+use Rattle.c_grammar.specs.Parts.{Scene, Part, AnExpr, Value}
+use Rattle.c_grammar.specs.declared.class.Class.{Class}
 use Rattle.c_grammar.specs.Process.{Process, give, token, part, only}
 use Rattle.c_grammar.specs.Ahead.{is_spec_word}
 use Rattle.c_grammar.specs.ExprRules.{ExprRule, operand}

@@ -1,8 +1,13 @@
 -- What follows the parts of the productions of expressions.
 use Rattle.std.proofs.Common.{◌≡◌, refl, true, not, lit≤}
 use Rattle.c_written.specs.Written.{ExprTree}
-use Rattle.c_grammar.specs.Parts.{Scene, Part, Closing, by_semicolon, by_parenthesis, by_bracket, by_colon, Level, Commas, Ors, More, AnExpr, Value}
-use Rattle.c_grammar.specs.Classes.{sign, closing_sign}
+use Rattle.c_grammar.specs.declared.parts.Level.{Level}
+use Rattle.c_grammar.specs.declared.parts.Level.TheVariants.{Commas, Ors}
+use Rattle.c_grammar.specs.declared.parts.Closing.{Closing}
+use Rattle.c_grammar.specs.declared.parts.Closing.TheVariants.{BySemicolon as by_semicolon, ByParenthesis as by_parenthesis, ByBracket as by_bracket, ByColon as by_colon}
+use Rattle.c_grammar.specs.Parts.{Scene, Part, More, AnExpr, Value}
+use Rattle.c_grammar.specs.declared.class.Class.TheVariants.{Sign as sign}
+use Rattle.c_grammar.specs.Classes.{closing_sign}
 use Rattle.c_grammar.specs.Process.{Process}
 use Rattle.c_grammar.specs.Ahead.{is_spec_word}
 use Rattle.c_grammar.specs.ExprRules.{ExprRule, operand}

@@ -11,8 +11,13 @@ use Rattle.c_written.specs.declared.written.AssignOp.TheVariants as assigns
 use Rattle.c_written.specs.declared.written.UnaryOp.{UnaryOp}
 use Rattle.c_written.specs.declared.written.UnaryOp.TheVariants as unaries
 use Rattle.c_written.specs.Written.{ExprTree}
-use Rattle.c_grammar.specs.Parts.{Scene, Closing, by_semicolon, by_parenthesis, by_bracket, by_colon, Part, Level, Commas, AnExpr, More, Assigned, Suffixes, Unary, Run, Assignment, Optionally, Value}
-use Rattle.c_grammar.specs.Classes.{Fits, word, number, character, text, unary_sign, step_sign, closing_sign, level_of, assign_sign}
+use Rattle.c_grammar.specs.declared.parts.Level.{Level}
+use Rattle.c_grammar.specs.declared.parts.Level.TheVariants.{Commas}
+use Rattle.c_grammar.specs.declared.parts.Closing.{Closing}
+use Rattle.c_grammar.specs.declared.parts.Closing.TheVariants.{BySemicolon as by_semicolon, ByParenthesis as by_parenthesis, ByBracket as by_bracket, ByColon as by_colon}
+use Rattle.c_grammar.specs.Parts.{Scene, Part, AnExpr, More, Assigned, Suffixes, Unary, Run, Assignment, Optionally, Value}
+use Rattle.c_grammar.specs.declared.class.Class.TheVariants.{Word as word, Number as number, Character as character, Text as text}
+use Rattle.c_grammar.specs.Classes.{Fits, unary_sign, step_sign, closing_sign, level_of, assign_sign}
 use Rattle.c_grammar.specs.Process.{Process}
 use Rattle.c_grammar.specs.Ahead.{type_ahead}
 use Rattle.c_grammar.specs.ExprRules.{ExprRule}

@@ -6,7 +6,7 @@ use Rattle.c_written.specs.Written.{ExprTree}
 use Rattle.c_written.specs.WrittenFile.{StmtTree}
 use Rattle.c_written.specs.WrittenFile as trees
 use Rattle.c_grammar.specs.Parts.{Scene, Part, within, Statement, Else, AStmt, Value}
-use Rattle.c_grammar.specs.Classes.{Class}
+use Rattle.c_grammar.specs.declared.class.Class.{Class}
 use Rattle.c_grammar.specs.Process.{Process, give, part}
 use Rattle.c_grammar.specs.Made.{ends_open}
 use Rattle.c_grammar.specs.Ahead.{is_spec_word}
@@ -73,20 +73,20 @@ file_follows files.declaration_end = plain refl (λ t f. well_give)
 file_follows files.declaration_more = plain refl (λ t f. ahead refl (λ d. (refl, refl, λ b e. never e)) (λ d. refl) (λ d. lit≤ tt) (λ d. closed (λ b c. refl)))
 file_follows files.label = well_only (plain refl (λ t f. plain refl (λ c g. well_only (last refl (λ body. else_itself (ends_open body))))))
 file_follows files.case = plain refl (λ t f. ahead refl (λ v. refl) (λ v. refl) (λ v. tt) (λ v. plain refl (λ c g. well_only (last refl (λ body. else_itself (ends_open body))))))
-file_follows files.otherwise = plain refl (λ t f. plain refl (λ c g. well_only (last refl (λ body. else_itself (ends_open body)))))
+file_follows files.default_statement = plain refl (λ t f. plain refl (λ c g. well_only (last refl (λ body. else_itself (ends_open body)))))
 file_follows files.block = nested (lit≤ tt) (λ t f. closed (λ a c. refl))
 file_follows files.empty = plain refl (λ t f. well_give)
 file_follows files.expression = well_only (ahead refl (λ v. refl) (λ v. refl) (λ v. tt) (λ v. plain refl (λ t f. well_give)))
-file_follows files.conditional_statement = plain refl (λ t f. nested (lit≤ tt) (λ o g. ahead refl (λ v. (refl, refl, λ x e. never e)) (λ v. refl) (λ v. lit≤ tt) (λ v. silent (λ c d. refl) (λ c. lit≤ tt) (λ c. if_follows))))
+file_follows files.if_statement = plain refl (λ t f. nested (lit≤ tt) (λ o g. ahead refl (λ v. (refl, refl, λ x e. never e)) (λ v. refl) (λ v. lit≤ tt) (λ v. silent (λ c d. refl) (λ c. lit≤ tt) (λ c. if_follows))))
 file_follows files.no_else = well_give
 file_follows files.with_else = well_only (plain refl (λ t f. well_only (last refl (λ body. else_itself (ends_open body)))))
-file_follows files.choice = plain refl (λ t f. nested (lit≤ tt) (λ o g. ahead refl (λ v. (refl, refl, λ x e. never e)) (λ v. refl) (λ v. lit≤ tt) (λ v. silent (λ c d. refl) (λ c. lit≤ tt) (λ c. well_only (last refl (λ body. else_itself (ends_open body)))))))
+file_follows files.switch_statement = plain refl (λ t f. nested (lit≤ tt) (λ o g. ahead refl (λ v. (refl, refl, λ x e. never e)) (λ v. refl) (λ v. lit≤ tt) (λ v. silent (λ c d. refl) (λ c. lit≤ tt) (λ c. well_only (last refl (λ body. else_itself (ends_open body)))))))
 file_follows files.while_loop = plain refl (λ t f. nested (lit≤ tt) (λ o g. ahead refl (λ v. (refl, refl, λ x e. never e)) (λ v. refl) (λ v. lit≤ tt) (λ v. silent (λ c d. refl) (λ c. lit≤ tt) (λ c. well_only (last refl (λ body. else_itself (ends_open body)))))))
 file_follows files.do_loop = plain refl (λ t f. well_only (ahead refl (λ body. refl) (λ body. refl) (λ body. tt) (λ body. plain refl (λ l g. nested (lit≤ tt) (λ o h. ahead refl (λ v. (refl, refl, λ x e. never e)) (λ v. refl) (λ v. lit≤ tt) (λ v. silent (λ c d. refl) (λ c. tt) (λ c. plain refl (λ e j. well_give))))))))
 file_follows files.for_loop = plain refl (λ t f. nested (lit≤ tt) (λ o g. silent (λ a c. refl) (λ a. lit≤ tt) (λ a. silent (λ b c. refl) (λ b. lit≤ tt) (λ b. silent (λ d c. refl) (λ d. lit≤ tt) (λ d. well_only (last refl (λ body. else_itself (ends_open body))))))))
 file_follows files.jump = plain refl (λ t f. plain refl (λ n g. plain refl (λ e h. well_give)))
-file_follows files.next_turn = plain refl (λ t f. plain refl (λ e g. well_give))
-file_follows files.leave = plain refl (λ t f. plain refl (λ e g. well_give))
+file_follows files.continue_statement = plain refl (λ t f. plain refl (λ e g. well_give))
+file_follows files.break_statement = plain refl (λ t f. plain refl (λ e g. well_give))
 file_follows files.return_statement = plain refl (λ t f. closed (λ a c. refl))
 file_follows files.for_nothing = plain refl (λ t f. well_give)
 file_follows files.for_declares = well_only (closed (λ a c. refl))

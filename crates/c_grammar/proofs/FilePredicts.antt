@@ -5,7 +5,9 @@ use Rattle.c_written.specs.declared.token.Placed.{Placed}
 use Rattle.c_written.specs.declared.token.Punctuator.TheVariants as signs
 use Rattle.c_written.specs.declared.token.Token.{Token}
 use Rattle.c_written.specs.declared.token.Token.TheVariants as kinds
-use Rattle.c_grammar.specs.Parts.{Scene, Part, Naming, Assignment, AnExpr, ADeclarator, ADecl, Declarator, Declaration, Initial, Ending, Initialiser, Item, Run, Commas, Value}
+use Rattle.c_grammar.specs.declared.parts.Level.TheVariants.{Commas}
+use Rattle.c_grammar.specs.declared.parts.Role.TheVariants.{Naming}
+use Rattle.c_grammar.specs.Parts.{Scene, Part, Assignment, AnExpr, ADeclarator, ADecl, Declarator, Declaration, Initial, Ending, Initialiser, Item, Run, Value}
 use Rattle.c_grammar.specs.Process.{Process}
 use Rattle.c_grammar.specs.Made.{ends_open}
 use Rattle.c_grammar.specs.Ahead.{is_spec_word, spec_ahead, label_ahead}

@@ -4,7 +4,8 @@ use Rattle.c_written.specs.declared.token.Placed.{Placed}
 use Rattle.c_written.specs.declared.token.Token.{Token}
 use Rattle.c_written.specs.declared.token.Token.TheVariants as kinds
 use Rattle.c_grammar.specs.Parts.{Scene, Part, Value}
-use Rattle.c_grammar.specs.Classes.{Class, Fits}
+use Rattle.c_grammar.specs.declared.class.Class.{Class}
+use Rattle.c_grammar.specs.Classes.{Fits}
 use Rattle.c_grammar.specs.Process.{Process, give, token, part, only}
 use Rattle.c_grammar.specs.Refused.{is_bracket, may_be_empty}
 use Rattle.c_grammar.proofs.Table.{Leads, leads_token, leads_part, leads_behind, leads_only, Quiet, Lower, WellFollowed, well_give, well_token, well_part}

@@ -16,8 +16,14 @@ use Rattle.c_written.specs.declared.written.UnaryOp.TheVariants as unaries
 use Rattle.c_written.specs.Written as written
 use Rattle.c_written.specs.WrittenFile as trees
 use Rattle.c_written.specs.WrittenFile.{OuterTree}
-use Rattle.c_grammar.specs.Parts.{Scene, Level, Commas, Joint, comma, binary, ExprPart, Run, More, Assigned, Chosen, Operand, Suffixes, Texts, StructureTagged, EnumerationTagged, DeclaratorPart, Declarator, Pointed, Direct, Tails, Else, Part, AnExpr, ASpec, ADeclarator, AStmt, AfterType, MoreSpecs, MoreDeclarators, EnumeratorValue, Parameter, Initialiser, Outers, Value}
-use Rattle.c_grammar.specs.Classes.{Class, sign, word, type_name, joint_sign, assign_sign, unary_sign, step_sign}
+use Rattle.c_grammar.specs.declared.parts.Level.{Level}
+use Rattle.c_grammar.specs.declared.parts.Level.TheVariants.{Commas}
+use Rattle.c_grammar.specs.declared.parts.Joint.{Joint}
+use Rattle.c_grammar.specs.declared.parts.Joint.TheVariants.{Comma as comma, Binary as binary}
+use Rattle.c_grammar.specs.Parts.{Scene, ExprPart, Run, More, Assigned, Chosen, Operand, Suffixes, Texts, StructureTagged, EnumerationTagged, DeclaratorPart, Declarator, Pointed, Direct, Tails, Else, Part, AnExpr, ASpec, ADeclarator, AStmt, AfterType, MoreSpecs, MoreDeclarators, EnumeratorValue, Parameter, Initialiser, Outers, Value}
+use Rattle.c_grammar.specs.declared.class.Class.{Class}
+use Rattle.c_grammar.specs.declared.class.Class.TheVariants.{Sign as sign, Word as word, TypeName as type_name}
+use Rattle.c_grammar.specs.Classes.{joint_sign, assign_sign, unary_sign, step_sign}
 use Rattle.c_grammar.specs.Process.{Process, give, part, only}
 use Rattle.c_grammar.specs.Ahead.{at_end, no_spec_ahead, no_group_ahead, is_colon}
 use Rattle.c_grammar.specs.ExprRules.{ExprRule, operand}

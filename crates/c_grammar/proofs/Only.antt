@@ -4,7 +4,8 @@ use Rattle.std.proofs.Common.{◌≡◌, ℕ, Bool, true, List, [], ◌∷◌, S
 use Rattle.c_written.specs.declared.construct.Construct.{Construct}
 use Rattle.c_written.specs.declared.token.Placed.{Placed}
 use Rattle.c_grammar.specs.Parts.{Scene, Part, Value}
-use Rattle.c_grammar.specs.Classes.{Class, Fits}
+use Rattle.c_grammar.specs.declared.class.Class.{Class}
+use Rattle.c_grammar.specs.Classes.{Fits}
 use Rattle.c_grammar.specs.Process.{Process, give, token, part, only}
 use Rattle.c_grammar.specs.Grammar.{Produces, Derives, Spells, by, ended, token_then, part_then, where_so}
 use Rattle.c_grammar.specs.Refused.{part_construct}

@@ -11,8 +11,13 @@ use Rattle.c_written.specs.declared.written.TypeWord.{TypeWord}
 use Rattle.c_written.specs.declared.written.TypeWord.TheVariants as type_words
 use Rattle.c_written.specs.declared.written.UnaryOp.{UnaryOp}
 use Rattle.c_written.specs.declared.written.UnaryOp.TheVariants as unaries
-use Rattle.c_grammar.specs.Parts.{Closing, by_semicolon, by_parenthesis, by_bracket, by_colon, Level, Joint, comma, binary}
-use Rattle.c_grammar.specs.Classes.{sign, keyword, unary_sign, step_sign, joint_sign, closing_sign, level_of, assign_sign, storage_word, type_word}
+use Rattle.c_grammar.specs.declared.parts.Level.{Level}
+use Rattle.c_grammar.specs.declared.parts.Joint.{Joint}
+use Rattle.c_grammar.specs.declared.parts.Joint.TheVariants.{Comma as comma, Binary as binary}
+use Rattle.c_grammar.specs.declared.parts.Closing.{Closing}
+use Rattle.c_grammar.specs.declared.parts.Closing.TheVariants.{BySemicolon as by_semicolon, ByParenthesis as by_parenthesis, ByBracket as by_bracket, ByColon as by_colon}
+use Rattle.c_grammar.specs.declared.class.Class.TheVariants.{Sign as sign, Keyword as keyword}
+use Rattle.c_grammar.specs.Classes.{unary_sign, step_sign, joint_sign, closing_sign, level_of, assign_sign, storage_word, type_word}
 use Rattle.c_grammar.specs.Ahead.{is_spec_word}
 use Rattle.c_grammar.specs.Choice.{joint_of_sign, is_closing}
 use Rattle.c_grammar.proofs.Firsts.{is_of_rank, is_assigning, is_suffix, expr_first, spec_first, by_token}

@@ -1,6 +1,8 @@
 -- The ranks of the parts: no part comes first in itself.
 use Rattle.std.proofs.Common.{◌≡◌, refl, ℕ, ◌<◌, Bool, true, false, arith}
-use Rattle.c_grammar.specs.Parts.{Scene, Level, Commas, Ors, Ands, BitOrs, BitXors, BitAnds, Equalities, Relations, Shifts, Sums, Products, ExprPart, Run, Assignment, Conditional, Cast, Operand, Unary, Sized, Postfix, DeclaratorPart, Declarator, Pointed, Direct, Size, Parameters, StmtPart, Statement, DeclPart, Declaration, Declared, Initial, OuterPart, Outer, OuterDeclared, OuterInitial, Part, AnExpr, ADeclarator, AStmt, ADecl, AnOuter, Arguments, Specs, MoreSpecs, Members, MoreMembers, AMember, Enumerators, NextEnumerator, Parameter, Initialiser, Initialisers, NextInitialiser, Optionally, ForStart, Items, Item, Outers, Value}
+use Rattle.c_grammar.specs.declared.parts.Level.{Level}
+use Rattle.c_grammar.specs.declared.parts.Level.TheVariants.{Commas, Ors, Ands, BitOrs, BitXors, BitAnds, Equalities, Relations, Shifts, Sums, Products}
+use Rattle.c_grammar.specs.Parts.{Scene, ExprPart, Run, Assignment, Conditional, Cast, Operand, Unary, Sized, Postfix, DeclaratorPart, Declarator, Pointed, Direct, Size, Parameters, StmtPart, Statement, DeclPart, Declaration, Declared, Initial, OuterPart, Outer, OuterDeclared, OuterInitial, Part, AnExpr, ADeclarator, AStmt, ADecl, AnOuter, Arguments, Specs, MoreSpecs, Members, MoreMembers, AMember, Enumerators, NextEnumerator, Parameter, Initialiser, Initialisers, NextInitialiser, Optionally, ForStart, Items, Item, Outers, Value}
 use Rattle.c_grammar.specs.Process.{Process}
 use Rattle.c_grammar.specs.ExprRules.{ExprRule, operand}
 use Rattle.c_grammar.specs.ExprRules as exprs

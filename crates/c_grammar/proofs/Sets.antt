@@ -3,7 +3,9 @@ use Rattle.std.proofs.Common.{◌≡◌, refl, sym, subst, ap, ◌∙◌, Bool, 
 use Rattle.c_written.specs.declared.token.Token.{Token}
 use Rattle.c_written.specs.declared.token.Token.TheVariants as kinds
 use Rattle.c_grammar.specs.Parts.{Scene}
-use Rattle.c_grammar.specs.Classes.{Class, keyword, sign, word, any_word, type_name, number, character, text, Fits, names_type}
+use Rattle.c_grammar.specs.declared.class.Class.{Class}
+use Rattle.c_grammar.specs.declared.class.Class.TheVariants.{Keyword as keyword, Sign as sign, Word as word, AnyWord as any_word, TypeName as type_name, Number as number, Character as character, Text as text}
+use Rattle.c_grammar.specs.Classes.{Fits, names_type}
 use Rattle.c_grammar.proofs.Sweep.{and_left, and_right, every, every_nth, keyword_list, sign_list, keyword_sweep, sign_sweep}
 
 abbrev pub word_class : Bool → Class

@@ -1,7 +1,9 @@
 -- How each production begins.
 use Rattle.std.proofs.Common.{◌≡◌, refl, false}
 use Rattle.c_written.specs.Written as trees
-use Rattle.c_grammar.specs.Parts.{Scene, Part, Level, Commas, AnExpr, Value}
+use Rattle.c_grammar.specs.declared.parts.Level.{Level}
+use Rattle.c_grammar.specs.declared.parts.Level.TheVariants.{Commas}
+use Rattle.c_grammar.specs.Parts.{Scene, Part, AnExpr, Value}
 use Rattle.c_grammar.specs.Process.{Process}
 use Rattle.c_grammar.specs.ExprRules.{ExprRule, operand}
 use Rattle.c_grammar.specs.ExprRules as exprs

@@ -1,7 +1,11 @@
 -- What a part or a production leaves is the end of the tokens; which of them can read nothing.
 use Rattle.std.proofs.Common.{◌≡◌, refl, sym, ◌∙◌, ap, subst, ◌≤◌, Bool, true, false, not, ◌||◌, List, [], ◌∷◌, ◌++◌, length, length-append, append_assoc, true≢false, arith}
 use Rattle.c_written.specs.declared.token.Placed.{Placed}
-use Rattle.c_grammar.specs.Parts.{Scene, Part, Level, Commas, AnExpr, Outers, Value, Naming, Role}
+use Rattle.c_grammar.specs.declared.parts.Level.{Level}
+use Rattle.c_grammar.specs.declared.parts.Level.TheVariants.{Commas}
+use Rattle.c_grammar.specs.declared.parts.Role.{Role}
+use Rattle.c_grammar.specs.declared.parts.Role.TheVariants.{Naming}
+use Rattle.c_grammar.specs.Parts.{Scene, Part, AnExpr, Outers, Value}
 use Rattle.c_grammar.specs.Process.{Process, give, token, part, only}
 use Rattle.c_grammar.specs.ExprRules.{ExprRule, operand}
 use Rattle.c_grammar.specs.ExprRules as exprs

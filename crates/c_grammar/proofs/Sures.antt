@@ -8,8 +8,13 @@ use Rattle.c_written.specs.declared.token.Token.{Token}
 use Rattle.c_written.specs.declared.token.Token.TheVariants as kinds
 use Rattle.c_written.specs.Written.{ExprTree, DeclaratorTree, SpecTrees}
 use Rattle.c_written.specs.Written as trees
-use Rattle.c_grammar.specs.Parts.{Scene, Level, Joint, Role, OfParameter, OfTypeName, ExprPart, More, Assigned, Chosen, Suffixes, Texts, Part, AnExpr, ASpec, ADeclarator, AStmt, Spec, StructureTagged, EnumerationTagged, DeclaratorPart, Declarator, Pointed, Direct, Tails, Else, AfterType, MoreSpecs, EnumeratorValue, Value}
-use Rattle.c_grammar.specs.Classes.{Fits, word, type_name, text, joint_sign, level_of, names_type}
+use Rattle.c_grammar.specs.declared.parts.Level.{Level}
+use Rattle.c_grammar.specs.declared.parts.Joint.{Joint}
+use Rattle.c_grammar.specs.declared.parts.Role.{Role}
+use Rattle.c_grammar.specs.declared.parts.Role.TheVariants.{OfParameter, OfTypeName}
+use Rattle.c_grammar.specs.Parts.{Scene, ExprPart, More, Assigned, Chosen, Suffixes, Texts, Part, AnExpr, ASpec, ADeclarator, AStmt, Spec, StructureTagged, EnumerationTagged, DeclaratorPart, Declarator, Pointed, Direct, Tails, Else, AfterType, MoreSpecs, EnumeratorValue, Value}
+use Rattle.c_grammar.specs.declared.class.Class.TheVariants.{Word as word, TypeName as type_name, Text as text}
+use Rattle.c_grammar.specs.Classes.{Fits, joint_sign, level_of, names_type}
 use Rattle.c_grammar.specs.Process.{Process}
 use Rattle.c_grammar.specs.Made.{ends_open}
 use Rattle.c_grammar.specs.Ahead.{is_open, is_spec_word, begins_spec, no_group_ahead, spec_ahead, close_ahead}

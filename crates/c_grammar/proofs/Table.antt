@@ -6,7 +6,8 @@ use Rattle.c_written.specs.declared.token.Placed.{Placed}
 use Rattle.c_written.specs.declared.token.Token.{Token}
 use Rattle.c_written.specs.WrittenFile.{OuterTree}
 use Rattle.c_grammar.specs.Parts.{Scene, Part, AnOuter, Outer, Outers, Value}
-use Rattle.c_grammar.specs.Classes.{Class, Fits}
+use Rattle.c_grammar.specs.declared.class.Class.{Class}
+use Rattle.c_grammar.specs.Classes.{Fits}
 use Rattle.c_grammar.specs.Process.{Process, give, token, part, only}
 use Rattle.c_grammar.specs.Ahead.{at_end}
 use Rattle.c_grammar.specs.FileRules.{after_outer}

@@ -10,8 +10,10 @@ use Rattle.c_written.specs.declared.written.StorageWord.{StorageWord}
 use Rattle.c_written.specs.declared.written.StorageWord.TheVariants as storages
 use Rattle.c_written.specs.declared.written.TypeWord.{TypeWord}
 use Rattle.c_written.specs.declared.written.TypeWord.TheVariants as type_words
-use Rattle.c_grammar.specs.Parts.{Scene, Part, Role, Conditional, AnExpr, ASpec, ADeclarator, Spec, Declarator, Direct, AMember, AnEnumerator, Parameter, Value}
-use Rattle.c_grammar.specs.Classes.{Fits, type_name, any_word, word, storage_word, type_word, names_type}
+use Rattle.c_grammar.specs.declared.parts.Role.{Role}
+use Rattle.c_grammar.specs.Parts.{Scene, Part, Conditional, AnExpr, ASpec, ADeclarator, Spec, Declarator, Direct, AMember, AnEnumerator, Parameter, Value}
+use Rattle.c_grammar.specs.declared.class.Class.TheVariants.{TypeName as type_name, AnyWord as any_word, Word as word}
+use Rattle.c_grammar.specs.Classes.{Fits, storage_word, type_word, names_type}
 use Rattle.c_grammar.specs.Process.{Process}
 use Rattle.c_grammar.specs.Ahead.{is_open, is_spec_word, spec_ahead, close_ahead}
 use Rattle.c_grammar.specs.TypeRules.{TypeRule, MayName, MayOmit}

@@ -18,7 +18,15 @@ use Rattle.c_written.specs.declared.written.TypeWord.TheVariants as type_words
 use Rattle.c_written.specs.declared.written.UnaryOp.TheVariants as unaries
 use Rattle.c_written.specs.Written.{ExprTree}
 use Rattle.c_written.specs.Written as trees
-use Rattle.c_grammar.specs.Parts.{Scene, Closing, by_semicolon, by_parenthesis, by_bracket, by_colon, Level, Commas, Ors, Ands, BitOrs, BitXors, BitAnds, Equalities, Relations, Shifts, Sums, Products, Joint, comma, binary, Role, Naming, OfMember, OfParameter, OfTypeName, ExprPart, Run, More, Assignment, Assigned, Conditional, Chosen, Cast, Operand, Unary, Sized, Postfix, Suffixes, Primary, Texts, SpecPart, Spec, Structure, StructureTagged, Enumeration, EnumerationTagged, DeclaratorPart, Declarator, Pointed, Direct, Tails, Size, GroupEnd, Parameters, MoreParameters, StmtPart, Statement, Else, DeclPart, Declaration, Declared, Initial, Ending, OuterPart, Outer, OuterDeclared, OuterInitial, Part, AnExpr, ASpec, ADeclarator, AStmt, ADecl, AnOuter, Close, MemberName, AfterType, Arguments, MoreArguments, Specs, MoreSpecs, Members, MoreMembers, AMember, MoreDeclarators, Enumerators, MoreEnumerators, NextEnumerator, AnEnumerator, EnumeratorValue, Parameter, Initialiser, Initialisers, MoreInitialisers, NextInitialiser, Optionally, ForStart, Items, Item, Outers, Value}
+use Rattle.c_grammar.specs.declared.parts.Level.{Level}
+use Rattle.c_grammar.specs.declared.parts.Level.TheVariants.{Commas, Ors, Ands, BitOrs, BitXors, BitAnds, Equalities, Relations, Shifts, Sums, Products}
+use Rattle.c_grammar.specs.declared.parts.Joint.{Joint}
+use Rattle.c_grammar.specs.declared.parts.Joint.TheVariants.{Comma as comma, Binary as binary}
+use Rattle.c_grammar.specs.declared.parts.Role.{Role}
+use Rattle.c_grammar.specs.declared.parts.Role.TheVariants.{Naming, OfMember, OfParameter, OfTypeName}
+use Rattle.c_grammar.specs.declared.parts.Closing.{Closing}
+use Rattle.c_grammar.specs.declared.parts.Closing.TheVariants.{BySemicolon as by_semicolon, ByParenthesis as by_parenthesis, ByBracket as by_bracket, ByColon as by_colon}
+use Rattle.c_grammar.specs.Parts.{Scene, ExprPart, Run, More, Assignment, Assigned, Conditional, Chosen, Cast, Operand, Unary, Sized, Postfix, Suffixes, Primary, Texts, SpecPart, Spec, Structure, StructureTagged, Enumeration, EnumerationTagged, DeclaratorPart, Declarator, Pointed, Direct, Tails, Size, GroupEnd, Parameters, MoreParameters, StmtPart, Statement, Else, DeclPart, Declaration, Declared, Initial, Ending, OuterPart, Outer, OuterDeclared, OuterInitial, Part, AnExpr, ASpec, ADeclarator, AStmt, ADecl, AnOuter, Close, MemberName, AfterType, Arguments, MoreArguments, Specs, MoreSpecs, Members, MoreMembers, AMember, MoreDeclarators, Enumerators, MoreEnumerators, NextEnumerator, AnEnumerator, EnumeratorValue, Parameter, Initialiser, Initialisers, MoreInitialisers, NextInitialiser, Optionally, ForStart, Items, Item, Outers, Value}
 use Rattle.c_grammar.specs.Classes.{names_type, level_of}
 use Rattle.c_grammar.specs.Process.{Process}
 use Rattle.c_grammar.specs.Made.{ends_open}
@@ -279,15 +287,15 @@ declarator_choice w (MoreParameters at d before) ts =
 
 abbrev pub statement_word_choice : (w : Scene) (b : Bool) → Keyword → Option (ARule w (AStmt (Statement b)))
 statement_word_choice w b keywords.Case = this (file_rule files.case)
-statement_word_choice w b keywords.Default = this (file_rule files.otherwise)
-statement_word_choice w b keywords.If = this (file_rule files.conditional_statement)
-statement_word_choice w b keywords.Switch = this (file_rule files.choice)
+statement_word_choice w b keywords.Default = this (file_rule files.default_statement)
+statement_word_choice w b keywords.If = this (file_rule files.if_statement)
+statement_word_choice w b keywords.Switch = this (file_rule files.switch_statement)
 statement_word_choice w b keywords.While = this (file_rule files.while_loop)
 statement_word_choice w b keywords.Do = this (file_rule files.do_loop)
 statement_word_choice w b keywords.For = this (file_rule files.for_loop)
 statement_word_choice w b keywords.Goto = this (file_rule files.jump)
-statement_word_choice w b keywords.Continue = this (file_rule files.next_turn)
-statement_word_choice w b keywords.Break = this (file_rule files.leave)
+statement_word_choice w b keywords.Continue = this (file_rule files.continue_statement)
+statement_word_choice w b keywords.Break = this (file_rule files.break_statement)
 statement_word_choice w b keywords.Return = this (file_rule files.return_statement)
 statement_word_choice w b _ = this (file_rule files.expression)
 

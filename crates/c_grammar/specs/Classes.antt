@@ -20,20 +20,15 @@ use Rattle.c_written.specs.declared.written.TypeWord.{TypeWord}
 use Rattle.c_written.specs.declared.written.TypeWord.TheVariants as type_words
 use Rattle.c_written.specs.declared.written.UnaryOp.{UnaryOp}
 use Rattle.c_written.specs.declared.written.UnaryOp.TheVariants as unaries
-use Rattle.c_grammar.specs.Parts.{Scene, Closing, by_semicolon, by_parenthesis, by_bracket, by_colon, Joint, comma, binary, Level, Commas, Ors, Ands, BitOrs, BitXors, BitAnds, Equalities, Relations, Shifts, Sums, Products}
-
-pub data Class : Type 0 where
-  keyword : Keyword → Class
-  sign : Punctuator → Class
-  -- a word that is no typedef name
-  word : Class
-  -- a word, whether it is a typedef name or not
-  any_word : Class
-  -- a typedef name
-  type_name : Class
-  number : Class
-  character : Class
-  text : Class
+use Rattle.c_grammar.specs.declared.class.Class.{Class}
+use Rattle.c_grammar.specs.declared.class.Class.TheVariants.{Keyword as keyword, Sign as sign, Word as word, AnyWord as any_word, TypeName as type_name, Number as number, Character as character, Text as text}
+use Rattle.c_grammar.specs.declared.parts.Level.{Level}
+use Rattle.c_grammar.specs.declared.parts.Level.TheVariants.{Commas, Ors, Ands, BitOrs, BitXors, BitAnds, Equalities, Relations, Shifts, Sums, Products}
+use Rattle.c_grammar.specs.declared.parts.Joint.{Joint}
+use Rattle.c_grammar.specs.declared.parts.Joint.TheVariants.{Comma as comma, Binary as binary}
+use Rattle.c_grammar.specs.declared.parts.Closing.{Closing}
+use Rattle.c_grammar.specs.declared.parts.Closing.TheVariants.{BySemicolon as by_semicolon, ByParenthesis as by_parenthesis, ByBracket as by_bracket, ByColon as by_colon}
+use Rattle.c_grammar.specs.Parts.{Scene}
 
 -- the name is a typedef name in force
 unfoldable pub names_type : Scene → List ℕ → Bool

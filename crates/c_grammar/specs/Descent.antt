@@ -4,7 +4,8 @@ use Rattle.std.specs.Prelude.{◌≡◌, ℕ, ◌+◌, ◌<◌, ◌≤◌, nat_l
 use Rattle.c_written.specs.declared.construct.Construct.{Construct}
 use Rattle.c_written.specs.declared.token.Placed.{Placed}
 use Rattle.c_grammar.specs.Parts.{Scene, Part, Value}
-use Rattle.c_grammar.specs.Classes.{Class, Fits}
+use Rattle.c_grammar.specs.declared.class.Class.{Class}
+use Rattle.c_grammar.specs.Classes.{Fits}
 use Rattle.c_grammar.specs.Process.{Process, give, token, part, only}
 use Rattle.c_grammar.specs.Front.{a_part}
 use Rattle.c_grammar.specs.Refused.{Why, Syntax, Unsupported, TooDeep, token_construct, part_construct, is_bracket, forms_begun, nesting_limit}

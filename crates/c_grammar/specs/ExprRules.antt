@@ -8,8 +8,15 @@ use Rattle.c_written.specs.declared.written.AssignOp.{AssignOp}
 use Rattle.c_written.specs.declared.written.UnaryOp.{UnaryOp}
 use Rattle.c_written.specs.Written.{ExprTree, ExprTrees, no_exprs, more_exprs, exprs_then}
 use Rattle.c_written.specs.Written as trees
-use Rattle.c_grammar.specs.Parts.{Scene, Closing, by_parenthesis, by_bracket, by_colon, Level, Commas, Ors, Ands, BitOrs, BitXors, BitAnds, Equalities, Relations, Shifts, Sums, Products, Joint, OfTypeName, ExprPart, Run, More, Assignment, Assigned, Conditional, Chosen, Cast, Operand, Unary, Sized, Postfix, Suffixes, Primary, Texts, Declarator, Part, AnExpr, ADeclarator, Close, MemberName, AfterType, Arguments, MoreArguments, Specs, Optionally, Value}
-use Rattle.c_grammar.specs.Classes.{keyword, sign, word, any_word, number, character, text, name_of, constant_of, byte_of, bytes_of, unary_sign, step_sign, joint_sign, closing_sign, level_of, assign_sign}
+use Rattle.c_grammar.specs.declared.parts.Level.{Level}
+use Rattle.c_grammar.specs.declared.parts.Level.TheVariants.{Commas, Ors, Ands, BitOrs, BitXors, BitAnds, Equalities, Relations, Shifts, Sums, Products}
+use Rattle.c_grammar.specs.declared.parts.Joint.{Joint}
+use Rattle.c_grammar.specs.declared.parts.Role.TheVariants.{OfTypeName}
+use Rattle.c_grammar.specs.declared.parts.Closing.{Closing}
+use Rattle.c_grammar.specs.declared.parts.Closing.TheVariants.{ByParenthesis as by_parenthesis, ByBracket as by_bracket, ByColon as by_colon}
+use Rattle.c_grammar.specs.Parts.{Scene, ExprPart, Run, More, Assignment, Assigned, Conditional, Chosen, Cast, Operand, Unary, Sized, Postfix, Suffixes, Primary, Texts, Declarator, Part, AnExpr, ADeclarator, Close, MemberName, AfterType, Arguments, MoreArguments, Specs, Optionally, Value}
+use Rattle.c_grammar.specs.declared.class.Class.TheVariants.{Keyword as keyword, Sign as sign, Word as word, AnyWord as any_word, Number as number, Character as character, Text as text}
+use Rattle.c_grammar.specs.Classes.{name_of, constant_of, byte_of, bytes_of, unary_sign, step_sign, joint_sign, closing_sign, level_of, assign_sign}
 use Rattle.c_grammar.specs.Process.{Process, give, token, part, only}
 use Rattle.c_grammar.specs.Made.{joined}
 use Rattle.c_grammar.specs.Ahead.{type_ahead, no_type_ahead}

@@ -9,8 +9,11 @@ use Rattle.c_written.specs.WrittenDecl.{InitTree, InitTrees, no_inits, more_init
 use Rattle.c_written.specs.WrittenDecl as inits
 use Rattle.c_written.specs.WrittenFile.{StmtTree, BlockItemTrees, none, more, blockitems_then, OuterTree}
 use Rattle.c_written.specs.WrittenFile as trees
-use Rattle.c_grammar.specs.Parts.{Scene, by_semicolon, by_parenthesis, within, switched, Naming, Assignment, Conditional, Declarator, Statement, Else, Declaration, Declared, Initial, Ending, Outer, OuterDeclared, OuterInitial, Part, AnExpr, ADeclarator, AStmt, ADecl, AnOuter, Close, Specs, Initialiser, Initialisers, MoreInitialisers, NextInitialiser, Optionally, ForStart, Items, Item, Outers, Value}
-use Rattle.c_grammar.specs.Classes.{keyword, sign, word, any_word, name_of}
+use Rattle.c_grammar.specs.declared.parts.Role.TheVariants.{Naming}
+use Rattle.c_grammar.specs.declared.parts.Closing.TheVariants.{BySemicolon as by_semicolon, ByParenthesis as by_parenthesis}
+use Rattle.c_grammar.specs.Parts.{Scene, within, switched, Assignment, Conditional, Declarator, Statement, Else, Declaration, Declared, Initial, Ending, Outer, OuterDeclared, OuterInitial, Part, AnExpr, ADeclarator, AStmt, ADecl, AnOuter, Close, Specs, Initialiser, Initialisers, MoreInitialisers, NextInitialiser, Optionally, ForStart, Items, Item, Outers, Value}
+use Rattle.c_grammar.specs.declared.class.Class.TheVariants.{Keyword as keyword, Sign as sign, Word as word, AnyWord as any_word}
+use Rattle.c_grammar.specs.Classes.{name_of}
 use Rattle.c_grammar.specs.Process.{Process, give, token, part, only}
 use Rattle.c_grammar.specs.Made.{specs_pos, ends_open, new_types}
 use Rattle.c_grammar.specs.Ahead.{spec_ahead, no_spec_ahead, label_ahead, no_label_ahead, no_left_bracket, at_end}
@@ -65,21 +68,21 @@ pub data FileRule : Scene → (p : Part) → Process (Value p) → Type 0 where
   case : {w : Scene} {b : Bool} → FileRule w (AStmt (Statement b))
       (token 0 (keyword keywords.Case) (λ t. part 0 w (AnExpr Conditional) (λ v. token 0 (sign signs.Colon) (λ colon. substatement w false (λ body.
       give (trees.Case t.pos v body))))))
-  otherwise : {w : Scene} {b : Bool} → FileRule w (AStmt (Statement b))
+  default_statement : {w : Scene} {b : Bool} → FileRule w (AStmt (Statement b))
       (token 0 (keyword keywords.Default) (λ t. token 0 (sign signs.Colon) (λ colon. substatement w false (λ body. give (trees.Default t.pos body)))))
   block : {w : Scene} {b : Bool} → FileRule w (AStmt (Statement b))
       (token 1 (sign signs.LeftBrace) (λ t. part 1 (block_scene b w) (Items none) (λ items. give (trees.Block t.pos items))))
   empty : {w : Scene} {b : Bool} → FileRule w (AStmt (Statement b)) (token 0 (sign signs.Semicolon) (λ t. give (trees.Empty t.pos)))
   expression : {w : Scene} {b : Bool} → FileRule w (AStmt (Statement b))
       (only (no_label_ahead w) (part 0 w (AnExpr Expression) (λ e. token 0 (sign signs.Semicolon) (λ t. give (trees.Expression (expr_pos e) e)))))
-  conditional_statement : {w : Scene} {b : Bool} → FileRule w (AStmt (Statement b))
+  if_statement : {w : Scene} {b : Bool} → FileRule w (AStmt (Statement b))
       (token 0 (keyword keywords.If) (λ t. token 1 (sign signs.LeftParenthesis) (λ opening. part 1 w (AnExpr Expression) (λ condition.
       part 1 w (Close by_parenthesis) (λ close. substatement (within w) false (λ first. part 0 w (AStmt (Else t.pos condition first)) give))))))
   no_else : {w : Scene} {at : Pos} {condition : ExprTree} {first : StmtTree} → FileRule w (AStmt (Else at condition first)) (give (trees.If at condition first))
   with_else : {w : Scene} {at : Pos} {condition : ExprTree} {first : StmtTree} → FileRule w (AStmt (Else at condition first))
       (only (λ rest. not (ends_open first)) (token 0 (keyword keywords.Else) (λ t. substatement (within w) false (λ second.
       give (trees.IfElse at condition first second)))))
-  choice : {w : Scene} {b : Bool} → FileRule w (AStmt (Statement b))
+  switch_statement : {w : Scene} {b : Bool} → FileRule w (AStmt (Statement b))
       (token 0 (keyword keywords.Switch) (λ t. token 1 (sign signs.LeftParenthesis) (λ opening. part 1 w (AnExpr Expression) (λ v.
       part 1 w (Close by_parenthesis) (λ close. substatement (within w) true (λ body. give (trees.Switch t.pos v body)))))))
   while_loop : {w : Scene} {b : Bool} → FileRule w (AStmt (Statement b))
@@ -96,9 +99,9 @@ pub data FileRule : Scene → (p : Part) → Process (Value p) → Type 0 where
   jump : {w : Scene} {b : Bool} → FileRule w (AStmt (Statement b))
       (token 0 (keyword keywords.Goto) (λ t. token 0 any_word (λ name. token 0 (sign signs.Semicolon) (λ end.
       give (trees.Goto t.pos (name_of name.token))))))
-  next_turn : {w : Scene} {b : Bool} → FileRule w (AStmt (Statement b))
+  continue_statement : {w : Scene} {b : Bool} → FileRule w (AStmt (Statement b))
       (token 0 (keyword keywords.Continue) (λ t. token 0 (sign signs.Semicolon) (λ end. give (trees.Continue t.pos))))
-  leave : {w : Scene} {b : Bool} → FileRule w (AStmt (Statement b))
+  break_statement : {w : Scene} {b : Bool} → FileRule w (AStmt (Statement b))
       (token 0 (keyword keywords.Break) (λ t. token 0 (sign signs.Semicolon) (λ end. give (trees.Break t.pos))))
   return_statement : {w : Scene} {b : Bool} → FileRule w (AStmt (Statement b))
       (token 0 (keyword keywords.Return) (λ t. part 0 w (Optionally by_semicolon) (λ v. give (trees.Return t.pos v))))

@@ -3,7 +3,8 @@ use Rattle.std.specs.Prelude.{◌≡◌, ℕ, ◌+◌, Bool, true, false, List, 
 use Rattle.c_written.specs.declared.token.Placed.{Placed}
 use Rattle.c_written.specs.WrittenFile.{FileTree}
 use Rattle.c_grammar.specs.Parts.{Scene, Part, Outers, Value}
-use Rattle.c_grammar.specs.Classes.{Class, Fits}
+use Rattle.c_grammar.specs.declared.class.Class.{Class}
+use Rattle.c_grammar.specs.Classes.{Fits}
 use Rattle.c_grammar.specs.Process.{Process, give, token, part, only}
 use Rattle.c_grammar.specs.Grammar.{Produces, Derives, at_start, IsTree}
 

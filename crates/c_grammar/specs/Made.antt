@@ -9,7 +9,8 @@ use Rattle.c_written.specs.WrittenParts.{spec_pos}
 use Rattle.c_written.specs.WrittenDecl.{InitDeclaratorTree}
 use Rattle.c_written.specs.WrittenFile as files
 use Rattle.c_written.specs.WrittenFile.{StmtTree, OuterTree}
-use Rattle.c_grammar.specs.Parts.{Joint, comma, binary}
+use Rattle.c_grammar.specs.declared.parts.Joint.{Joint}
+use Rattle.c_grammar.specs.declared.parts.Joint.TheVariants.{Comma as comma, Binary as binary}
 
 abbrev pub joined : Joint → Pos → ExprTree → ExprTree → ExprTree
 joined comma at left right = Comma at left right

@@ -2,20 +2,15 @@
 -- A repetition is a part of its own, with what was read before it.
 use Rattle.std.specs.Prelude.{ℕ, Bool, List, Option}
 use Rattle.c_written.specs.declared.place.Pos.{Pos}
-use Rattle.c_written.specs.declared.written.BinaryOp.{BinaryOp}
 use Rattle.c_written.specs.declared.written.Tag.{Tag}
+use Rattle.c_grammar.specs.declared.parts.Setting.{Setting}
+use Rattle.c_grammar.specs.declared.parts.Setting.TheVariants.{InBlock, InSwitch}
+use Rattle.c_grammar.specs.declared.parts.Level.{Level}
+use Rattle.c_grammar.specs.declared.parts.Role.{Role}
+use Rattle.c_grammar.specs.declared.parts.Closing.{Closing}
 use Rattle.c_written.specs.Written.{ExprTree, ExprTrees, SpecTree, SpecTrees, DeclaratorTree, DeclaratorTrees, MemberDeclTree, MemberDeclTrees, EnumeratorTree, EnumeratorTrees, ParamTree, ParamTrees}
 use Rattle.c_written.specs.WrittenDecl.{InitTree, InitTrees, InitDeclaratorTree, DeclTree}
 use Rattle.c_written.specs.WrittenFile.{StmtTree, BlockItemTree, BlockItemTrees, ForStartTree, OuterTree}
-
--- where a token stands
-pub data Setting : Type 0 where
-  -- outside of functions
-  AtFile : Setting
-  -- in a block, but not directly in that of a switch
-  InBlock : Setting
-  -- directly in the block of a switch
-  InSwitch : Setting
 
 -- the typedef names in force, and where a token stands
 pub record Scene : Type 0 where
@@ -29,40 +24,6 @@ within w = record { types = w.types; setting = InBlock }
 -- the same names in the block of a switch
 abbrev pub switched : Scene → Scene
 switched w = record { types = w.types; setting = InSwitch }
-
--- the operators of one rank, which lean to the left (C11 6.5.5 to 6.5.14, and 6.5.17)
-pub data Level : Type 0 where
-  Commas : Level
-  Ors : Level
-  Ands : Level
-  BitOrs : Level
-  BitXors : Level
-  BitAnds : Level
-  Equalities : Level
-  Relations : Level
-  Shifts : Level
-  Sums : Level
-  Products : Level
-
--- what may stand between two operands of a rank
-pub data Joint : Type 0 where
-  comma : Joint
-  binary : BinaryOp → Joint
-
--- whose declarator it is: one that names something, one of a member, one of a parameter, which may go
--- without a name, or one of a type name, which must
-pub data Role : Type 0 where
-  Naming : Role
-  OfMember : Role
-  OfParameter : Role
-  OfTypeName : Role
-
--- what ends an expression or a type name
-pub data Closing : Type 0 where
-  by_semicolon : Closing
-  by_parenthesis : Closing
-  by_bracket : Closing
-  by_colon : Closing
 
 pub data ExprPart : Type 0 where
   -- operands of a rank, and joints between them

@@ -2,7 +2,7 @@
 use Rattle.std.specs.Prelude.{ℕ, List, Bool}
 use Rattle.c_written.specs.declared.token.Placed.{Placed}
 use Rattle.c_grammar.specs.Parts.{Scene, Part, Value}
-use Rattle.c_grammar.specs.Classes.{Class}
+use Rattle.c_grammar.specs.declared.class.Class.{Class}
 
 -- Each token and each part comes with how many forms of this production are unfinished at it.
 pub data Process (A : Type 0) : Type 0 where

@@ -10,8 +10,13 @@ use Rattle.c_written.specs.declared.token.Punctuator.{Punctuator}
 use Rattle.c_written.specs.declared.token.Punctuator.TheVariants as signs
 use Rattle.c_written.specs.declared.token.Token.{Token}
 use Rattle.c_written.specs.declared.token.Token.TheVariants as kinds
-use Rattle.c_grammar.specs.Parts.{Setting, AtFile, InBlock, InSwitch, Scene, Role, Naming, OfMember, OfParameter, OfTypeName, ExprPart, More, Assigned, Chosen, Operand, Suffixes, Texts, SpecPart, StructureTagged, EnumerationTagged, DeclaratorPart, Declarator, Pointed, Direct, Tails, Size, StmtPart, Statement, Else, Part, AnExpr, ASpec, ADeclarator, AStmt, AfterType, MoreSpecs, MoreDeclarators, EnumeratorValue, Parameter, Initialiser}
-use Rattle.c_grammar.specs.Classes.{Class, Fits, names_type}
+use Rattle.c_grammar.specs.declared.parts.Setting.{Setting}
+use Rattle.c_grammar.specs.declared.parts.Setting.TheVariants.{AtFile, InBlock, InSwitch}
+use Rattle.c_grammar.specs.declared.parts.Role.{Role}
+use Rattle.c_grammar.specs.declared.parts.Role.TheVariants.{Naming, OfMember, OfParameter, OfTypeName}
+use Rattle.c_grammar.specs.Parts.{Scene, ExprPart, More, Assigned, Chosen, Operand, Suffixes, Texts, SpecPart, StructureTagged, EnumerationTagged, DeclaratorPart, Declarator, Pointed, Direct, Tails, Size, StmtPart, Statement, Else, Part, AnExpr, ASpec, ADeclarator, AStmt, AfterType, MoreSpecs, MoreDeclarators, EnumeratorValue, Parameter, Initialiser}
+use Rattle.c_grammar.specs.declared.class.Class.{Class}
+use Rattle.c_grammar.specs.Classes.{Fits, names_type}
 use Rattle.c_grammar.specs.Made.{is_word, has_type, is_given}
 use Rattle.c_grammar.specs.Ahead.{is_open, is_colon, is_plain_word, params_ahead}
 use Rattle.c_written.specs.WrittenFile.{FileTree}

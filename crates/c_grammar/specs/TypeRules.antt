@@ -8,8 +8,11 @@ use Rattle.c_written.specs.declared.written.Tag.{Tag}
 use Rattle.c_written.specs.declared.written.TypeWord.{TypeWord}
 use Rattle.c_written.specs.Written.{SpecTree, SpecTrees, no_specs, more_specs, specs_then, DeclaratorTree, Absent, DeclaratorTrees, no_declarators, more_declarators, declarators_then, MemberDeclTree, MemberDeclTrees, no_members, more_members, memberdecls_then, EnumeratorTree, EnumeratorTrees, no_enumerators, more_enumerators, enumerators_then, ParamTree, ParamTrees, no_params, more_params, params_then}
 use Rattle.c_written.specs.Written as trees
-use Rattle.c_grammar.specs.Parts.{Scene, Role, Naming, OfMember, OfParameter, OfTypeName, Conditional, Spec, Structure, StructureTagged, Enumeration, EnumerationTagged, Declarator, Pointed, Direct, Tails, Size, GroupEnd, Parameters, MoreParameters, Part, AnExpr, ASpec, ADeclarator, Specs, MoreSpecs, Members, MoreMembers, AMember, MoreDeclarators, Enumerators, MoreEnumerators, NextEnumerator, AnEnumerator, EnumeratorValue, Parameter, Value}
-use Rattle.c_grammar.specs.Classes.{keyword, sign, word, any_word, type_name, name_of, storage_word, type_word}
+use Rattle.c_grammar.specs.declared.parts.Role.{Role}
+use Rattle.c_grammar.specs.declared.parts.Role.TheVariants.{Naming, OfMember, OfParameter, OfTypeName}
+use Rattle.c_grammar.specs.Parts.{Scene, Conditional, Spec, Structure, StructureTagged, Enumeration, EnumerationTagged, Declarator, Pointed, Direct, Tails, Size, GroupEnd, Parameters, MoreParameters, Part, AnExpr, ASpec, ADeclarator, Specs, MoreSpecs, Members, MoreMembers, AMember, MoreDeclarators, Enumerators, MoreEnumerators, NextEnumerator, AnEnumerator, EnumeratorValue, Parameter, Value}
+use Rattle.c_grammar.specs.declared.class.Class.TheVariants.{Keyword as keyword, Sign as sign, Word as word, AnyWord as any_word, TypeName as type_name}
+use Rattle.c_grammar.specs.Classes.{name_of, storage_word, type_word}
 use Rattle.c_grammar.specs.Process.{Process, give, token, part, only}
 use Rattle.c_grammar.specs.Made.{specs_pos, is_given, param_of, function_of}
 use Rattle.c_grammar.specs.Ahead.{no_spec_ahead, no_group_ahead}

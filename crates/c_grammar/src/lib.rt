@@ -18,6 +18,12 @@
 //! give it.
 #![tactic(auto)]
 
+mod class;
+mod parts;
+
+pub use class::Class;
+pub use parts::{Closing, Joint, Level, Role, Setting};
+
 ghost use Rattle.std.specs.Prelude.{◌≡◌, ◌⊎◌, List};
 ghost use Rattle.c_written.specs.declared.token.Placed.{Placed};
 ghost use Rattle.c_written.specs.WrittenFile.{FileTree};

@@ -62,7 +62,7 @@ pub fn wrap(t: IntType, n: i128) -> i128
 {
     let count = count_of(t);
     let low = n.rem_euclid(count);
-    if low > i128::from(greatest(t)) {
+    if low > i128::from(t.greatest()) {
         low - count
     } else {
         low
@@ -73,14 +73,14 @@ pub fn wrap(t: IntType, n: i128) -> i128
 fn first_with(row: &[IntType], value: u64) -> Option<IntType>
     ensures { result ≡ find (λ t. nat_le value (integer.greatest t)) row.now }
 {
-    row.iter().copied().find(|t| value <= greatest(*t))
+    row.iter().copied().find(|t| value <= t.greatest())
 }
 
 // What two promoted types come to.
 fn common_type(a: IntType, b: IntType) -> IntType
     ensures { result ≡ common a b }
 {
-    match (is_signed(a), is_signed(b)) {
+    match (a.is_signed(), b.is_signed()) {
         (true, false) => mixed_type(a, b),
         (false, true) => mixed_type(b, a),
         _ => if rank(a) < rank(b) { b } else { a },
@@ -95,7 +95,7 @@ fn mixed_type(signed: IntType, unsigned: IntType) -> IntType
 {
     if rank(signed) <= rank(unsigned) {
         unsigned
-    } else if width(signed) > width(unsigned) {
+    } else if signed.width() > unsigned.width() {
         signed
     } else {
         unsigned_type(signed)
@@ -115,21 +115,6 @@ fn unsigned_type(t: IntType) -> IntType
     }
 }
 
-fn is_signed(t: IntType) -> bool
-    ensures { result ≡ integer.is_signed t }
-{
-    match t {
-        IntType::Char
-        | IntType::SChar
-        | IntType::Short
-        | IntType::Int
-        | IntType::Long
-        | IntType::LLong => true,
-        IntType::UChar | IntType::UShort | IntType::UInt | IntType::ULong | IntType::ULLong =>
-            false,
-    }
-}
-
 // The conversion rank.
 fn rank(t: IntType) -> u8
     ensures { result ≡ conversion.rank t }
@@ -143,18 +128,6 @@ fn rank(t: IntType) -> u8
     }
 }
 
-// In bits.
-fn width(t: IntType) -> u8
-    ensures { result ≡ integer.width t }
-{
-    match t {
-        IntType::Char | IntType::SChar | IntType::UChar => 8,
-        IntType::Short | IntType::UShort => 16,
-        IntType::Int | IntType::UInt => 32,
-        IntType::Long | IntType::ULong | IntType::LLong | IntType::ULLong => 64,
-    }
-}
-
 // How many numbers the type has.
 fn count_of(t: IntType) -> i128
     ensures { result ≡ pos (2 ^ integer.width t) }
@@ -164,22 +137,6 @@ fn count_of(t: IntType) -> i128
         IntType::Short | IntType::UShort => 1 << 16,
         IntType::Int | IntType::UInt => 1 << 32,
         IntType::Long | IntType::ULong | IntType::LLong | IntType::ULLong => 1 << 64,
-    }
-}
-
-// The greatest number.
-fn greatest(t: IntType) -> u64
-    ensures { result ≡ integer.greatest t }
-{
-    match t {
-        IntType::Char | IntType::SChar => 0x7f,
-        IntType::UChar => 0xff,
-        IntType::Short => 0x7fff,
-        IntType::UShort => 0xffff,
-        IntType::Int => 0x7fff_ffff,
-        IntType::UInt => 0xffff_ffff,
-        IntType::Long | IntType::LLong => 0x7fff_ffff_ffff_ffff,
-        IntType::ULong | IntType::ULLong => 0xffff_ffff_ffff_ffff,
     }
 }
 

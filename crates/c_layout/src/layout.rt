@@ -4,7 +4,6 @@
 ghost use Rattle.std.specs.Prelude.{◌≡◌, ℕ, ◌+◌, ◌*◌, ◌^◌, ◌≤◌, List, map, option_map, IfSome, Some};
 ghost use Rattle.c_syntax.specs.Types.{ctype_tree};
 ghost use Rattle.c_syntax.specs.Program.{StructDefTree, member_tree, structdef_tree};
-ghost use Rattle.c_written.specs.Integer as integer;
 ghost use Rattle.c_layout.specs.Layout as layout;
 ghost use Rattle.c_layout.specs.Layout.{align_in, laid_out, offset_named, padded, size_in, sized, space_by, space_of, spaces_by, stored, strictest, struct_space, told};
 ghost use Rattle.c_layout.specs.Kept.{IsKept, element, element_count, element_space, kept};
@@ -12,7 +11,7 @@ ghost use Rattle.c_layout.specs.LaidOut.{IsLaidOut, MeansUnfolded};
 ghost use Rattle.c_layout.specs.Rank.{NoneHoldsItself};
 ghost use Rattle.c_layout.specs.Tables.{IsTypedTable, PartsAreAligned, PartsLieInside, StructsHaveBytes};
 
-use c_syntax::{CType, IntType, Member, StructDef, StructDefs};
+use c_syntax::{CType, Member, StructDef, StructDefs};
 
 /// The size of a type in bytes.
 #[derive(Clone, Copy, Debug, PartialEq, Eq)]
@@ -133,7 +132,7 @@ fn element_room(ty: &CType, structs: &[StructDef]) -> Room
     ensures { IsKept result (element_space (laid_out (map structdef_tree structs.now)) (ctype_tree ty.now)) }
 {
     match ty {
-        CType::Int(t) => scalar_room(bytes(*t)),
+        CType::Int(t) => scalar_room(u64::from(t.bytes())),
         CType::Pointer(_) => scalar_room(8),
         CType::Struct(n) => members_room(members_of(structs, *n), structs),
         CType::Void | CType::Array(_, _) | CType::Function(_) => no_room(),
@@ -182,7 +181,7 @@ pub(crate) fn told_room(ty: &CType, structs: &[StructDef]) -> Room
     ensures { IsKept result (element_space (stored (map structdef_tree structs.now)) (ctype_tree ty.now)) }
 {
     match ty {
-        CType::Int(t) => scalar_room(bytes(*t)),
+        CType::Int(t) => scalar_room(u64::from(t.bytes())),
         CType::Pointer(_) => scalar_room(8),
         CType::Struct(n) => stored_room(structs, *n),
         CType::Void | CType::Array(_, _) | CType::Function(_) => no_room(),
@@ -312,22 +311,10 @@ pub(crate) fn members_of(structs: &[StructDef], n: u64) -> &[Member]
     }
 }
 
-pub(crate) fn bytes(t: IntType) -> u64
-    ensures value { result ≡ integer.bytes t }
-    ensures few { result ≤ 8 }
-{
-    match t {
-        IntType::Char | IntType::SChar | IntType::UChar => 1,
-        IntType::Short | IntType::UShort => 2,
-        IntType::Int | IntType::UInt => 4,
-        IntType::Long | IntType::ULong | IntType::LLong | IntType::ULLong => 8,
-    }
-}
-
 #[cfg(test)]
 mod tests {
     use super::*;
-    use c_syntax::{Members, Name, Target};
+    use c_syntax::{IntType, Members, Name, Target};
     use std::alloc::{AllocError, Global};
     use std::rc::Rc;
     use std::test::Fail;

@@ -12,7 +12,7 @@ ghost use Rattle.c_layout.specs.RowTypes.{IsScalar};
 ghost use Rattle.c_layout.specs.Scalars.{EachScalar, HasNoParts, HasNone, HaveSame, IsMemberType, IsScalarAt};
 ghost use Rattle.c_layout.specs.Tables.{IsTypedTable};
 
-use crate::layout::{bytes, count_of, element_of, members_of, told_room};
+use crate::layout::{count_of, element_of, members_of, told_room};
 use c_syntax::{CType, Member, StructDef, StructDefs};
 
 /// The type of the scalar of `size` bytes that stands at this offset of an object of the type, or
@@ -129,7 +129,7 @@ fn is_scalar_of(ty: &CType, size: u64) -> bool
     ensures { (structs : List StructDefTree) → IsTrue result ↔ (IsScalar (ctype_tree ty.now) × (size_in structs (ctype_tree ty.now) ≡ Some size)) }
 {
     match ty {
-        CType::Int(t) => bytes(*t) == size,
+        CType::Int(t) => u64::from(t.bytes()) == size,
         CType::Pointer(_) => size == 8,
         CType::Void | CType::Array(_, _) | CType::Struct(_) | CType::Function(_) => false,
     }

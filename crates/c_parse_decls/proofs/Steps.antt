@@ -1,6 +1,8 @@
 -- Ways through the productions of declarations and initialisers.
 use Rattle.std.proofs.Common.{◌≡◌, ℕ, List, [], ◌∷◌, ◌++◌, subst, Bor}
 use Rattle.std.specs.Prelude.{Option, Ok, Err, option_map}
+use Rattle.std.specs.declared.alloc.Global.{Global}
+use Rattle.std.specs.declared.boxed.Box.{Box}
 use Rattle.c_written.specs.declared.token.Placed.{Placed}
 use Rattle.c_written.specs.declared.declaration.Init.{Init}
 use Rattle.c_written.specs.Written.{SpecTrees, DeclaratorTree}
@@ -27,7 +29,7 @@ next_inits (Done v r) g = here g is_done
 next_inits (Stop why r) g = stops_here g
 
 -- what follows the declarator was read
-pub initialised_at : {s : SpecTrees} {before : List InitDeclaratorTree} {d : DeclaratorTree} {count : ℕ} {w : Scene} {ts : List Placed} {x : Option Init × Bor (List Placed)} → Initialised count w ts (Ok x) → (o : Outcome DeclTree) → Goes count w (ADecl (Ending s (before ++ record { declarator = d; init = option_map init_tree x.0 } ∷ []))) x.1.now o → Goes count w (ADecl (Initial s before d)) ts o
+pub initialised_at : {s : SpecTrees} {before : List InitDeclaratorTree} {d : DeclaratorTree} {count : ℕ} {w : Scene} {ts : List Placed} {x : Option (Box Init Global) × Bor (List Placed)} → Initialised count w ts (Ok x) → (o : Outcome DeclTree) → Goes count w (ADecl (Ending s (before ++ record { declarator = d; init = option_map (λ v. init_tree v.value) x.0 } ∷ []))) x.1.now o → Goes count w (ADecl (Initial s before d)) ts o
 initialised_at {s} {before} {d} h = step (h s before d)
 
 pub not_initialised_at : {s : SpecTrees} {before : List InitDeclaratorTree} {d : DeclaratorTree} {count : ℕ} {w : Scene} {ts : List Placed} {f : Fault} → Initialised count w ts (Err f) → Halts (λ why rest. Goes count w (ADecl (Initial s before d)) ts (Stop why rest)) f

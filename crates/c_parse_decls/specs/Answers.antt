@@ -1,6 +1,8 @@
 -- What functions of the descent through declarations returned.
 use Rattle.std.specs.Prelude.{ℕ, List, [], ◌∷◌, ◌++◌, Option, option_map, Result}
 use Rattle.std.proofs.Common.{Bor}
+use Rattle.std.specs.declared.alloc.Global.{Global}
+use Rattle.std.specs.declared.boxed.Box.{Box}
 use Rattle.c_written.specs.declared.token.Placed.{Placed}
 use Rattle.c_written.specs.declared.declaration.Init.{Init}
 use Rattle.c_written.specs.Written.{SpecTrees, DeclaratorTree}
@@ -11,5 +13,5 @@ use Rattle.c_parse_steps.specs.declared.fault.Fault.{Fault}
 use Rattle.c_parse_steps.specs.Answers.{Steps}
 
 -- The result is how the descent reads what may follow a declarator.
-abbrev pub Initialised : ℕ → Scene → List Placed → Result (Option Init × Bor (List Placed)) Fault → Type 0
-Initialised count scene tokens r = (s : SpecTrees) (before : List InitDeclaratorTree) (d : DeclaratorTree) → Steps (λ o. Goes count scene (ADecl (Initial s before d)) tokens o) (λ init rest o. Goes count scene (ADecl (Ending s (before ++ record { declarator = d; init = option_map init_tree init } ∷ []))) rest o) r
+abbrev pub Initialised : ℕ → Scene → List Placed → Result (Option (Box Init Global) × Bor (List Placed)) Fault → Type 0
+Initialised count scene tokens r = (s : SpecTrees) (before : List InitDeclaratorTree) (d : DeclaratorTree) → Steps (λ o. Goes count scene (ADecl (Initial s before d)) tokens o) (λ init rest o. Goes count scene (ADecl (Ending s (before ++ record { declarator = d; init = option_map (λ v. init_tree v.value) init } ∷ []))) rest o) r

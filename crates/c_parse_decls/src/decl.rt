@@ -13,19 +13,16 @@ ghost use Rattle.c_parse_steps.specs.Views.{boxed_declarator, scene_of};
 ghost use Rattle.c_parse_decls.specs.Answers.{Initialised};
 
 use crate::init::initialiser;
+use c_grammar::{Class, Role};
 use c_parse_exprs::{declarator, specs};
-use c_parse_steps::{Class, Context, Fault, Mark, Role, comes, specs_pos, taken};
+use c_parse_steps::{Context, Lookahead, Reading, comes, specs_pos, taken};
 use c_written::{
     Decl, Declarator, Init, InitDeclarator, InitDeclarators, Placed, Punctuator, Specs,
 };
 use std::alloc::{AllocError, Global};
 
 /// A declaration in a block or a `for`.
-pub fn declaration<'a>(
-    context: &Context<'_>,
-    count: u32,
-    tokens: &'a [Placed],
-) -> Result<(Decl, &'a [Placed]), Fault<'a>>
+pub fn declaration<'a>(context: &Context<'_>, count: u32, tokens: &'a [Placed]) -> Reading<'a, Decl>
     ensures goes { Answers count (scene_of context.now) (part.ADecl part.Declaration) tokens.now (λ d. decl_tree d) result }
     ensures shorter { IfOk result (λ x. length x.1.now < length tokens.now) }
 {
@@ -39,11 +36,11 @@ fn declared<'a>(
     count: u32,
     specs: Specs,
     tokens: &'a [Placed],
-) -> Result<(Decl, &'a [Placed]), Fault<'a>>
+) -> Reading<'a, Decl>
     ensures goes { Answers count (scene_of context.now) (part.ADecl (part.Declared (specs_tree specs))) tokens.now (λ d. decl_tree d) result }
     ensures shorter { IfOk result (λ x. length x.1.now < length tokens.now) }
 {
-    if comes(Mark::Semicolon, tokens) {
+    if comes(Lookahead::Semicolon, tokens) {
         let semicolon = Class::Sign(Punctuator::Semicolon);
         let (_end, rest) = taken(context, count, 0, semicolon, tokens)?;
         return Ok((no_declarators(context.alloc, specs), rest));
@@ -70,14 +67,14 @@ pub fn initial<'a>(
     specs: Specs,
     first: Box<Declarator>,
     tokens: &'a [Placed],
-) -> Result<(Decl, &'a [Placed]), Fault<'a>>
+) -> Reading<'a, Decl>
     ensures goes { Answers count (scene_of context.now) (part.ADecl (part.Initial (specs_tree specs) [] (boxed_declarator first))) tokens.now (λ d. decl_tree d) result }
     ensures shorter { IfOk result (λ x. length x.1.now < length tokens.now) }
 {
     let mut inits = Vec::new(context.alloc);
     let (init, mut rest) = init_of(context, count, tokens)?;
     push_declared(&mut inits, first, init)?;
-    while !comes(Mark::Semicolon, rest) {
+    while !comes(Lookahead::Semicolon, rest) {
         let comma = Class::Sign(Punctuator::Comma);
         let (_comma, behind) = taken(context, count, 0, comma, rest)?;
         let (next, after) = declarator(context, Role::Naming, count, behind)?;
@@ -92,7 +89,7 @@ pub fn initial<'a>(
 fn push_declared(
     inits: &mut Vec<InitDeclarator>,
     declarator: Box<Declarator>,
-    init: Option<Init>,
+    init: Option<Box<Init>>,
 ) -> Result<(), AllocError>
     ensures { IfOk result (λ _. map initdeclarator_tree inits.new.items ≡ map initdeclarator_tree inits.old.items ++ initdeclarator_tree (record { declarator = declarator.value; init = init }) ∷ []) }
 {
@@ -106,14 +103,15 @@ fn init_of<'a>(
     context: &Context<'_>,
     count: u32,
     tokens: &'a [Placed],
-) -> Result<(Option<Init>, &'a [Placed]), Fault<'a>>
+) -> Reading<'a, Option<Box<Init>>>
     ensures goes { Initialised count (scene_of context.now) tokens.now result }
     ensures shorter { IfOk result (λ x. length x.1.now ≤ length tokens.now) }
 {
-    if comes(Mark::Assign, tokens) {
+    if comes(Lookahead::Assign, tokens) {
         let sign = Class::Sign(Punctuator::Assign);
         let (_equals, behind) = taken(context, count, 1, sign, tokens)?;
         let (init, rest) = initialiser(context, count + 1, behind)?;
+        let init = Box::new(context.alloc, init)?;
         return Ok((Some(init), rest));
     }
     Ok((None, tokens))
@@ -126,7 +124,7 @@ fn declaration_end<'a>(
     specs: Specs,
     inits: Vec<InitDeclarator>,
     tokens: &'a [Placed],
-) -> Result<(Decl, &'a [Placed]), Fault<'a>>
+) -> Reading<'a, Decl>
     requires { first_is is_semicolon tokens.now ≡ true }
     ensures goes { Answers count (scene_of context.now) (part.ADecl (part.Ending (specs_tree specs) (map initdeclarator_tree inits.items))) tokens.now (λ d. decl_tree d) result }
     ensures shorter { IfOk result (λ x. length x.1.now < length tokens.now) }

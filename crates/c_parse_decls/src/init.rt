@@ -9,25 +9,22 @@ ghost use Rattle.c_grammar.specs.Refused.{first_is, is_brace};
 ghost use Rattle.c_parse_steps.specs.Answers.{Answers};
 ghost use Rattle.c_parse_steps.specs.Views.{boxed_expr, scene_of};
 
+use c_grammar::Class;
 use c_parse_exprs::assignment;
-use c_parse_steps::{Class, Context, Fault, Mark, barred, comes, designator_ahead, taken};
+use c_parse_steps::{Context, Lookahead, Reading, barred, comes, designator_ahead, taken};
 use c_written::{Construct, Expr, Init, Inits, Placed, Punctuator};
 use std::alloc::{AllocError, Global};
 
 /// An initialiser.
 #[cycle(initialisers)]
-pub fn initialiser<'a>(
-    context: &Context<'_>,
-    count: u32,
-    tokens: &'a [Placed],
-) -> Result<(Init, &'a [Placed]), Fault<'a>>
+pub fn initialiser<'a>(context: &Context<'_>, count: u32, tokens: &'a [Placed]) -> Reading<'a, Init>
     ensures goes { Answers count (scene_of context.now) part.Initialiser tokens.now (λ i. init_tree i) result }
     ensures shorter { IfOk result (λ x. length x.1.now < length tokens.now) }
 {
     if designator_ahead(tokens) {
         return Err(barred(count, Construct::Designator, tokens));
     }
-    if comes(Mark::Brace, tokens) {
+    if comes(Lookahead::Brace, tokens) {
         return braces(context, count, tokens);
     }
     let (value, rest) = assignment(context, count, tokens)?;
@@ -44,11 +41,7 @@ fn value_init(value: Box<Expr>) -> Init
 
 /// A list between braces.
 #[cycle(initialisers)]
-fn braces<'a>(
-    context: &Context<'_>,
-    count: u32,
-    tokens: &'a [Placed],
-) -> Result<(Init, &'a [Placed]), Fault<'a>>
+fn braces<'a>(context: &Context<'_>, count: u32, tokens: &'a [Placed]) -> Reading<'a, Init>
     requires { first_is is_brace tokens.now ≡ true }
     ensures goes { Answers count (scene_of context.now) part.Initialiser tokens.now (λ i. init_tree i) result }
     ensures shorter { IfOk result (λ x. length x.1.now < length tokens.now) }
@@ -61,11 +54,7 @@ fn braces<'a>(
 
 /// The items of a list, up to the brace that closes it.
 #[cycle(initialisers)]
-fn initialisers<'a>(
-    context: &Context<'_>,
-    count: u32,
-    tokens: &'a [Placed],
-) -> Result<(Inits, &'a [Placed]), Fault<'a>>
+fn initialisers<'a>(context: &Context<'_>, count: u32, tokens: &'a [Placed]) -> Reading<'a, Inits>
     ensures goes { Answers count (scene_of context.now) part.Initialisers tokens.now (λ i. inits_tree i) result }
     ensures shorter { IfOk result (λ x. length x.1.now < length tokens.now) }
 {
@@ -81,15 +70,15 @@ fn more_initialisers<'a>(
     count: u32,
     before: Vec<Init>,
     tokens: &'a [Placed],
-) -> Result<(Inits, &'a [Placed]), Fault<'a>>
+) -> Reading<'a, Inits>
     ensures goes { Answers count (scene_of context.now) (part.MoreInitialisers (inits_from before.items)) tokens.now (λ i. inits_tree i) result }
     ensures shorter { IfOk result (λ x. length x.1.now < length tokens.now) }
 {
     let mut items = before;
     let mut rest = tokens;
-    while !comes(Mark::RightBrace, rest) {
+    while !comes(Lookahead::RightBrace, rest) {
         let (_comma, behind) = taken(context, count, 0, Class::Sign(Punctuator::Comma), rest)?;
-        if comes(Mark::RightBrace, behind) {
+        if comes(Lookahead::RightBrace, behind) {
             return comma_end(context, count, items, behind);
         }
         let (next, after) = initialiser(context, count, behind)?;
@@ -107,7 +96,7 @@ fn comma_end<'a>(
     count: u32,
     items: Vec<Init>,
     tokens: &'a [Placed],
-) -> Result<(Inits, &'a [Placed]), Fault<'a>>
+) -> Reading<'a, Inits>
     requires { first_is is_right_brace tokens.now ≡ true }
     ensures goes { Answers count (scene_of context.now) (part.NextInitialiser (inits_from items.items)) tokens.now (λ i. inits_tree i) result }
     ensures shorter { IfOk result (λ x. length x.1.now < length tokens.now) }

@@ -1,7 +1,7 @@
 -- How far a level stands above the operands that it ends at.
 use Rattle.std.proofs.Common.{ℕ}
-use Rattle.c_parse_steps.specs.declared.level.Level.{Level}
-use Rattle.c_parse_steps.specs.declared.level.Level.TheVariants as levels
+use Rattle.c_grammar.specs.declared.parts.Level.{Level}
+use Rattle.c_grammar.specs.declared.parts.Level.TheVariants as levels
 
 abbrev pub rank : Level → ℕ
 rank levels.Products = 0

@@ -6,17 +6,18 @@ ghost use Rattle.c_written.specs.Written.{param_tree, params_from};
 ghost use Rattle.c_grammar.specs.Parts as part;
 ghost use Rattle.c_parse_steps.specs.Answers.{Answers, DeclaratorStarts, DirectStarts, Extends, TailStarts};
 ghost use Rattle.c_parse_steps.specs.Kinds.{tail_at};
-ghost use Rattle.c_parse_steps.specs.Views.{boxed_declarator, role_view, scene_of};
+ghost use Rattle.c_parse_steps.specs.Views.{boxed_declarator, scene_of};
 
 use crate::exprs::conditional;
 use crate::types::specs;
+use c_grammar::{Class, Role};
 use c_parse_leaves::{
     calls_no_name, closed, consts, declared_name, handed, is_no_tail, no_parameters, no_size,
     params_come, type_name_comes,
 };
 use c_parse_steps::{
-    Class, Context, DirectKind, Fault, Mark, Role, TailKind, array_declarator, barred, comes,
-    direct_at, function_declarator, grouped_declarator, is_given, param_of, plain_word_ahead,
+    Context, DirectKind, Lookahead, Reading, TailKind, array_declarator, barred, comes, direct_at,
+    function_declarator, grouped_declarator, is_given, param_of, plain_word_ahead,
     pointer_declarator, push_param, refused, tail_at, taken,
 };
 use c_written::{Construct, Declarator, Param, Placed, Pos, Punctuator};
@@ -28,14 +29,14 @@ pub fn declarator<'a>(
     role: Role,
     count: u32,
     tokens: &'a [Placed],
-) -> Result<(Box<Declarator>, &'a [Placed]), Fault<'a>>
-    ensures goes { Answers count (scene_of context.now) (part.ADeclarator (part.Declarator (role_view role))) tokens.now (λ d. boxed_declarator d) result }
+) -> Reading<'a, Box<Declarator>>
+    ensures goes { Answers count (scene_of context.now) (part.ADeclarator (part.Declarator role)) tokens.now (λ d. boxed_declarator d) result }
     ensures shorter { IfOk result (λ x. length x.1.now ≤ length tokens.now) }
 {
     if type_name_comes(context, role, tokens) {
         return Err(barred(count, Construct::TypedefAgain, tokens));
     }
-    if comes(Mark::Star, tokens) {
+    if comes(Lookahead::Star, tokens) {
         return pointer(context, role, count, tokens);
     }
     direct(context, role, count, tokens)
@@ -48,9 +49,9 @@ fn pointer<'a>(
     role: Role,
     count: u32,
     tokens: &'a [Placed],
-) -> Result<(Box<Declarator>, &'a [Placed]), Fault<'a>>
-    requires { DeclaratorStarts (scene_of context.now) (role_view role) tokens.now }
-    ensures goes { Answers count (scene_of context.now) (part.ADeclarator (part.Declarator (role_view role))) tokens.now (λ d. boxed_declarator d) result }
+) -> Reading<'a, Box<Declarator>>
+    requires { DeclaratorStarts (scene_of context.now) role tokens.now }
+    ensures goes { Answers count (scene_of context.now) (part.ADeclarator (part.Declarator role)) tokens.now (λ d. boxed_declarator d) result }
     ensures shorter { IfOk result (λ x. length x.1.now < length tokens.now) }
 {
     let star = Class::Sign(Punctuator::Star);
@@ -70,8 +71,8 @@ fn direct<'a>(
     role: Role,
     count: u32,
     tokens: &'a [Placed],
-) -> Result<(Box<Declarator>, &'a [Placed]), Fault<'a>>
-    ensures goes { Answers count (scene_of context.now) (part.ADeclarator (part.Direct (role_view role))) tokens.now (λ d. boxed_declarator d) result }
+) -> Reading<'a, Box<Declarator>>
+    ensures goes { Answers count (scene_of context.now) (part.ADeclarator (part.Direct role)) tokens.now (λ d. boxed_declarator d) result }
     ensures shorter { IfOk result (λ x. length x.1.now ≤ length tokens.now) }
 {
     if params_come(context, role, tokens) {
@@ -92,9 +93,9 @@ fn named<'a>(
     role: Role,
     count: u32,
     tokens: &'a [Placed],
-) -> Result<(Box<Declarator>, &'a [Placed]), Fault<'a>>
-    requires { DirectStarts (scene_of context.now) (role_view role) tokens.now DirectKind.Name }
-    ensures goes { Answers count (scene_of context.now) (part.ADeclarator (part.Direct (role_view role))) tokens.now (λ d. boxed_declarator d) result }
+) -> Reading<'a, Box<Declarator>>
+    requires { DirectStarts (scene_of context.now) role tokens.now DirectKind.Name }
+    ensures goes { Answers count (scene_of context.now) (part.ADeclarator (part.Direct role)) tokens.now (λ d. boxed_declarator d) result }
     ensures shorter { IfOk result (λ x. length x.1.now < length tokens.now) }
 {
     let (first, behind) = read!(declared_name(context, count, tokens));
@@ -108,9 +109,9 @@ fn nameless<'a>(
     role: Role,
     count: u32,
     tokens: &'a [Placed],
-) -> Result<(Box<Declarator>, &'a [Placed]), Fault<'a>>
-    requires { DirectStarts (scene_of context.now) (role_view role) tokens.now DirectKind.Nameless }
-    ensures goes { Answers count (scene_of context.now) (part.ADeclarator (part.Direct (role_view role))) tokens.now (λ d. boxed_declarator d) result }
+) -> Reading<'a, Box<Declarator>>
+    requires { DirectStarts (scene_of context.now) role tokens.now DirectKind.Nameless }
+    ensures goes { Answers count (scene_of context.now) (part.ADeclarator (part.Direct role)) tokens.now (λ d. boxed_declarator d) result }
     ensures shorter { IfOk result (λ x. length x.1.now ≤ length tokens.now) }
 {
     let first = Box::new(context.alloc, Declarator::Absent)?;
@@ -124,9 +125,9 @@ fn grouped<'a>(
     role: Role,
     count: u32,
     tokens: &'a [Placed],
-) -> Result<(Box<Declarator>, &'a [Placed]), Fault<'a>>
-    requires { DirectStarts (scene_of context.now) (role_view role) tokens.now DirectKind.Grouped }
-    ensures goes { Answers count (scene_of context.now) (part.ADeclarator (part.Direct (role_view role))) tokens.now (λ d. boxed_declarator d) result }
+) -> Reading<'a, Box<Declarator>>
+    requires { DirectStarts (scene_of context.now) role tokens.now DirectKind.Grouped }
+    ensures goes { Answers count (scene_of context.now) (part.ADeclarator (part.Direct role)) tokens.now (λ d. boxed_declarator d) result }
     ensures shorter { IfOk result (λ x. length x.1.now < length tokens.now) }
 {
     let opens = Class::Sign(Punctuator::LeftParenthesis);
@@ -137,7 +138,7 @@ fn grouped<'a>(
         return Err(refused(context, count + 1, rest));
     }
     let whole = grouped_declarator(context.alloc, opening.pos, inner);
-    let (first, behind) = read!(closed(context, count + 1, 0, closes, whole, rest));
+    let (first, behind) = read!(closed(context, count + 1, closes, whole, rest));
     tails(context, role, count, false, first, behind)
 }
 
@@ -150,8 +151,8 @@ fn tails<'a>(
     plain: bool,
     first: Box<Declarator>,
     tokens: &'a [Placed],
-) -> Result<(Box<Declarator>, &'a [Placed]), Fault<'a>>
-    ensures goes { Answers count (scene_of context.now) (part.ADeclarator (part.Tails (role_view role) plain (boxed_declarator first))) tokens.now (λ d. boxed_declarator d) result }
+) -> Reading<'a, Box<Declarator>>
+    ensures goes { Answers count (scene_of context.now) (part.ADeclarator (part.Tails role plain (boxed_declarator first))) tokens.now (λ d. boxed_declarator d) result }
     ensures shorter { IfOk result (λ x. length x.1.now ≤ length tokens.now) }
 {
     let mut is_plain = plain;
@@ -181,9 +182,9 @@ fn tail<'a>(
     kind: TailKind,
     inner: Box<Declarator>,
     tokens: &'a [Placed],
-) -> Result<(Box<Declarator>, &'a [Placed]), Fault<'a>>
+) -> Reading<'a, Box<Declarator>>
     requires { TailStarts tokens.now kind }
-    ensures goes { Extends count (scene_of context.now) (role_view role) (boxed_declarator inner) tokens.now result }
+    ensures goes { Extends count (scene_of context.now) role (boxed_declarator inner) tokens.now result }
     ensures shorter { IfOk result (λ x. length x.1.now < length tokens.now) }
 {
     match kind {
@@ -201,9 +202,9 @@ fn array<'a>(
     count: u32,
     inner: Box<Declarator>,
     tokens: &'a [Placed],
-) -> Result<(Box<Declarator>, &'a [Placed]), Fault<'a>>
+) -> Reading<'a, Box<Declarator>>
     requires { tail_at tokens.now ≡ TailKind.Array }
-    ensures goes { Extends count (scene_of context.now) (role_view role) (boxed_declarator inner) tokens.now result }
+    ensures goes { Extends count (scene_of context.now) role (boxed_declarator inner) tokens.now result }
     ensures shorter { IfOk result (λ x. length x.1.now < length tokens.now) }
 {
     let opens = Class::Sign(Punctuator::LeftBracket);
@@ -219,9 +220,9 @@ fn function<'a>(
     count: u32,
     inner: Box<Declarator>,
     tokens: &'a [Placed],
-) -> Result<(Box<Declarator>, &'a [Placed]), Fault<'a>>
+) -> Reading<'a, Box<Declarator>>
     requires { tail_at tokens.now ≡ TailKind.Function }
-    ensures goes { Extends count (scene_of context.now) (role_view role) (boxed_declarator inner) tokens.now result }
+    ensures goes { Extends count (scene_of context.now) role (boxed_declarator inner) tokens.now result }
     ensures shorter { IfOk result (λ x. length x.1.now < length tokens.now) }
 {
     let opens = Class::Sign(Punctuator::LeftParenthesis);
@@ -238,11 +239,11 @@ fn size<'a>(
     at: Pos,
     inner: Box<Declarator>,
     tokens: &'a [Placed],
-) -> Result<(Box<Declarator>, &'a [Placed]), Fault<'a>>
-    ensures goes { Answers count (scene_of context.now) (part.ADeclarator (part.Size (role_view role) at (boxed_declarator inner))) tokens.now (λ d. boxed_declarator d) result }
+) -> Reading<'a, Box<Declarator>>
+    ensures goes { Answers count (scene_of context.now) (part.ADeclarator (part.Size role at (boxed_declarator inner))) tokens.now (λ d. boxed_declarator d) result }
     ensures shorter { IfOk result (λ x. length x.1.now < length tokens.now) }
 {
-    if comes(Mark::RightBracket, tokens) {
+    if comes(Lookahead::RightBracket, tokens) {
         if role.is_member() {
             return Err(barred(count, Construct::FlexibleArray, tokens));
         }
@@ -250,7 +251,7 @@ fn size<'a>(
     }
     let (value, rest) = read!(conditional(context, count, tokens));
     let whole = array_declarator(context.alloc, at, inner, value);
-    closed(context, count, 0, Punctuator::RightBracket, whole, rest)
+    closed(context, count, Punctuator::RightBracket, whole, rest)
 }
 
 /// What follows the parenthesis that opens parameters.
@@ -261,11 +262,11 @@ fn parameters<'a>(
     at: Pos,
     inner: Box<Declarator>,
     tokens: &'a [Placed],
-) -> Result<(Box<Declarator>, &'a [Placed]), Fault<'a>>
+) -> Reading<'a, Box<Declarator>>
     ensures goes { Answers count (scene_of context.now) (part.ADeclarator (part.Parameters at (boxed_declarator inner))) tokens.now (λ d. boxed_declarator d) result }
     ensures shorter { IfOk result (λ x. length x.1.now < length tokens.now) }
 {
-    if comes(Mark::Close, tokens) {
+    if comes(Lookahead::Close, tokens) {
         return no_parameters(context, count, at, inner, tokens);
     }
     let mut params = Vec::new(context.alloc);
@@ -273,16 +274,9 @@ fn parameters<'a>(
     'all: loop {
         let (next, after) = read!(parameter(context, count, rest));
         push_param(&mut params, next)?;
-        if comes(Mark::Close, after) {
+        if comes(Lookahead::Close, after) {
             let whole = function_declarator(context.alloc, at, inner, params);
-            return closed(
-                context,
-                count,
-                0,
-                Punctuator::RightParenthesis,
-                whole,
-                after,
-            );
+            return closed(context, count, Punctuator::RightParenthesis, whole, after);
         }
         let comma = Class::Sign(Punctuator::Comma);
         let (_comma, behind) = read!(taken(context, count, 0, comma, after));
@@ -292,11 +286,7 @@ fn parameters<'a>(
 
 /// A parameter.
 #[cycle(descent)]
-fn parameter<'a>(
-    context: &Context<'_>,
-    count: u32,
-    tokens: &'a [Placed],
-) -> Result<(Param, &'a [Placed]), Fault<'a>>
+fn parameter<'a>(context: &Context<'_>, count: u32, tokens: &'a [Placed]) -> Reading<'a, Param>
     ensures goes { Answers count (scene_of context.now) part.Parameter tokens.now (λ p. param_tree p) result }
     ensures shorter { IfOk result (λ x. length x.1.now < length tokens.now) }
 {

@@ -10,20 +10,21 @@ ghost use Rattle.c_parse_steps.specs.Answers.{Answers, CallComes, Steps, SuffixC
 ghost use Rattle.c_grammar.specs.Descent.{Goes};
 ghost use Rattle.c_parse_leaves.specs.Readers.{ReadsBehind};
 ghost use Rattle.c_parse_steps.specs.Kinds.{assign_at, prefix_at, primary_at, suffix_at};
-ghost use Rattle.c_parse_steps.specs.Views.{boxed_expr, level_view, scene_of};
+ghost use Rattle.c_parse_steps.specs.Views.{boxed_expr, scene_of};
 
 use crate::declarators::declarator;
 use crate::types::specs;
+use c_grammar::{Class, Level, Role};
 use c_parse_leaves::{
     calls_no_word, closed, handed, is_no_suffix, no_arguments, simple_primary, simple_suffix,
     word_of,
 };
 use c_parse_steps::{
-    AssignKind, Class, Context, Fault, Level, Mark, Operand, PrefixKind, PrimaryKind, Role,
-    SuffixKind, assign_at, assign_expr, assign_sign, barred, barred_call, call_expr, cast_expr,
-    comes, compound_expr, cond_expr, enclosed_expr, index_expr, joined, joint_at, joint_sign,
-    operand_of, pre_step_expr, prefix_at, primary_at, push_expr, sizeof_expr, sizeof_type,
-    step_sign, suffix_at, taken, type_ahead, unary_expr, unary_sign,
+    AssignKind, Context, Lookahead, OperandKind, PrefixKind, PrimaryKind, Reading, SuffixKind,
+    assign_at, assign_expr, assign_sign, barred, barred_call, call_expr, cast_expr, comes,
+    compound_expr, cond_expr, enclosed_expr, index_expr, joined, joint_at, joint_sign, operand_of,
+    pre_step_expr, prefix_at, primary_at, push_expr, sizeof_expr, sizeof_type, step_sign,
+    suffix_at, taken, type_ahead, unary_expr, unary_sign,
 };
 use c_written::{
     AssignOp, Construct, Expr, Exprs, Keyword, Placed, Pos, Punctuator, StepWay, UnaryOp,
@@ -31,13 +32,13 @@ use c_written::{
 
 /// Operands of a level, and joints between them.
 #[cycle(descent)]
-pub fn run<'a>(
+pub fn joined_operands<'a>(
     context: &Context<'_>,
     level: Level,
     count: u32,
     tokens: &'a [Placed],
-) -> Result<(Box<Expr>, &'a [Placed]), Fault<'a>>
-    ensures goes { Answers count (scene_of context.now) (part.AnExpr (part.Run (level_view level))) tokens.now (λ e. boxed_expr e) result }
+) -> Reading<'a, Box<Expr>>
+    ensures goes { Answers count (scene_of context.now) (part.AnExpr (part.Run level)) tokens.now (λ e. boxed_expr e) result }
     ensures shorter { IfOk result (λ x. length x.1.now < length tokens.now) }
 {
     let (first, rest) = read!(operand(context, level, count, tokens));
@@ -51,14 +52,14 @@ fn operand<'a>(
     level: Level,
     count: u32,
     tokens: &'a [Placed],
-) -> Result<(Box<Expr>, &'a [Placed]), Fault<'a>>
-    ensures goes { Answers count (scene_of context.now) (part.AnExpr (operand (level_view level))) tokens.now (λ e. boxed_expr e) result }
+) -> Reading<'a, Box<Expr>>
+    ensures goes { Answers count (scene_of context.now) (part.AnExpr (operand level)) tokens.now (λ e. boxed_expr e) result }
     ensures shorter { IfOk result (λ x. length x.1.now < length tokens.now) }
 {
     match operand_of(level) {
-        Operand::Assignment => assignment(context, count, tokens),
-        Operand::Run(next) => run(context, next, count, tokens),
-        Operand::Cast => cast(context, count, tokens),
+        OperandKind::Assignment => assignment(context, count, tokens),
+        OperandKind::Run(next) => joined_operands(context, next, count, tokens),
+        OperandKind::Cast => cast(context, count, tokens),
     }
 }
 
@@ -70,8 +71,8 @@ fn more<'a>(
     count: u32,
     first: Box<Expr>,
     tokens: &'a [Placed],
-) -> Result<(Box<Expr>, &'a [Placed]), Fault<'a>>
-    ensures goes { Answers count (scene_of context.now) (part.AnExpr (part.More (level_view level) (boxed_expr first))) tokens.now (λ e. boxed_expr e) result }
+) -> Reading<'a, Box<Expr>>
+    ensures goes { Answers count (scene_of context.now) (part.AnExpr (part.More level (boxed_expr first))) tokens.now (λ e. boxed_expr e) result }
     ensures shorter { IfOk result (λ x. length x.1.now ≤ length tokens.now) }
 {
     let mut left = first;
@@ -100,8 +101,8 @@ fn right_side<'a>(
     count: u32,
     sign: Punctuator,
     tokens: &'a [Placed],
-) -> Result<((Pos, Box<Expr>), &'a [Placed]), Fault<'a>>
-    ensures goes { ReadsBehind count (scene_of context.now) sign (operand (level_view level)) tokens.now result }
+) -> Reading<'a, (Pos, Box<Expr>)>
+    ensures goes { ReadsBehind count (scene_of context.now) sign (operand level) tokens.now result }
     ensures within { IfOk result (λ _. count + 1 ≤ 200) }
     ensures shorter { IfOk result (λ x. length x.1.now < length tokens.now) }
 {
@@ -116,7 +117,7 @@ pub fn assignment<'a>(
     context: &Context<'_>,
     count: u32,
     tokens: &'a [Placed],
-) -> Result<(Box<Expr>, &'a [Placed]), Fault<'a>>
+) -> Reading<'a, Box<Expr>>
     ensures goes { Answers count (scene_of context.now) (part.AnExpr part.Assignment) tokens.now (λ e. boxed_expr e) result }
     ensures shorter { IfOk result (λ x. length x.1.now < length tokens.now) }
 {
@@ -131,7 +132,7 @@ fn assigned<'a>(
     count: u32,
     left: Box<Expr>,
     tokens: &'a [Placed],
-) -> Result<(Box<Expr>, &'a [Placed]), Fault<'a>>
+) -> Reading<'a, Box<Expr>>
     ensures goes { Answers count (scene_of context.now) (part.AnExpr (part.Assigned (boxed_expr left))) tokens.now (λ e. boxed_expr e) result }
     ensures shorter { IfOk result (λ x. length x.1.now ≤ length tokens.now) }
 {
@@ -149,7 +150,7 @@ fn plain_assigned<'a>(
     count: u32,
     left: Box<Expr>,
     tokens: &'a [Placed],
-) -> Result<(Box<Expr>, &'a [Placed]), Fault<'a>>
+) -> Reading<'a, Box<Expr>>
     requires { assign_at tokens.now ≡ AssignKind.Plain }
     ensures goes { Answers count (scene_of context.now) (part.AnExpr (part.Assigned (boxed_expr left))) tokens.now (λ e. boxed_expr e) result }
     ensures shorter { IfOk result (λ x. length x.1.now ≤ length tokens.now) }
@@ -167,7 +168,7 @@ fn compound_assigned<'a>(
     op: AssignOp,
     left: Box<Expr>,
     tokens: &'a [Placed],
-) -> Result<(Box<Expr>, &'a [Placed]), Fault<'a>>
+) -> Reading<'a, Box<Expr>>
     requires { assign_at tokens.now ≡ AssignKind.Compound op }
     ensures goes { Answers count (scene_of context.now) (part.AnExpr (part.Assigned (boxed_expr left))) tokens.now (λ e. boxed_expr e) result }
     ensures shorter { IfOk result (λ x. length x.1.now ≤ length tokens.now) }
@@ -188,11 +189,11 @@ pub fn conditional<'a>(
     context: &Context<'_>,
     count: u32,
     tokens: &'a [Placed],
-) -> Result<(Box<Expr>, &'a [Placed]), Fault<'a>>
+) -> Reading<'a, Box<Expr>>
     ensures goes { Answers count (scene_of context.now) (part.AnExpr part.Conditional) tokens.now (λ e. boxed_expr e) result }
     ensures shorter { IfOk result (λ x. length x.1.now < length tokens.now) }
 {
-    let (condition, rest) = read!(run(context, Level::Ors, count, tokens));
+    let (condition, rest) = read!(joined_operands(context, Level::Ors, count, tokens));
     chosen(context, count, condition, rest)
 }
 
@@ -203,16 +204,16 @@ fn chosen<'a>(
     count: u32,
     condition: Box<Expr>,
     tokens: &'a [Placed],
-) -> Result<(Box<Expr>, &'a [Placed]), Fault<'a>>
+) -> Reading<'a, Box<Expr>>
     ensures goes { Answers count (scene_of context.now) (part.AnExpr (part.Chosen (boxed_expr condition))) tokens.now (λ e. boxed_expr e) result }
     ensures shorter { IfOk result (λ x. length x.1.now ≤ length tokens.now) }
 {
-    if !comes(Mark::Question, tokens) {
+    if !comes(Lookahead::Question, tokens) {
         return Ok((condition, tokens));
     }
     let question = Class::Sign(Punctuator::Question);
     let (at, behind) = read!(taken(context, count, 1, question, tokens));
-    let (then, rest) = read!(run(context, Level::Commas, count + 1, behind));
+    let (then, rest) = read!(joined_operands(context, Level::Commas, count + 1, behind));
     let colon = Class::Sign(Punctuator::Colon);
     let (_colon, behind) = read!(taken(context, count + 1, 0, colon, rest));
     let (otherwise, rest) = read!(conditional(context, count + 1, behind));
@@ -224,11 +225,7 @@ fn chosen<'a>(
 
 /// A cast, or a unary expression.
 #[cycle(descent)]
-fn cast<'a>(
-    context: &Context<'_>,
-    count: u32,
-    tokens: &'a [Placed],
-) -> Result<(Box<Expr>, &'a [Placed]), Fault<'a>>
+fn cast<'a>(context: &Context<'_>, count: u32, tokens: &'a [Placed]) -> Reading<'a, Box<Expr>>
     ensures goes { Answers count (scene_of context.now) (part.AnExpr part.Cast) tokens.now (λ e. boxed_expr e) result }
     ensures shorter { IfOk result (λ x. length x.1.now < length tokens.now) }
 {
@@ -240,11 +237,7 @@ fn cast<'a>(
 
 /// A cast.
 #[cycle(descent)]
-fn cast_form<'a>(
-    context: &Context<'_>,
-    count: u32,
-    tokens: &'a [Placed],
-) -> Result<(Box<Expr>, &'a [Placed]), Fault<'a>>
+fn cast_form<'a>(context: &Context<'_>, count: u32, tokens: &'a [Placed]) -> Reading<'a, Box<Expr>>
     requires { type_ahead (scene_of context.now) tokens.now ≡ true }
     ensures goes { Answers count (scene_of context.now) (part.AnExpr part.Cast) tokens.now (λ e. boxed_expr e) result }
     ensures shorter { IfOk result (λ x. length x.1.now < length tokens.now) }
@@ -265,11 +258,11 @@ fn cast_operand<'a>(
     context: &Context<'_>,
     count: u32,
     tokens: &'a [Placed],
-) -> Result<(Box<Expr>, &'a [Placed]), Fault<'a>>
+) -> Reading<'a, Box<Expr>>
     ensures goes { Answers count (scene_of context.now) (part.AnExpr part.Operand) tokens.now (λ e. boxed_expr e) result }
     ensures shorter { IfOk result (λ x. length x.1.now < length tokens.now) }
 {
-    if comes(Mark::Brace, tokens) {
+    if comes(Lookahead::Brace, tokens) {
         return Err(barred(count, Construct::CompoundLiteral, tokens));
     }
     cast(context, count, tokens)
@@ -277,11 +270,7 @@ fn cast_operand<'a>(
 
 /// A unary expression.
 #[cycle(descent)]
-fn unary<'a>(
-    context: &Context<'_>,
-    count: u32,
-    tokens: &'a [Placed],
-) -> Result<(Box<Expr>, &'a [Placed]), Fault<'a>>
+fn unary<'a>(context: &Context<'_>, count: u32, tokens: &'a [Placed]) -> Reading<'a, Box<Expr>>
     ensures goes { Answers count (scene_of context.now) (part.AnExpr part.Unary) tokens.now (λ e. boxed_expr e) result }
     ensures shorter { IfOk result (λ x. length x.1.now < length tokens.now) }
 {
@@ -295,11 +284,7 @@ fn unary<'a>(
 
 /// `sizeof` and what follows it.
 #[cycle(descent)]
-fn size_of<'a>(
-    context: &Context<'_>,
-    count: u32,
-    tokens: &'a [Placed],
-) -> Result<(Box<Expr>, &'a [Placed]), Fault<'a>>
+fn size_of<'a>(context: &Context<'_>, count: u32, tokens: &'a [Placed]) -> Reading<'a, Box<Expr>>
     requires { prefix_at tokens.now ≡ PrefixKind.Sizeof }
     ensures goes { Answers count (scene_of context.now) (part.AnExpr part.Unary) tokens.now (λ e. boxed_expr e) result }
     ensures shorter { IfOk result (λ x. length x.1.now < length tokens.now) }
@@ -316,7 +301,7 @@ fn pre_step<'a>(
     count: u32,
     way: StepWay,
     tokens: &'a [Placed],
-) -> Result<(Box<Expr>, &'a [Placed]), Fault<'a>>
+) -> Reading<'a, Box<Expr>>
     requires { prefix_at tokens.now ≡ PrefixKind.Step way }
     ensures goes { Answers count (scene_of context.now) (part.AnExpr part.Unary) tokens.now (λ e. boxed_expr e) result }
     ensures shorter { IfOk result (λ x. length x.1.now < length tokens.now) }
@@ -334,7 +319,7 @@ fn unary_form<'a>(
     count: u32,
     op: UnaryOp,
     tokens: &'a [Placed],
-) -> Result<(Box<Expr>, &'a [Placed]), Fault<'a>>
+) -> Reading<'a, Box<Expr>>
     requires { prefix_at tokens.now ≡ PrefixKind.Unary op }
     ensures goes { Answers count (scene_of context.now) (part.AnExpr part.Unary) tokens.now (λ e. boxed_expr e) result }
     ensures shorter { IfOk result (λ x. length x.1.now < length tokens.now) }
@@ -352,7 +337,7 @@ fn sized<'a>(
     count: u32,
     at: Pos,
     tokens: &'a [Placed],
-) -> Result<(Box<Expr>, &'a [Placed]), Fault<'a>>
+) -> Reading<'a, Box<Expr>>
     ensures goes { Answers count (scene_of context.now) (part.AnExpr (part.Sized at)) tokens.now (λ e. boxed_expr e) result }
     ensures shorter { IfOk result (λ x. length x.1.now < length tokens.now) }
 {
@@ -370,7 +355,7 @@ fn sized_type<'a>(
     count: u32,
     at: Pos,
     tokens: &'a [Placed],
-) -> Result<(Box<Expr>, &'a [Placed]), Fault<'a>>
+) -> Reading<'a, Box<Expr>>
     requires { type_ahead (scene_of context.now) tokens.now ≡ true }
     ensures goes { Answers count (scene_of context.now) (part.AnExpr (part.Sized at)) tokens.now (λ e. boxed_expr e) result }
     ensures shorter { IfOk result (λ x. length x.1.now < length tokens.now) }
@@ -381,7 +366,7 @@ fn sized_type<'a>(
     let (words, rest) = read!(specs(context, count + 1, behind));
     let (shape, rest) = read!(declarator(context, Role::OfTypeName, count + 1, rest));
     let (_close, rest) = read!(taken(context, count + 1, 0, closes, rest));
-    if comes(Mark::Brace, rest) {
+    if comes(Lookahead::Brace, rest) {
         return Err(barred(count, Construct::CompoundLiteral, rest));
     }
     handed(sizeof_type(context.alloc, at, words, shape), rest)
@@ -389,11 +374,7 @@ fn sized_type<'a>(
 
 /// A primary expression and its postfix forms.
 #[cycle(descent)]
-fn postfix<'a>(
-    context: &Context<'_>,
-    count: u32,
-    tokens: &'a [Placed],
-) -> Result<(Box<Expr>, &'a [Placed]), Fault<'a>>
+fn postfix<'a>(context: &Context<'_>, count: u32, tokens: &'a [Placed]) -> Reading<'a, Box<Expr>>
     ensures goes { Answers count (scene_of context.now) (part.AnExpr part.Postfix) tokens.now (λ e. boxed_expr e) result }
     ensures shorter { IfOk result (λ x. length x.1.now < length tokens.now) }
 {
@@ -408,7 +389,7 @@ fn suffixes<'a>(
     count: u32,
     first: Box<Expr>,
     tokens: &'a [Placed],
-) -> Result<(Box<Expr>, &'a [Placed]), Fault<'a>>
+) -> Reading<'a, Box<Expr>>
     ensures goes { Answers count (scene_of context.now) (part.AnExpr (part.Suffixes (boxed_expr first))) tokens.now (λ e. boxed_expr e) result }
     ensures shorter { IfOk result (λ x. length x.1.now ≤ length tokens.now) }
 {
@@ -438,7 +419,7 @@ fn suffix<'a>(
     kind: SuffixKind,
     base: Box<Expr>,
     tokens: &'a [Placed],
-) -> Result<(Box<Expr>, &'a [Placed]), Fault<'a>>
+) -> Reading<'a, Box<Expr>>
     requires { SuffixComes tokens.now kind (boxed_expr base) }
     ensures goes { Steps (λ o. Goes count (scene_of context.now) (part.AnExpr (part.Suffixes (boxed_expr base))) tokens.now o) (λ e rest o. Goes (count + 1) (scene_of context.now) (part.AnExpr (part.Suffixes (boxed_expr e))) rest o) result }
     ensures within { IfOk result (λ _. count + 1 ≤ 200) }
@@ -458,7 +439,7 @@ fn index<'a>(
     count: u32,
     base: Box<Expr>,
     tokens: &'a [Placed],
-) -> Result<(Box<Expr>, &'a [Placed]), Fault<'a>>
+) -> Reading<'a, Box<Expr>>
     requires { suffix_at tokens.now ≡ SuffixKind.Index }
     ensures goes { Steps (λ o. Goes count (scene_of context.now) (part.AnExpr (part.Suffixes (boxed_expr base))) tokens.now o) (λ e rest o. Goes (count + 1) (scene_of context.now) (part.AnExpr (part.Suffixes (boxed_expr e))) rest o) result }
     ensures within { IfOk result (λ _. count + 1 ≤ 200) }
@@ -467,9 +448,9 @@ fn index<'a>(
     let opens = Class::Sign(Punctuator::LeftBracket);
     let closes = Punctuator::RightBracket;
     let (at, behind) = read!(taken(context, count, 2, opens, tokens));
-    let (place, rest) = read!(run(context, Level::Commas, count + 2, behind));
+    let (place, rest) = read!(joined_operands(context, Level::Commas, count + 2, behind));
     let whole = index_expr(context.alloc, at.pos, base, place);
-    closed(context, count + 2, 0, closes, whole, rest)
+    closed(context, count + 2, closes, whole, rest)
 }
 
 /// The arguments of a call.
@@ -479,7 +460,7 @@ fn call<'a>(
     count: u32,
     base: Box<Expr>,
     tokens: &'a [Placed],
-) -> Result<(Box<Expr>, &'a [Placed]), Fault<'a>>
+) -> Reading<'a, Box<Expr>>
     requires { CallComes tokens.now (boxed_expr base) }
     ensures goes { Steps (λ o. Goes count (scene_of context.now) (part.AnExpr (part.Suffixes (boxed_expr base))) tokens.now o) (λ e rest o. Goes (count + 1) (scene_of context.now) (part.AnExpr (part.Suffixes (boxed_expr e))) rest o) result }
     ensures within { IfOk result (λ _. count + 1 ≤ 200) }
@@ -494,11 +475,7 @@ fn call<'a>(
 
 /// A primary expression.
 #[cycle(descent)]
-fn primary<'a>(
-    context: &Context<'_>,
-    count: u32,
-    tokens: &'a [Placed],
-) -> Result<(Box<Expr>, &'a [Placed]), Fault<'a>>
+fn primary<'a>(context: &Context<'_>, count: u32, tokens: &'a [Placed]) -> Reading<'a, Box<Expr>>
     ensures goes { Answers count (scene_of context.now) (part.AnExpr part.Primary) tokens.now (λ e. boxed_expr e) result }
     ensures shorter { IfOk result (λ x. length x.1.now < length tokens.now) }
 {
@@ -510,11 +487,7 @@ fn primary<'a>(
 
 /// An expression between parentheses.
 #[cycle(descent)]
-fn enclosed<'a>(
-    context: &Context<'_>,
-    count: u32,
-    tokens: &'a [Placed],
-) -> Result<(Box<Expr>, &'a [Placed]), Fault<'a>>
+fn enclosed<'a>(context: &Context<'_>, count: u32, tokens: &'a [Placed]) -> Reading<'a, Box<Expr>>
     requires { primary_at (scene_of context.now) tokens.now ≡ PrimaryKind.Enclosed }
     ensures goes { Answers count (scene_of context.now) (part.AnExpr part.Primary) tokens.now (λ e. boxed_expr e) result }
     ensures shorter { IfOk result (λ x. length x.1.now < length tokens.now) }
@@ -522,22 +495,18 @@ fn enclosed<'a>(
     let opens = Class::Sign(Punctuator::LeftParenthesis);
     let closes = Punctuator::RightParenthesis;
     let (opening, behind) = read!(taken(context, count, 1, opens, tokens));
-    let (inner, rest) = read!(run(context, Level::Commas, count + 1, behind));
+    let (inner, rest) = read!(joined_operands(context, Level::Commas, count + 1, behind));
     let whole = enclosed_expr(context.alloc, opening.pos, inner);
-    closed(context, count + 1, 0, closes, whole, rest)
+    closed(context, count + 1, closes, whole, rest)
 }
 
 /// The arguments of a call, up to the parenthesis that closes them.
 #[cycle(descent)]
-fn arguments<'a>(
-    context: &Context<'_>,
-    count: u32,
-    tokens: &'a [Placed],
-) -> Result<(Exprs, &'a [Placed]), Fault<'a>>
+fn arguments<'a>(context: &Context<'_>, count: u32, tokens: &'a [Placed]) -> Reading<'a, Exprs>
     ensures goes { Answers count (scene_of context.now) part.Arguments tokens.now (λ a. exprs_tree a) result }
     ensures shorter { IfOk result (λ x. length x.1.now < length tokens.now) }
 {
-    if comes(Mark::Close, tokens) {
+    if comes(Lookahead::Close, tokens) {
         return no_arguments(context, count, tokens);
     }
     let mut args = Vec::new(context.alloc);
@@ -545,16 +514,9 @@ fn arguments<'a>(
     'all: loop {
         let (next, after) = read!(assignment(context, count, rest));
         push_expr(&mut args, next)?;
-        if comes(Mark::Close, after) {
+        if comes(Lookahead::Close, after) {
             let whole = Ok(Exprs::from_vec(args));
-            return closed(
-                context,
-                count,
-                0,
-                Punctuator::RightParenthesis,
-                whole,
-                after,
-            );
+            return closed(context, count, Punctuator::RightParenthesis, whole, after);
         }
         let comma = Class::Sign(Punctuator::Comma);
         let (_comma, behind) = read!(taken(context, count, 0, comma, after));

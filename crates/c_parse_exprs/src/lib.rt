@@ -4,7 +4,7 @@
 //! one cycle. Each goes down as the grammar's productions do; how deep is bounded by the nesting of 200.
 //! A list is read by a loop, and so is a run of operators of one level: `a - b - c` is `(a - b) - c`.
 //!
-//! `c_parse_steps` has the definitions: `run`, `assignment`, `conditional`, `specs` and `declarator`
+//! `c_parse_steps` has the definitions: `joined_operands`, `assignment`, `conditional`, `specs` and `declarator`
 //! promise that they go as the grammar's descent does (`Answers`).
 #![tactic(auto)]
 
@@ -24,5 +24,5 @@ mod exprs;
 mod types;
 
 pub use declarators::declarator;
-pub use exprs::{assignment, conditional, run};
+pub use exprs::{assignment, conditional, joined_operands};
 pub use types::specs;

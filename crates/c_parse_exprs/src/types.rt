@@ -12,12 +12,13 @@ ghost use Rattle.c_parse_leaves.specs.Tags.{NamesOrBraces, of_enumeration, of_st
 
 use crate::declarators::declarator;
 use crate::exprs::conditional;
+use c_grammar::{Class, Role};
 use c_parse_leaves::{
     closed, comma_end, enumeration_head, enumeration_of, members_end, simple_spec, structure_head,
     structure_of, tells_type, type_comes_again,
 };
 use c_parse_steps::{
-    Class, Context, Fault, Mark, Role, SpecKind, barred, comes, name_of, push_declarator,
+    Context, Lookahead, Reading, SpecKind, barred, comes, name_of, push_declarator,
     push_enumerator, push_member, push_spec, spec_ahead, spec_at, taken, valued_enumerator,
 };
 use c_written::{
@@ -27,11 +28,7 @@ use c_written::{
 
 /// Specs, as many as there are: at least one.
 #[cycle(descent)]
-pub fn specs<'a>(
-    context: &Context<'_>,
-    count: u32,
-    tokens: &'a [Placed],
-) -> Result<(Specs, &'a [Placed]), Fault<'a>>
+pub fn specs<'a>(context: &Context<'_>, count: u32, tokens: &'a [Placed]) -> Reading<'a, Specs>
     ensures goes { Answers count (scene_of context.now) part.Specs tokens.now (λ s. specs_tree s) result }
     ensures shorter { IfOk result (λ x. length x.1.now < length tokens.now) }
 {
@@ -54,11 +51,7 @@ pub fn specs<'a>(
 
 /// A spec.
 #[cycle(descent)]
-fn spec<'a>(
-    context: &Context<'_>,
-    count: u32,
-    tokens: &'a [Placed],
-) -> Result<(Spec, &'a [Placed]), Fault<'a>>
+fn spec<'a>(context: &Context<'_>, count: u32, tokens: &'a [Placed]) -> Reading<'a, Spec>
     ensures goes { Answers count (scene_of context.now) (part.ASpec part.Spec) tokens.now (λ s. spec_tree s) result }
     ensures shorter { IfOk result (λ x. length x.1.now < length tokens.now) }
 {
@@ -71,11 +64,7 @@ fn spec<'a>(
 
 /// `struct` and what follows it.
 #[cycle(descent)]
-fn structure<'a>(
-    context: &Context<'_>,
-    count: u32,
-    tokens: &'a [Placed],
-) -> Result<(Spec, &'a [Placed]), Fault<'a>>
+fn structure<'a>(context: &Context<'_>, count: u32, tokens: &'a [Placed]) -> Reading<'a, Spec>
     requires { spec_at (scene_of context.now) tokens.now ≡ SpecKind.Structure }
     ensures goes { Answers count (scene_of context.now) (part.ASpec part.Spec) tokens.now (λ s. spec_tree s) result }
     ensures shorter { IfOk result (λ x. length x.1.now < length tokens.now) }
@@ -92,12 +81,12 @@ fn structure_form<'a>(
     at: Pos,
     tag: Option<Tag>,
     tokens: &'a [Placed],
-) -> Result<(Spec, &'a [Placed]), Fault<'a>>
+) -> Reading<'a, Spec>
     requires { NamesOrBraces tag tokens.now }
     ensures goes { Answers count (scene_of context.now) (part.ASpec (tagged of_structure at tag)) tokens.now (λ s. spec_tree s) result }
     ensures shorter { IfOk result (λ x. length x.1.now ≤ length tokens.now) }
 {
-    if !comes(Mark::Brace, tokens) {
+    if !comes(Lookahead::Brace, tokens) {
         return Ok((structure_of(at, tag, tokens), tokens));
     }
     let brace = Class::Sign(Punctuator::LeftBrace);
@@ -113,11 +102,7 @@ fn structure_form<'a>(
 
 /// `enum` and what follows it.
 #[cycle(descent)]
-fn enumeration<'a>(
-    context: &Context<'_>,
-    count: u32,
-    tokens: &'a [Placed],
-) -> Result<(Spec, &'a [Placed]), Fault<'a>>
+fn enumeration<'a>(context: &Context<'_>, count: u32, tokens: &'a [Placed]) -> Reading<'a, Spec>
     requires { spec_at (scene_of context.now) tokens.now ≡ SpecKind.Enumeration }
     ensures goes { Answers count (scene_of context.now) (part.ASpec part.Spec) tokens.now (λ s. spec_tree s) result }
     ensures shorter { IfOk result (λ x. length x.1.now < length tokens.now) }
@@ -134,12 +119,12 @@ fn enumeration_form<'a>(
     at: Pos,
     tag: Option<Tag>,
     tokens: &'a [Placed],
-) -> Result<(Spec, &'a [Placed]), Fault<'a>>
+) -> Reading<'a, Spec>
     requires { NamesOrBraces tag tokens.now }
     ensures goes { Answers count (scene_of context.now) (part.ASpec (tagged of_enumeration at tag)) tokens.now (λ s. spec_tree s) result }
     ensures shorter { IfOk result (λ x. length x.1.now ≤ length tokens.now) }
 {
-    if !comes(Mark::Brace, tokens) {
+    if !comes(Lookahead::Brace, tokens) {
         return Ok((enumeration_of(at, tag, tokens), tokens));
     }
     let brace = Class::Sign(Punctuator::LeftBrace);
@@ -155,11 +140,7 @@ fn enumeration_form<'a>(
 
 /// The members of a struct, up to the brace that closes them.
 #[cycle(descent)]
-fn members<'a>(
-    context: &Context<'_>,
-    count: u32,
-    tokens: &'a [Placed],
-) -> Result<(MemberDecls, &'a [Placed]), Fault<'a>>
+fn members<'a>(context: &Context<'_>, count: u32, tokens: &'a [Placed]) -> Reading<'a, MemberDecls>
     ensures goes { Answers count (scene_of context.now) part.Members tokens.now (λ m. memberdecls_tree m) result }
     ensures shorter { IfOk result (λ x. length x.1.now < length tokens.now) }
 {
@@ -168,9 +149,9 @@ fn members<'a>(
     'lines: loop {
         let (next, after) = read!(member(context, count, rest));
         push_member(&mut items, next)?;
-        if comes(Mark::RightBrace, after) {
+        if comes(Lookahead::RightBrace, after) {
             let whole = Ok(MemberDecls::from_vec(items));
-            return closed(context, count, 0, Punctuator::RightBrace, whole, after);
+            return closed(context, count, Punctuator::RightBrace, whole, after);
         }
         rest = after;
     }
@@ -178,11 +159,7 @@ fn members<'a>(
 
 /// Members that are declared together.
 #[cycle(descent)]
-fn member<'a>(
-    context: &Context<'_>,
-    count: u32,
-    tokens: &'a [Placed],
-) -> Result<(MemberDecl, &'a [Placed]), Fault<'a>>
+fn member<'a>(context: &Context<'_>, count: u32, tokens: &'a [Placed]) -> Reading<'a, MemberDecl>
     ensures goes { Answers count (scene_of context.now) part.AMember tokens.now (λ m. memberdecl_tree m) result }
     ensures shorter { IfOk result (λ x. length x.1.now < length tokens.now) }
 {
@@ -192,10 +169,10 @@ fn member<'a>(
     'all: loop {
         let (next, after) = read!(declarator(context, Role::OfMember, count, rest));
         push_declarator(&mut declarators, next)?;
-        if comes(Mark::Colon, after) {
+        if comes(Lookahead::Colon, after) {
             return Err(barred(count, Construct::BitField, after));
         }
-        if comes(Mark::Semicolon, after) {
+        if comes(Lookahead::Semicolon, after) {
             return members_end(context, count, words, declarators, after);
         }
         let comma = Class::Sign(Punctuator::Comma);
@@ -210,7 +187,7 @@ fn enumerators<'a>(
     context: &Context<'_>,
     count: u32,
     tokens: &'a [Placed],
-) -> Result<(Enumerators, &'a [Placed]), Fault<'a>>
+) -> Reading<'a, Enumerators>
     ensures goes { Answers count (scene_of context.now) part.Enumerators tokens.now (λ e. enumerators_tree e) result }
     ensures shorter { IfOk result (λ x. length x.1.now < length tokens.now) }
 {
@@ -219,13 +196,13 @@ fn enumerators<'a>(
     'values: loop {
         let (next, after) = read!(enumerator(context, count, rest));
         push_enumerator(&mut items, next)?;
-        if comes(Mark::RightBrace, after) {
+        if comes(Lookahead::RightBrace, after) {
             let whole = Ok(Enumerators::from_vec(items));
-            return closed(context, count, 0, Punctuator::RightBrace, whole, after);
+            return closed(context, count, Punctuator::RightBrace, whole, after);
         }
         let comma = Class::Sign(Punctuator::Comma);
         let (_comma, behind) = read!(taken(context, count, 0, comma, after));
-        if comes(Mark::RightBrace, behind) {
+        if comes(Lookahead::RightBrace, behind) {
             return comma_end(context, count, items, behind);
         }
         rest = behind;
@@ -238,7 +215,7 @@ fn enumerator<'a>(
     context: &Context<'_>,
     count: u32,
     tokens: &'a [Placed],
-) -> Result<(Enumerator, &'a [Placed]), Fault<'a>>
+) -> Reading<'a, Enumerator>
     ensures goes { Answers count (scene_of context.now) part.AnEnumerator tokens.now (λ e. enumerator_tree e) result }
     ensures shorter { IfOk result (λ x. length x.1.now < length tokens.now) }
 {
@@ -255,11 +232,11 @@ fn enumerator_value<'a>(
     at: Pos,
     name: Name,
     tokens: &'a [Placed],
-) -> Result<(Enumerator, &'a [Placed]), Fault<'a>>
+) -> Reading<'a, Enumerator>
     ensures goes { Answers count (scene_of context.now) (part.EnumeratorValue at name) tokens.now (λ e. enumerator_tree e) result }
     ensures shorter { IfOk result (λ x. length x.1.now ≤ length tokens.now) }
 {
-    if !comes(Mark::Assign, tokens) {
+    if !comes(Lookahead::Assign, tokens) {
         return Ok((Enumerator::Plain { pos: at, name }, tokens));
     }
     let sign = Class::Sign(Punctuator::Assign);

@@ -12,7 +12,6 @@ use c_written::{Expr, Pos, Stmt};
 pub fn case_stmt(pos: Pos, value: Box<Expr>, body: Box<Stmt>) -> Stmt
     ensures { stmt_tree result ≡ Case pos (boxed_expr value) (boxed_tree body) }
 {
-    let value = Box::into_inner(value);
     Stmt::Case { pos, value, body }
 }
 
@@ -20,7 +19,6 @@ pub fn case_stmt(pos: Pos, value: Box<Expr>, body: Box<Stmt>) -> Stmt
 pub fn if_stmt(pos: Pos, condition: Box<Expr>, then: Box<Stmt>) -> Stmt
     ensures { stmt_tree result ≡ If pos (boxed_expr condition) (boxed_tree then) }
 {
-    let condition = Box::into_inner(condition);
     Stmt::If {
         pos,
         condition,
@@ -32,7 +30,6 @@ pub fn if_stmt(pos: Pos, condition: Box<Expr>, then: Box<Stmt>) -> Stmt
 pub fn if_else_stmt(pos: Pos, condition: Box<Expr>, then: Box<Stmt>, otherwise: Box<Stmt>) -> Stmt
     ensures { stmt_tree result ≡ IfElse pos (boxed_expr condition) (boxed_tree then) (boxed_tree otherwise) }
 {
-    let condition = Box::into_inner(condition);
     Stmt::IfElse {
         pos,
         condition,
@@ -45,7 +42,6 @@ pub fn if_else_stmt(pos: Pos, condition: Box<Expr>, then: Box<Stmt>, otherwise: 
 pub fn switch_stmt(pos: Pos, value: Box<Expr>, body: Box<Stmt>) -> Stmt
     ensures { stmt_tree result ≡ Switch pos (boxed_expr value) (boxed_tree body) }
 {
-    let value = Box::into_inner(value);
     Stmt::Switch { pos, value, body }
 }
 
@@ -53,7 +49,6 @@ pub fn switch_stmt(pos: Pos, value: Box<Expr>, body: Box<Stmt>) -> Stmt
 pub fn while_stmt(pos: Pos, condition: Box<Expr>, body: Box<Stmt>) -> Stmt
     ensures { stmt_tree result ≡ While pos (boxed_expr condition) (boxed_tree body) }
 {
-    let condition = Box::into_inner(condition);
     Stmt::While {
         pos,
         condition,
@@ -65,7 +60,6 @@ pub fn while_stmt(pos: Pos, condition: Box<Expr>, body: Box<Stmt>) -> Stmt
 pub fn do_stmt(pos: Pos, body: Box<Stmt>, condition: Box<Expr>) -> Stmt
     ensures { stmt_tree result ≡ DoWhile pos (boxed_tree body) (boxed_expr condition) }
 {
-    let condition = Box::into_inner(condition);
     Stmt::DoWhile {
         pos,
         body,

@@ -11,9 +11,13 @@ use Rattle.c_written.specs.declared.written.Declarator.{Declarator}
 use Rattle.c_written.specs.declared.written.Declarator.TheVariants as declarators
 use Rattle.c_written.proofs.WrittenTrees.{declarator_absent, declarator_name}
 use Rattle.c_written.specs.Written.{DeclaratorTree, Absent, Name, declarator_tree, ParamTrees}
-use Rattle.c_grammar.specs.Parts.{Scene, Part, Value, Role, Naming, OfMember, OfParameter, OfTypeName, Pointed, Direct, Tails, MoreParameters, ADeclarator, DeclaratorPart}
+use Rattle.c_grammar.specs.declared.parts.Role.{Role}
+use Rattle.c_grammar.specs.declared.parts.Role.TheVariants.{Naming, OfMember, OfParameter, OfTypeName}
+use Rattle.c_grammar.specs.Parts.{Scene, Part, Value, Pointed, Direct, Tails, MoreParameters, ADeclarator, DeclaratorPart}
 use Rattle.c_grammar.specs.Process.{Process, give, part, token}
-use Rattle.c_grammar.specs.Classes.{Class, keyword, names_type}
+use Rattle.c_grammar.specs.declared.class.Class.{Class}
+use Rattle.c_grammar.specs.declared.class.Class.TheVariants.{Keyword as keyword}
+use Rattle.c_grammar.specs.Classes.{names_type}
 use Rattle.c_grammar.specs.Made.{function_of, is_given}
 use Rattle.c_grammar.specs.Grammar.{type_rule}
 use Rattle.c_grammar.specs.TypeRules as types

@@ -1,6 +1,6 @@
 -- Steps of the descent through expressions.
 use Rattle.std.proofs.Common.{◌≡◌, refl, sym, subst, ap, ◌∙◌, ℕ, ◌+◌, Bool, true, false, not, ◌&&◌, List, [], ◌∷◌, Bor}
-use Rattle.std.specs.Prelude.{Result, Ok, Err, Option, Some, None, option_map}
+use Rattle.std.specs.Prelude.{Result, Ok, Err, Option, Some, None}
 use Rattle.std.specs.declared.alloc.Global.{Global}
 use Rattle.std.specs.declared.boxed.Box.{Box}
 use Rattle.c_written.specs.declared.place.Pos.{Pos}
@@ -14,9 +14,9 @@ use Rattle.c_written.specs.declared.written.Expr.{Expr}
 use Rattle.c_written.specs.declared.written.Expr.TheVariants as variants
 use Rattle.c_written.specs.Written.{expr_tree, ExprTree, ExprTrees, Word, Call}
 use Rattle.c_grammar.specs.Parts.{Scene, Part, Value, ExprPart, Run, More, Assignment, Cast, Suffixes, AnExpr, Arguments, MoreArguments}
-use Rattle.c_grammar.specs.Parts as parts
 use Rattle.c_grammar.specs.Process.{Process, give, token, part}
-use Rattle.c_grammar.specs.Classes.{sign, joint_sign}
+use Rattle.c_grammar.specs.declared.class.Class.TheVariants.{Sign as sign}
+use Rattle.c_grammar.specs.Classes.{joint_sign}
 use Rattle.c_grammar.specs.Grammar.{expr_rule, at_start}
 use Rattle.c_grammar.specs.ExprRules as exprs
 use Rattle.c_grammar.specs.ExprRules.{operand}
@@ -25,12 +25,12 @@ use Rattle.c_grammar.specs.Refused.{first_is, where_true, part_construct}
 use Rattle.c_grammar.specs.Made.{is_word, joined}
 use Rattle.c_grammar.specs.Descent.{Outcome, Done, Stop, Goes, Follows, goes_on, stops, is_done}
 use Rattle.c_parse_steps.specs.declared.fault.Fault.{Fault}
-use Rattle.c_parse_steps.specs.declared.level.Level.{Level}
-use Rattle.c_parse_steps.specs.declared.level.Level.TheVariants as levels
-use Rattle.c_parse_steps.specs.declared.level.Operand.{Operand}
-use Rattle.c_parse_steps.specs.declared.level.Operand.TheVariants as operands
-use Rattle.c_parse_steps.specs.declared.level.Joint.{Joint}
-use Rattle.c_parse_steps.specs.Views.{boxed_expr, level_view, joint_view, is_question}
+use Rattle.c_grammar.specs.declared.Level.{Level}
+use Rattle.c_grammar.specs.declared.Level.TheVariants as levels
+use Rattle.c_parse_steps.specs.declared.level.OperandKind.{OperandKind}
+use Rattle.c_parse_steps.specs.declared.level.OperandKind.TheVariants as operands
+use Rattle.c_grammar.specs.declared.Joint.{Joint}
+use Rattle.c_parse_steps.specs.Views.{boxed_expr, is_question}
 use Rattle.c_parse_steps.specs.Answers.{Gives, Halts, SuffixComes}
 use Rattle.c_parse_leaves.specs.Readers.{ReadsBehind}
 use Rattle.c_parse_steps.specs.declared.kind.SuffixKind.{SuffixKind}
@@ -40,17 +40,17 @@ use Rattle.c_parse_steps.proofs.Choices.{Chosen, MoreTells, more_is, SuffixTells
 use Rattle.c_parse_steps.proofs.Steps.{by, here, stops_here, halts, stall, step}
 
 -- the operand as a part of an expression
-abbrev pub operand_part : Operand → ExprPart
+abbrev pub operand_part : OperandKind → ExprPart
 operand_part operands.Assignment = Assignment
-operand_part (operands.Run l) = Run (level_view l)
+operand_part (operands.Run l) = Run l
 operand_part operands.Cast = Cast
 
-operand_is : (l : Level) → operand (level_view l) ≡ operand_part (operand_of l)
+operand_is : (l : Level) → operand l ≡ operand_part (operand_of l)
 operand_is levels.Commas = refl
 operand_is _ = refl
 
 -- the operand of a level
-pub operand_at : {A : Type 0} {d : ℕ} {w : Scene} {ts : List Placed} {view : A → ExprTree} {r : Result (A × Bor (List Placed)) Fault} (l : Level) {k : Operand} → operand_of l ≡ k → Gives (λ o. Goes d w (AnExpr (operand_part k)) ts o) view r → Gives (λ o. Goes d w (AnExpr (operand (level_view l))) ts o) view r
+pub operand_at : {A : Type 0} {d : ℕ} {w : Scene} {ts : List Placed} {view : A → ExprTree} {r : Result (A × Bor (List Placed)) Fault} (l : Level) {k : OperandKind} → operand_of l ≡ k → Gives (λ o. Goes d w (AnExpr (operand_part k)) ts o) view r → Gives (λ o. Goes d w (AnExpr (operand l)) ts o) view r
 operand_at {A} {d} {w} {ts} {view} {r} l e h = subst (λ x. Gives (λ o. Goes d w (AnExpr x) ts o) view r) (sym (operand_is l ∙ ap operand_part e)) h
 
 question_token : (w : Scene) (condition : ExprTree) (at : Pos) (k : Token) (ts : List Placed) → is_question k ≡ false → Chosen (expr_rule (exprs.not_chosen {w = w} {condition = condition})) (record { pos = at; token = k } ∷ ts)
@@ -83,7 +83,7 @@ tail_expr (Stop why rest) g = stops g
 pub suffixes_at : {d : ℕ} {w : Scene} {a b : ExprTree} {ts : List Placed} {o : Outcome ExprTree} → a ≡ b → Goes d w (AnExpr (Suffixes a)) ts o → Goes d w (AnExpr (Suffixes b)) ts o
 suffixes_at {d} {w} {a} {b} {ts} {o} e g = subst (λ v. Goes d w (AnExpr (Suffixes v)) ts o) e g
 
-pub more_at : {d : ℕ} {w : Scene} {l : parts.Level} {a b : ExprTree} {ts : List Placed} {o : Outcome ExprTree} → a ≡ b → Goes d w (AnExpr (More l a)) ts o → Goes d w (AnExpr (More l b)) ts o
+pub more_at : {d : ℕ} {w : Scene} {l : Level} {a b : ExprTree} {ts : List Placed} {o : Outcome ExprTree} → a ≡ b → Goes d w (AnExpr (More l a)) ts o → Goes d w (AnExpr (More l b)) ts o
 more_at {d} {w} {l} {a} {b} {ts} {o} e g = subst (λ v. Goes d w (AnExpr (More l v)) ts o) e g
 
 pub arguments_at : {d : ℕ} {w : Scene} {a b : ExprTrees} {ts : List Placed} {o : Outcome ExprTrees} → a ≡ b → Goes d w (MoreArguments a) ts o → Goes d w (MoreArguments b) ts o
@@ -94,7 +94,7 @@ pub behind_sign : {d : ℕ} {w : Scene} {a b : Punctuator} {x : ExprPart} {ts : 
 behind_sign {d} {w} {a} {b} {x} {ts} {r} e h = subst (λ v. ReadsBehind d w v x ts r) e h
 
 -- one more joint and its operand
-pub joint_step : {d : ℕ} {w : Scene} {l : parts.Level} {j : parts.Joint} {left whole : ExprTree} {x : (Pos × Box Expr Global) × Bor (List Placed)} {ts : List Placed} (o : Outcome ExprTree) → joint_here l ts ≡ Some j → ReadsBehind d w (joint_sign j) (operand l) ts (Ok x) → whole ≡ joined j x.0.0 left (boxed_expr x.0.1) → Goes (d + 1) w (AnExpr (More l whole)) x.1.now o → Goes d w (AnExpr (More l left)) ts o
+pub joint_step : {d : ℕ} {w : Scene} {l : Level} {j : Joint} {left whole : ExprTree} {x : (Pos × Box Expr Global) × Bor (List Placed)} {ts : List Placed} (o : Outcome ExprTree) → joint_here l ts ≡ Some j → ReadsBehind d w (joint_sign j) (operand l) ts (Ok x) → whole ≡ joined j x.0.0 left (boxed_expr x.0.1) → Goes (d + 1) w (AnExpr (More l whole)) x.1.now o → Goes d w (AnExpr (More l left)) ts o
 joint_step {d} {w} {l} {j} {left} {whole} {x} {ts} o e r h k =
     let m : MoreTells w l left ts (Some j) = more_is w l left ts e in
     by (expr_rule (exprs.run_more j m.0)) refl m.1 (step (r (AnExpr (More l left)) (λ at right. part 1 w (AnExpr (More l (joined j at left right))) give)) o (tail_expr o (more_at h k)))
@@ -108,7 +108,7 @@ tail_first (Done v mid) g = here g is_done
 tail_first (Stop why rest) g = stops_here g
 
 -- a stop behind a joint that comes
-pub joint_stop : {d : ℕ} {w : Scene} {l : parts.Level} {j : parts.Joint} {left : ExprTree} {ts : List Placed} {f : Fault} → joint_here l ts ≡ Some j → ReadsBehind d w (joint_sign j) (operand l) ts (Err f) → Halts (λ why rest. Goes d w (AnExpr (More l left)) ts (Stop why rest)) f
+pub joint_stop : {d : ℕ} {w : Scene} {l : Level} {j : Joint} {left : ExprTree} {ts : List Placed} {f : Fault} → joint_here l ts ≡ Some j → ReadsBehind d w (joint_sign j) (operand l) ts (Err f) → Halts (λ why rest. Goes d w (AnExpr (More l left)) ts (Stop why rest)) f
 joint_stop {d} {w} {l} {j} {left} {ts} {f} e r =
     let m : MoreTells w l left ts (Some j) = more_is w l left ts e in
     halts (stall (r (AnExpr (More l left)) (λ at right. part 1 w (AnExpr (More l (joined j at left right))) give))) (λ why rest g. by (expr_rule (exprs.run_more j m.0)) refl m.1 g)
@@ -159,6 +159,6 @@ no_other (variants.Word at name) h k = k at name refl
 no_other _ h k = let f : false ≡ true = h in cc
 
 -- no joint of the level comes
-pub no_joint : {h : Option parts.Joint} (r : Option Joint) → ((j : Joint) → r ≡ Some j → ⊥) → option_map joint_view r ≡ h → h ≡ None
+pub no_joint : {h : Option Joint} (r : Option Joint) → ((j : Joint) → r ≡ Some j → ⊥) → r ≡ h → h ≡ None
 no_joint (Some j) k e = absurd (k j refl)
 no_joint None k e = sym e

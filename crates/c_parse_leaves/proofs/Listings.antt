@@ -12,8 +12,9 @@ use Rattle.c_written.specs.declared.written.Spec.{Spec}
 use Rattle.c_written.specs.declared.written.Declarator.{Declarator}
 use Rattle.c_written.specs.Written.{DeclaratorTree, DeclaratorTrees, EnumeratorTrees, ExprTrees, MemberDeclTree, MemberDeclTrees, ParamTrees, SpecTrees, declarators_from, declarators_then, enumerators_from, enumerators_then, exprs_from, exprs_then, memberdecls_from, memberdecls_then, params_from, params_then, specs_from, specs_then}
 use Rattle.c_grammar.specs.Parts as parts
-use Rattle.c_grammar.specs.Parts.{Scene, Part, Value, AnExpr, Assignment, Arguments, MoreArguments, Members, AMember, MoreMembers, Enumerators, AnEnumerator, MoreEnumerators, NextEnumerator, ADeclarator, ASpec, MoreSpecs, MoreDeclarators, OfMember, Parameter, Parameters, MoreParameters}
-use Rattle.c_grammar.specs.Classes.{sign}
+use Rattle.c_grammar.specs.declared.parts.Role.TheVariants.{OfMember}
+use Rattle.c_grammar.specs.Parts.{Scene, Part, Value, AnExpr, Assignment, Arguments, MoreArguments, Members, AMember, MoreMembers, Enumerators, AnEnumerator, MoreEnumerators, NextEnumerator, ADeclarator, ASpec, MoreSpecs, MoreDeclarators, Parameter, Parameters, MoreParameters}
+use Rattle.c_grammar.specs.declared.class.Class.TheVariants.{Sign as sign}
 use Rattle.c_grammar.specs.Grammar.{expr_rule, type_rule}
 use Rattle.c_grammar.specs.ExprRules as exprs
 use Rattle.c_grammar.specs.TypeRules as types

@@ -12,7 +12,8 @@ use Rattle.c_written.specs.Written as trees
 use Rattle.c_written.specs.Written.{SpecTree}
 use Rattle.c_grammar.specs.Parts.{Scene, SpecPart, ASpec, Members, Enumerators}
 use Rattle.c_grammar.specs.Process.{give, token, part}
-use Rattle.c_grammar.specs.Classes.{sign, any_word, name_of}
+use Rattle.c_grammar.specs.declared.class.Class.TheVariants.{Sign as sign, AnyWord as any_word}
+use Rattle.c_grammar.specs.Classes.{name_of}
 use Rattle.c_grammar.specs.Grammar.{type_rule}
 use Rattle.c_grammar.specs.TypeRules as types
 use Rattle.c_grammar.specs.Refused.{first_is, is_brace}

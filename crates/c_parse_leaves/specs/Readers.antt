@@ -11,7 +11,8 @@ use Rattle.c_written.specs.Written.{DeclaratorTree, Name, ExprTree}
 use Rattle.c_written.specs.declared.written.Declarator.{Declarator}
 use Rattle.c_grammar.specs.Parts.{Scene, Part, Value, ExprPart, AnExpr, MemberName}
 use Rattle.c_grammar.specs.Process.{Process, token, part}
-use Rattle.c_grammar.specs.Classes.{sign, word, name_of}
+use Rattle.c_grammar.specs.declared.class.Class.TheVariants.{Sign as sign, Word as word}
+use Rattle.c_grammar.specs.Classes.{name_of}
 use Rattle.c_grammar.specs.Descent.{Follows}
 use Rattle.c_parse_steps.specs.declared.fault.Fault.{Fault}
 use Rattle.c_parse_steps.specs.declared.kind.PrimaryKind.TheVariants as primaries

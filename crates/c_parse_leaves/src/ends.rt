@@ -10,7 +10,8 @@ ghost use Rattle.c_grammar.specs.Refused.{first_is, is_type_name};
 ghost use Rattle.c_parse_steps.specs.Answers.{Answers};
 ghost use Rattle.c_parse_steps.specs.Views.{scene_of};
 
-use c_parse_steps::{Class, Context, Fault, is_type, specs_pos, taken, type_name_ahead};
+use c_grammar::Class;
+use c_parse_steps::{Context, Reading, is_type, specs_pos, taken, type_name_ahead};
 use c_written::{
     Declarator, Declarators, Enumerator, Enumerators, MemberDecl, Placed, Punctuator, Spec, Specs,
 };
@@ -22,7 +23,7 @@ pub fn members_end<'a>(
     specs: Specs,
     declarators: Vec<Declarator>,
     tokens: &'a [Placed],
-) -> Result<(MemberDecl, &'a [Placed]), Fault<'a>>
+) -> Reading<'a, MemberDecl>
     requires { first_is is_semicolon tokens.now ≡ true }
     ensures goes { Answers count (scene_of context.now) (part.MoreDeclarators (specs_tree specs) (declarators_from declarators.items)) tokens.now (λ m. memberdecl_tree m) result }
     ensures shorter { IfOk result (λ x. length x.1.now < length tokens.now) }
@@ -45,7 +46,7 @@ pub fn comma_end<'a>(
     count: u32,
     items: Vec<Enumerator>,
     tokens: &'a [Placed],
-) -> Result<(Enumerators, &'a [Placed]), Fault<'a>>
+) -> Reading<'a, Enumerators>
     requires { first_is is_right_brace tokens.now ≡ true }
     ensures goes { Answers count (scene_of context.now) (part.NextEnumerator (enumerators_from items.items)) tokens.now (λ e. enumerators_tree e) result }
     ensures shorter { IfOk result (λ x. length x.1.now < length tokens.now) }

@@ -9,8 +9,9 @@ ghost use Rattle.c_parse_steps.specs.Kinds.{primary_at, spec_at};
 ghost use Rattle.c_parse_steps.specs.Answers.{Answers};
 ghost use Rattle.c_parse_leaves.specs.Readers.{IsNotEnclosed, IsSimpleSpec};
 
+use c_grammar::Class;
 use c_parse_steps::{
-    Class, Context, Fault, Mark, PrimaryKind, SpecKind, byte_of, bytes_of, comes, constant_of,
+    Context, Lookahead, PrimaryKind, Reading, SpecKind, byte_of, bytes_of, comes, constant_of,
     name_of, primary_at, push_bytes, refused, spec_at, storage_word, taken, type_word,
 };
 use c_written::{Bytes, Expr, Keyword, Placed, Pos, Spec, StorageWord, TypeWord};
@@ -20,7 +21,7 @@ pub fn simple_primary<'a>(
     context: &Context<'_>,
     count: u32,
     tokens: &'a [Placed],
-) -> Result<(Box<Expr>, &'a [Placed]), Fault<'a>>
+) -> Reading<'a, Box<Expr>>
     requires { IsNotEnclosed (scene_of context.now) tokens.now }
     ensures goes { Answers count (scene_of context.now) (part.AnExpr part.Primary) tokens.now (λ e. boxed_expr e) result }
     ensures shorter { IfOk result (λ x. length x.1.now < length tokens.now) }
@@ -36,11 +37,7 @@ pub fn simple_primary<'a>(
 }
 
 /// A word.
-fn word<'a>(
-    context: &Context<'_>,
-    count: u32,
-    tokens: &'a [Placed],
-) -> Result<(Box<Expr>, &'a [Placed]), Fault<'a>>
+fn word<'a>(context: &Context<'_>, count: u32, tokens: &'a [Placed]) -> Reading<'a, Box<Expr>>
     requires { primary_at (scene_of context.now) tokens.now ≡ PrimaryKind.Word }
     ensures goes { Answers count (scene_of context.now) (part.AnExpr part.Primary) tokens.now (λ e. boxed_expr e) result }
     ensures shorter { IfOk result (λ x. length x.1.now < length tokens.now) }
@@ -58,11 +55,7 @@ fn word<'a>(
 }
 
 /// A number.
-fn number<'a>(
-    context: &Context<'_>,
-    count: u32,
-    tokens: &'a [Placed],
-) -> Result<(Box<Expr>, &'a [Placed]), Fault<'a>>
+fn number<'a>(context: &Context<'_>, count: u32, tokens: &'a [Placed]) -> Reading<'a, Box<Expr>>
     requires { primary_at (scene_of context.now) tokens.now ≡ PrimaryKind.Number }
     ensures goes { Answers count (scene_of context.now) (part.AnExpr part.Primary) tokens.now (λ e. boxed_expr e) result }
     ensures shorter { IfOk result (λ x. length x.1.now < length tokens.now) }
@@ -79,11 +72,7 @@ fn number<'a>(
 }
 
 /// A character constant.
-fn character<'a>(
-    context: &Context<'_>,
-    count: u32,
-    tokens: &'a [Placed],
-) -> Result<(Box<Expr>, &'a [Placed]), Fault<'a>>
+fn character<'a>(context: &Context<'_>, count: u32, tokens: &'a [Placed]) -> Reading<'a, Box<Expr>>
     requires { primary_at (scene_of context.now) tokens.now ≡ PrimaryKind.Character }
     ensures goes { Answers count (scene_of context.now) (part.AnExpr part.Primary) tokens.now (λ e. boxed_expr e) result }
     ensures shorter { IfOk result (λ x. length x.1.now < length tokens.now) }
@@ -100,11 +89,7 @@ fn character<'a>(
 }
 
 /// Strings that stand next to each other, which are one literal.
-fn strings<'a>(
-    context: &Context<'_>,
-    count: u32,
-    tokens: &'a [Placed],
-) -> Result<(Box<Expr>, &'a [Placed]), Fault<'a>>
+fn strings<'a>(context: &Context<'_>, count: u32, tokens: &'a [Placed]) -> Reading<'a, Box<Expr>>
     requires { primary_at (scene_of context.now) tokens.now ≡ PrimaryKind.Text }
     ensures goes { Answers count (scene_of context.now) (part.AnExpr part.Primary) tokens.now (λ e. boxed_expr e) result }
     ensures shorter { IfOk result (λ x. length x.1.now < length tokens.now) }
@@ -122,13 +107,13 @@ fn more_strings<'a>(
     pos: Pos,
     before: Vec<u8>,
     tokens: &'a [Placed],
-) -> Result<(Box<Expr>, &'a [Placed]), Fault<'a>>
+) -> Reading<'a, Box<Expr>>
     ensures goes { Answers count (scene_of context.now) (part.AnExpr (part.Texts pos before.items)) tokens.now (λ e. boxed_expr e) result }
     ensures shorter { IfOk result (λ x. length x.1.now ≤ length tokens.now) }
 {
     let mut bytes = before;
     let mut rest = tokens;
-    'texts: while comes(Mark::Text, rest) {
+    'texts: while comes(Lookahead::Text, rest) {
         let (text, after) = taken(context, count, 0, Class::Text, rest)?;
         push_bytes(&mut bytes, &text.token)?;
         rest = after;
@@ -144,11 +129,7 @@ fn more_strings<'a>(
 }
 
 /// A spec that holds no other.
-pub fn simple_spec<'a>(
-    context: &Context<'_>,
-    count: u32,
-    tokens: &'a [Placed],
-) -> Result<(Spec, &'a [Placed]), Fault<'a>>
+pub fn simple_spec<'a>(context: &Context<'_>, count: u32, tokens: &'a [Placed]) -> Reading<'a, Spec>
     requires { IsSimpleSpec (scene_of context.now) tokens.now }
     ensures goes { Answers count (scene_of context.now) (part.ASpec part.Spec) tokens.now (λ s. spec_tree s) result }
     ensures shorter { IfOk result (λ x. length x.1.now < length tokens.now) }
@@ -165,11 +146,7 @@ pub fn simple_spec<'a>(
 }
 
 /// A typedef name.
-fn typedef_name<'a>(
-    context: &Context<'_>,
-    count: u32,
-    tokens: &'a [Placed],
-) -> Result<(Spec, &'a [Placed]), Fault<'a>>
+fn typedef_name<'a>(context: &Context<'_>, count: u32, tokens: &'a [Placed]) -> Reading<'a, Spec>
     requires { spec_at (scene_of context.now) tokens.now ≡ SpecKind.TypedefName }
     ensures goes { Answers count (scene_of context.now) (part.ASpec part.Spec) tokens.now (λ s. spec_tree s) result }
     ensures shorter { IfOk result (λ x. length x.1.now < length tokens.now) }
@@ -191,7 +168,7 @@ fn storage<'a>(
     count: u32,
     word: StorageWord,
     tokens: &'a [Placed],
-) -> Result<(Spec, &'a [Placed]), Fault<'a>>
+) -> Reading<'a, Spec>
     requires { spec_at (scene_of context.now) tokens.now ≡ SpecKind.Storage word }
     ensures goes { Answers count (scene_of context.now) (part.ASpec part.Spec) tokens.now (λ s. spec_tree s) result }
     ensures shorter { IfOk result (λ x. length x.1.now < length tokens.now) }
@@ -207,11 +184,7 @@ fn storage<'a>(
 }
 
 /// `const`.
-fn constant<'a>(
-    context: &Context<'_>,
-    count: u32,
-    tokens: &'a [Placed],
-) -> Result<(Spec, &'a [Placed]), Fault<'a>>
+fn constant<'a>(context: &Context<'_>, count: u32, tokens: &'a [Placed]) -> Reading<'a, Spec>
     requires { spec_at (scene_of context.now) tokens.now ≡ SpecKind.Const }
     ensures goes { Answers count (scene_of context.now) (part.ASpec part.Spec) tokens.now (λ s. spec_tree s) result }
     ensures shorter { IfOk result (λ x. length x.1.now < length tokens.now) }
@@ -226,7 +199,7 @@ fn basic<'a>(
     count: u32,
     word: TypeWord,
     tokens: &'a [Placed],
-) -> Result<(Spec, &'a [Placed]), Fault<'a>>
+) -> Reading<'a, Spec>
     requires { spec_at (scene_of context.now) tokens.now ≡ SpecKind.Basic word }
     ensures goes { Answers count (scene_of context.now) (part.ASpec part.Spec) tokens.now (λ s. spec_tree s) result }
     ensures shorter { IfOk result (λ x. length x.1.now < length tokens.now) }

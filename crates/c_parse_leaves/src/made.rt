@@ -2,19 +2,17 @@
 #![tactic(auto)]
 
 ghost use Rattle.std.specs.Prelude.{◌<◌, ◌≤◌, length, IfOk};
-ghost use Rattle.c_grammar.specs.Classes.{sign};
+ghost use Rattle.c_grammar.specs.declared.class.Class.TheVariants.{Sign as sign};
 ghost use Rattle.c_parse_steps.specs.Views.{scene_of};
 ghost use Rattle.c_parse_leaves.specs.Ends.{Closes, Hands};
 
-use c_parse_steps::{Class, Context, Fault, taken};
+use c_grammar::Class;
+use c_parse_steps::{Context, Fault, Reading, taken};
 use c_written::{Placed, Punctuator};
 use std::alloc::AllocError;
 
 /// What was made, with the tokens behind it.
-pub fn handed<'a, T>(
-    made: Result<T, AllocError>,
-    tokens: &'a [Placed],
-) -> Result<(T, &'a [Placed]), Fault<'a>>
+pub fn handed<'a, T>(made: Result<T, AllocError>, tokens: &'a [Placed]) -> Reading<'a, T>
     ensures goes { Hands tokens.now made result }
     ensures shorter { IfOk result (λ x. length x.1.now ≤ length tokens.now) }
 {
@@ -24,20 +22,18 @@ pub fn handed<'a, T>(
     }
 }
 
-/// The sign that ends a form and is counted as so many forms, and what was made of the form.
+/// The sign that ends a form, and what was made of the form.
 pub fn closed<'a, T: Drop>(
     context: &Context<'_>,
     count: u32,
-    forms: u32,
     closes: Punctuator,
     made: Result<T, AllocError>,
     tokens: &'a [Placed],
-) -> Result<(T, &'a [Placed]), Fault<'a>>
-    requires { forms ≤ 200 }
-    ensures goes { Closes count (scene_of context.now) forms (sign closes) tokens.now made result }
+) -> Reading<'a, T>
+    ensures goes { Closes count (scene_of context.now) (sign closes) tokens.now made result }
     ensures shorter { IfOk result (λ x. length x.1.now < length tokens.now) }
 {
-    match taken(context, count, forms, Class::Sign(closes), tokens) {
+    match taken(context, count, 0, Class::Sign(closes), tokens) {
         Ok((_, rest)) => handed(made, rest),
         Err(fault) => Err(fault),
     }

@@ -13,8 +13,9 @@ ghost use Rattle.c_parse_leaves.specs.Readers.{IsSimpleSuffix, ReadsMember};
 ghost use Rattle.c_parse_steps.specs.Kinds.{is_no_suffix, suffix_at};
 ghost use Rattle.c_parse_steps.specs.Views.{boxed_expr, scene_of};
 
+use c_grammar::Class;
 use c_parse_steps::{
-    Class, Context, Fault, Mark, SuffixKind, arrow_expr, comes, dot_expr, is_word, name_of,
+    Context, Lookahead, Reading, SuffixKind, arrow_expr, comes, dot_expr, is_word, name_of,
     post_step_expr, step_sign, taken,
 };
 use c_written::{Expr, Exprs, Name, Placed, Pos, Punctuator, StepWay};
@@ -26,7 +27,7 @@ pub fn simple_suffix<'a>(
     kind: SuffixKind,
     base: Box<Expr>,
     tokens: &'a [Placed],
-) -> Result<(Box<Expr>, &'a [Placed]), Fault<'a>>
+) -> Reading<'a, Box<Expr>>
     requires comes { SuffixComes tokens.now kind (boxed_expr base) }
     requires simple { IsSimpleSuffix kind }
     ensures goes { Steps (λ o. Goes count (scene_of context.now) (part.AnExpr (part.Suffixes (boxed_expr base))) tokens.now o) (λ e rest o. Goes (count + 1) (scene_of context.now) (part.AnExpr (part.Suffixes (boxed_expr e))) rest o) result }
@@ -49,7 +50,7 @@ fn dot<'a>(
     count: u32,
     base: Box<Expr>,
     tokens: &'a [Placed],
-) -> Result<(Box<Expr>, &'a [Placed]), Fault<'a>>
+) -> Reading<'a, Box<Expr>>
     requires { suffix_at tokens.now ≡ SuffixKind.Dot }
     ensures goes { Steps (λ o. Goes count (scene_of context.now) (part.AnExpr (part.Suffixes (boxed_expr base))) tokens.now o) (λ e rest o. Goes (count + 1) (scene_of context.now) (part.AnExpr (part.Suffixes (boxed_expr e))) rest o) result }
     ensures within { IfOk result (λ _. count + 1 ≤ 200) }
@@ -66,7 +67,7 @@ fn arrow<'a>(
     count: u32,
     base: Box<Expr>,
     tokens: &'a [Placed],
-) -> Result<(Box<Expr>, &'a [Placed]), Fault<'a>>
+) -> Reading<'a, Box<Expr>>
     requires { suffix_at tokens.now ≡ SuffixKind.Arrow }
     ensures goes { Steps (λ o. Goes count (scene_of context.now) (part.AnExpr (part.Suffixes (boxed_expr base))) tokens.now o) (λ e rest o. Goes (count + 1) (scene_of context.now) (part.AnExpr (part.Suffixes (boxed_expr e))) rest o) result }
     ensures within { IfOk result (λ _. count + 1 ≤ 200) }
@@ -83,7 +84,7 @@ fn member<'a>(
     count: u32,
     sign: Punctuator,
     tokens: &'a [Placed],
-) -> Result<((Pos, Name), &'a [Placed]), Fault<'a>>
+) -> Reading<'a, (Pos, Name)>
     ensures goes { ReadsMember count (scene_of context.now) sign tokens.now result }
     ensures within { IfOk result (λ _. count + 1 ≤ 200) }
     ensures shorter { IfOk result (λ x. length x.1.now < length tokens.now) }
@@ -101,7 +102,7 @@ fn post_step<'a>(
     way: StepWay,
     base: Box<Expr>,
     tokens: &'a [Placed],
-) -> Result<(Box<Expr>, &'a [Placed]), Fault<'a>>
+) -> Reading<'a, Box<Expr>>
     requires { suffix_at tokens.now ≡ SuffixKind.Step way }
     ensures goes { Steps (λ o. Goes count (scene_of context.now) (part.AnExpr (part.Suffixes (boxed_expr base))) tokens.now o) (λ e rest o. Goes (count + 1) (scene_of context.now) (part.AnExpr (part.Suffixes (boxed_expr e))) rest o) result }
     ensures within { IfOk result (λ _. count + 1 ≤ 200) }
@@ -118,7 +119,7 @@ pub fn no_arguments<'a>(
     context: &Context<'_>,
     count: u32,
     tokens: &'a [Placed],
-) -> Result<(Exprs, &'a [Placed]), Fault<'a>>
+) -> Reading<'a, Exprs>
     requires { first_is is_close tokens.now ≡ true }
     ensures goes { Answers count (scene_of context.now) part.Arguments tokens.now (λ a. exprs_tree a) result }
     ensures shorter { IfOk result (λ x. length x.1.now < length tokens.now) }
@@ -143,7 +144,7 @@ pub fn word_of(base: Box<Expr>) -> (Pos, Name)
 pub fn calls_no_word(base: &Expr, tokens: &[Placed]) -> bool
     ensures { result ≡ (first_is is_open tokens.now && not (is_word (expr_tree base.now))) }
 {
-    comes(Mark::Open, tokens) && !is_word(base)
+    comes(Lookahead::Open, tokens) && !is_word(base)
 }
 
 /// Whether no postfix form comes.

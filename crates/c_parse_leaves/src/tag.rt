@@ -8,7 +8,8 @@ ghost use Rattle.c_parse_steps.specs.Kinds.{spec_at, tag_at};
 ghost use Rattle.c_parse_steps.specs.Views.{scene_of};
 ghost use Rattle.c_parse_leaves.specs.Tags.{NamesOrBraces, ReadsHead, ReadsTag, of_enumeration, of_structure};
 
-use c_parse_steps::{Class, Context, Fault, SpecKind, TagKind, name_of, refused, tag_at, taken};
+use c_grammar::Class;
+use c_parse_steps::{Context, Reading, SpecKind, TagKind, name_of, refused, tag_at, taken};
 use c_written::{Keyword, Placed, Pos, Spec, Tag};
 
 /// `struct` and its tag, where there is one.
@@ -16,7 +17,7 @@ pub fn structure_head<'a>(
     context: &Context<'_>,
     count: u32,
     tokens: &'a [Placed],
-) -> Result<((Pos, Option<Tag>), &'a [Placed]), Fault<'a>>
+) -> Reading<'a, (Pos, Option<Tag>)>
     requires { spec_at (scene_of context.now) tokens.now ≡ SpecKind.Structure }
     ensures goes { ReadsHead of_structure count (scene_of context.now) tokens.now result }
     ensures begun { IfOk result (λ x. NamesOrBraces x.0.1 x.1.now) }
@@ -33,7 +34,7 @@ pub fn enumeration_head<'a>(
     context: &Context<'_>,
     count: u32,
     tokens: &'a [Placed],
-) -> Result<((Pos, Option<Tag>), &'a [Placed]), Fault<'a>>
+) -> Reading<'a, (Pos, Option<Tag>)>
     requires { spec_at (scene_of context.now) tokens.now ≡ SpecKind.Enumeration }
     ensures goes { ReadsHead of_enumeration count (scene_of context.now) tokens.now result }
     ensures begun { IfOk result (λ x. NamesOrBraces x.0.1 x.1.now) }
@@ -46,11 +47,7 @@ pub fn enumeration_head<'a>(
 }
 
 /// A tag, where there is one.
-fn tag<'a>(
-    context: &Context<'_>,
-    count: u32,
-    tokens: &'a [Placed],
-) -> Result<(Option<Tag>, &'a [Placed]), Fault<'a>>
+fn tag<'a>(context: &Context<'_>, count: u32, tokens: &'a [Placed]) -> Reading<'a, Option<Tag>>
     ensures goes { ReadsTag count (scene_of context.now) tokens.now result }
     ensures begun { IfOk result (λ x. NamesOrBraces x.0 x.1.now) }
     ensures shorter { IfOk result (λ x. length x.1.now ≤ length tokens.now) }
@@ -67,7 +64,7 @@ fn given_tag<'a>(
     context: &Context<'_>,
     count: u32,
     tokens: &'a [Placed],
-) -> Result<(Option<Tag>, &'a [Placed]), Fault<'a>>
+) -> Reading<'a, Option<Tag>>
     requires { tag_at tokens.now ≡ TagKind.Tag }
     ensures goes { ReadsTag count (scene_of context.now) tokens.now result }
     ensures begun { IfOk result (λ x. NamesOrBraces x.0 x.1.now) }

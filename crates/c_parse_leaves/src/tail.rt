@@ -10,11 +10,12 @@ ghost use Rattle.c_grammar.specs.Choice.{is_const_word};
 ghost use Rattle.c_grammar.specs.Refused.{first_is, is_type_name, may_name, may_omit};
 ghost use Rattle.c_parse_steps.specs.Answers.{Answers, Consts, SizeIsMissing};
 ghost use Rattle.c_parse_steps.specs.Kinds.{is_no_tail};
-ghost use Rattle.c_parse_steps.specs.Views.{boxed_declarator, role_view, scene_of};
+ghost use Rattle.c_parse_steps.specs.Views.{boxed_declarator, scene_of};
 ghost use Rattle.c_parse_leaves.specs.Readers.{ReadsName};
 
+use c_grammar::{Class, Role};
 use c_parse_steps::{
-    Class, Context, Fault, Mark, Role, TailKind, comes, empty_declarator, is_given, name_of,
+    Context, Lookahead, Reading, TailKind, comes, empty_declarator, is_given, name_of,
     open_array_declarator, params_ahead, taken, type_name_ahead,
 };
 use c_written::{Declarator, Keyword, Placed, Pos, Punctuator};
@@ -24,7 +25,7 @@ pub fn declared_name<'a>(
     context: &Context<'_>,
     count: u32,
     tokens: &'a [Placed],
-) -> Result<(Box<Declarator>, &'a [Placed]), Fault<'a>>
+) -> Reading<'a, Box<Declarator>>
     ensures goes { ReadsName count (scene_of context.now) tokens.now result }
     ensures shorter { IfOk result (λ x. length x.1.now < length tokens.now) }
 {
@@ -42,14 +43,14 @@ pub fn consts<'a>(
     count: u32,
     at: Pos,
     tokens: &'a [Placed],
-) -> Result<(bool, &'a [Placed]), Fault<'a>>
-    ensures goes { Consts count (scene_of context.now) (role_view role) at tokens.now result }
+) -> Reading<'a, bool>
+    ensures goes { Consts count (scene_of context.now) role at tokens.now result }
     ensures ended { IfOk result (λ x. first_is is_const_word x.1.now ≡ false) }
     ensures shorter { IfOk result (λ x. length x.1.now ≤ length tokens.now) }
 {
     let mut is_const = false;
     let mut rest = tokens;
-    'words: while comes(Mark::Const, rest) {
+    'words: while comes(Lookahead::Const, rest) {
         let (_word, after) = taken(context, count, 0, Class::Keyword(Keyword::Const), rest)?;
         is_const = true;
         rest = after;
@@ -65,9 +66,9 @@ pub fn no_size<'a>(
     at: Pos,
     inner: Box<Declarator>,
     tokens: &'a [Placed],
-) -> Result<(Box<Declarator>, &'a [Placed]), Fault<'a>>
-    requires { SizeIsMissing (role_view role) tokens.now }
-    ensures goes { Answers count (scene_of context.now) (part.ADeclarator (part.Size (role_view role) at (boxed_declarator inner))) tokens.now (λ d. boxed_declarator d) result }
+) -> Reading<'a, Box<Declarator>>
+    requires { SizeIsMissing role tokens.now }
+    ensures goes { Answers count (scene_of context.now) (part.ADeclarator (part.Size role at (boxed_declarator inner))) tokens.now (λ d. boxed_declarator d) result }
     ensures shorter { IfOk result (λ x. length x.1.now < length tokens.now) }
 {
     let closes = Class::Sign(Punctuator::RightBracket);
@@ -83,7 +84,7 @@ pub fn no_parameters<'a>(
     at: Pos,
     inner: Box<Declarator>,
     tokens: &'a [Placed],
-) -> Result<(Box<Declarator>, &'a [Placed]), Fault<'a>>
+) -> Reading<'a, Box<Declarator>>
     requires { first_is is_close tokens.now ≡ true }
     ensures goes { Answers count (scene_of context.now) (part.ADeclarator (part.Parameters at (boxed_declarator inner))) tokens.now (λ d. boxed_declarator d) result }
     ensures shorter { IfOk result (λ x. length x.1.now < length tokens.now) }
@@ -96,14 +97,14 @@ pub fn no_parameters<'a>(
 
 /// A typedef name comes where a name may be declared.
 pub fn type_name_comes(context: &Context<'_>, role: Role, tokens: &[Placed]) -> bool
-    ensures { result ≡ (first_is (is_type_name (scene_of context.now)) tokens.now && may_name (role_view role)) }
+    ensures { result ≡ (first_is (is_type_name (scene_of context.now)) tokens.now && may_name role) }
 {
     type_name_ahead(context, tokens) && role.may_name()
 }
 
 /// Parameters come where a name is missing.
 pub fn params_come(context: &Context<'_>, role: Role, tokens: &[Placed]) -> bool
-    ensures { result ≡ (may_omit (role_view role) && params_ahead (scene_of context.now) tokens.now) }
+    ensures { result ≡ (may_omit role && params_ahead (scene_of context.now) tokens.now) }
 {
     role.may_omit() && params_ahead(context, tokens)
 }
@@ -112,7 +113,7 @@ pub fn params_come(context: &Context<'_>, role: Role, tokens: &[Placed]) -> bool
 pub fn calls_no_name(is_plain: bool, inner: &Declarator, tokens: &[Placed]) -> bool
     ensures { result ≡ (first_is is_open tokens.now && (not is_plain && is_given (declarator_tree inner.now))) }
 {
-    comes(Mark::Open, tokens) && !is_plain && is_given(inner)
+    comes(Lookahead::Open, tokens) && !is_plain && is_given(inner)
 }
 
 /// Whether neither brackets nor parameters come.

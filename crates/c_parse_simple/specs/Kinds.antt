@@ -11,9 +11,10 @@ use Rattle.c_written.specs.declared.token.Token.{Token}
 use Rattle.c_written.specs.declared.token.Token.TheVariants as kinds
 use Rattle.c_written.specs.declared.written.Expr.{Expr}
 use Rattle.c_written.specs.Written.{ExprTree}
-use Rattle.c_grammar.specs.Parts.{Scene, Closing, by_semicolon, by_parenthesis, AnExpr, Close, Part, Value}
+use Rattle.c_grammar.specs.declared.parts.Closing.TheVariants.{ByParenthesis as by_parenthesis}
+use Rattle.c_grammar.specs.Parts.{Scene, AnExpr, Close, Part, Value}
 use Rattle.c_grammar.specs.Ahead.{label_ahead}
-use Rattle.c_grammar.specs.Classes.{sign}
+use Rattle.c_grammar.specs.declared.class.Class.TheVariants.{Sign as sign}
 use Rattle.c_grammar.specs.Process.{Process, token, part}
 use Rattle.c_grammar.specs.ExprRules.{Expression}
 use Rattle.c_grammar.specs.Descent.{Outcome, Stop, Follows}
@@ -22,12 +23,6 @@ use Rattle.c_parse_steps.specs.Views.{boxed_expr}
 use Rattle.c_parse_steps.specs.Answers.{Halts}
 use Rattle.c_parse_simple.specs.declared.stmt_kind.StatementKind.{StatementKind}
 use Rattle.c_parse_simple.specs.declared.stmt_kind.StatementKind.TheVariants as statements
-use Rattle.c_parse_simple.specs.declared.stmt_leaf.Closing.{Closing as Ending}
-use Rattle.c_parse_simple.specs.declared.stmt_leaf.Closing.TheVariants as endings
-
-abbrev pub closing_view : Ending → Closing
-closing_view endings.BySemicolon = by_semicolon
-closing_view endings.ByParenthesis = by_parenthesis
 
 abbrev pub statement_of_word : Keyword → StatementKind
 statement_of_word keywords.Case = statements.Case

@@ -11,6 +11,6 @@ mod stmt_leaf;
 
 pub use stmt_kind::{StatementKind, ends_open, no_left_bracket, statement_at};
 pub use stmt_leaf::{
-    Closing, condition, empty, expression, goto, leave, next_turn, optional, return_statement,
-    unboxed,
+    break_statement, condition, continue_statement, empty_statement, expression_statement,
+    goto_statement, optional, return_statement,
 };

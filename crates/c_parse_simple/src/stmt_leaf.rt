@@ -2,54 +2,38 @@
 #![tactic(auto)]
 
 ghost use Rattle.std.specs.Prelude.{◌≡◌, ℕ, ◌+◌, ◌<◌, ◌≤◌, Bool, List, length, option_map, IfOk};
-ghost use Rattle.c_written.specs.Written.{expr_tree};
 ghost use Rattle.c_written.specs.WrittenFile.{Expression, stmt_tree};
 ghost use Rattle.c_written.specs.WrittenParts.{expr_pos};
 ghost use Rattle.c_grammar.specs.Parts as part;
 ghost use Rattle.c_parse_steps.specs.Answers.{Answers};
-ghost use Rattle.c_parse_steps.specs.Views.{boxed_expr, mark_test, scene_of};
-ghost use Rattle.c_parse_simple.specs.Kinds.{Conditions, StatementStarts, closing_view};
+ghost use Rattle.c_parse_steps.specs.Views.{boxed_expr, lookahead_test, scene_of};
+ghost use Rattle.c_parse_simple.specs.Kinds.{Conditions, StatementStarts};
 ghost use Rattle.c_parse_simple.specs.declared.stmt_kind.StatementKind.{StatementKind};
 ghost use Rattle.c_grammar.specs.Choice.{is_closing};
-ghost use Rattle.c_grammar.specs.Classes.{closing_sign};
 
-use c_parse_exprs::run;
-use c_parse_steps::{Class, Context, Fault, Level, Mark, comes, name_of, taken};
+use c_grammar::{Class, Closing, Level};
+use c_parse_exprs::joined_operands;
+use c_parse_steps::{Context, Lookahead, Reading, comes, name_of, taken};
 use c_written::{Expr, Keyword, Placed, Punctuator, Stmt};
 
-/// What ends an expression that may be missing.
-#[derive(Clone, Copy, Debug, PartialEq, Eq)]
-pub enum Closing {
-    BySemicolon,
-    ByParenthesis,
-}
-
-impl Closing {
-    fn mark(self) -> Mark
-        ensures { mark_test result ≡ is_closing (closing_view self) }
-    {
-        match self {
-            Closing::BySemicolon => Mark::Semicolon,
-            Closing::ByParenthesis => Mark::Close,
-        }
-    }
-
-    fn sign(self) -> Punctuator
-        ensures { result ≡ closing_sign (closing_view self) }
-    {
-        match self {
-            Closing::BySemicolon => Punctuator::Semicolon,
-            Closing::ByParenthesis => Punctuator::RightParenthesis,
-        }
+/// The token by which what ends an expression is told.
+fn lookahead_of(closing: Closing) -> Lookahead
+    ensures { lookahead_test result ≡ is_closing closing }
+{
+    match closing {
+        Closing::BySemicolon => Lookahead::Semicolon,
+        Closing::ByParenthesis => Lookahead::Close,
+        Closing::ByBracket => Lookahead::RightBracket,
+        Closing::ByColon => Lookahead::Colon,
     }
 }
 
 /// A semicolon alone.
-pub fn empty<'a>(
+pub fn empty_statement<'a>(
     context: &Context<'_>,
     count: u32,
     tokens: &'a [Placed],
-) -> Result<(Stmt, &'a [Placed]), Fault<'a>>
+) -> Reading<'a, Stmt>
     requires { StatementStarts (scene_of context.now) tokens.now StatementKind.Empty }
     ensures goes { (b : Bool) → Answers count (scene_of context.now) (part.AStmt (part.Statement b)) tokens.now (λ s. stmt_tree s) result }
     ensures shorter { IfOk result (λ x. length x.1.now < length tokens.now) }
@@ -60,26 +44,26 @@ pub fn empty<'a>(
 }
 
 /// An expression and its semicolon.
-pub fn expression<'a>(
+pub fn expression_statement<'a>(
     context: &Context<'_>,
     count: u32,
     tokens: &'a [Placed],
-) -> Result<(Stmt, &'a [Placed]), Fault<'a>>
+) -> Reading<'a, Stmt>
     requires { StatementStarts (scene_of context.now) tokens.now StatementKind.Expression }
     ensures goes { (b : Bool) → Answers count (scene_of context.now) (part.AStmt (part.Statement b)) tokens.now (λ s. stmt_tree s) result }
     ensures shorter { IfOk result (λ x. length x.1.now < length tokens.now) }
 {
     let semicolon = Class::Sign(Punctuator::Semicolon);
-    let (value, rest) = run(context, Level::Commas, count, tokens)?;
+    let (value, rest) = joined_operands(context, Level::Commas, count, tokens)?;
     let (_end, rest) = taken(context, count, 0, semicolon, rest)?;
     Ok((expression_stmt(value), rest))
 }
 
 /// The statement that an expression is.
+#[tactic(auto, using(c_written::proofs::Trees::the_written_trees))]
 fn expression_stmt(value: Box<Expr>) -> Stmt
     ensures { stmt_tree result ≡ Expression (expr_pos (boxed_expr value)) (boxed_expr value) }
 {
-    let value = Box::into_inner(value);
     Stmt::Expression {
         pos: value.pos(),
         value,
@@ -87,11 +71,11 @@ fn expression_stmt(value: Box<Expr>) -> Stmt
 }
 
 /// A jump to a label.
-pub fn goto<'a>(
+pub fn goto_statement<'a>(
     context: &Context<'_>,
     count: u32,
     tokens: &'a [Placed],
-) -> Result<(Stmt, &'a [Placed]), Fault<'a>>
+) -> Reading<'a, Stmt>
     requires { StatementStarts (scene_of context.now) tokens.now StatementKind.Goto }
     ensures goes { (b : Bool) → Answers count (scene_of context.now) (part.AStmt (part.Statement b)) tokens.now (λ s. stmt_tree s) result }
     ensures shorter { IfOk result (λ x. length x.1.now < length tokens.now) }
@@ -105,11 +89,11 @@ pub fn goto<'a>(
 }
 
 /// `continue`.
-pub fn next_turn<'a>(
+pub fn continue_statement<'a>(
     context: &Context<'_>,
     count: u32,
     tokens: &'a [Placed],
-) -> Result<(Stmt, &'a [Placed]), Fault<'a>>
+) -> Reading<'a, Stmt>
     requires { StatementStarts (scene_of context.now) tokens.now StatementKind.Continue }
     ensures goes { (b : Bool) → Answers count (scene_of context.now) (part.AStmt (part.Statement b)) tokens.now (λ s. stmt_tree s) result }
     ensures shorter { IfOk result (λ x. length x.1.now < length tokens.now) }
@@ -121,11 +105,11 @@ pub fn next_turn<'a>(
 }
 
 /// `break`.
-pub fn leave<'a>(
+pub fn break_statement<'a>(
     context: &Context<'_>,
     count: u32,
     tokens: &'a [Placed],
-) -> Result<(Stmt, &'a [Placed]), Fault<'a>>
+) -> Reading<'a, Stmt>
     requires { StatementStarts (scene_of context.now) tokens.now StatementKind.Break }
     ensures goes { (b : Bool) → Answers count (scene_of context.now) (part.AStmt (part.Statement b)) tokens.now (λ s. stmt_tree s) result }
     ensures shorter { IfOk result (λ x. length x.1.now < length tokens.now) }
@@ -141,14 +125,13 @@ pub fn return_statement<'a>(
     context: &Context<'_>,
     count: u32,
     tokens: &'a [Placed],
-) -> Result<(Stmt, &'a [Placed]), Fault<'a>>
+) -> Reading<'a, Stmt>
     requires { StatementStarts (scene_of context.now) tokens.now StatementKind.Return }
     ensures goes { (b : Bool) → Answers count (scene_of context.now) (part.AStmt (part.Statement b)) tokens.now (λ s. stmt_tree s) result }
     ensures shorter { IfOk result (λ x. length x.1.now < length tokens.now) }
 {
     let (at, behind) = taken(context, count, 0, Class::Keyword(Keyword::Return), tokens)?;
     let (value, rest) = optional(context, Closing::BySemicolon, count, behind)?;
-    let value = unboxed(value);
     Ok((Stmt::Return { pos: at.pos, value }, rest))
 }
 
@@ -158,28 +141,18 @@ pub fn optional<'a>(
     closing: Closing,
     count: u32,
     tokens: &'a [Placed],
-) -> Result<(Option<Box<Expr>>, &'a [Placed]), Fault<'a>>
-    ensures goes { Answers count (scene_of context.now) (part.Optionally (closing_view closing)) tokens.now (λ e. option_map (λ v. boxed_expr v) e) result }
+) -> Reading<'a, Option<Box<Expr>>>
+    ensures goes { Answers count (scene_of context.now) (part.Optionally closing) tokens.now (λ e. option_map (λ v. boxed_expr v) e) result }
     ensures shorter { IfOk result (λ x. length x.1.now < length tokens.now) }
 {
     let sign = Class::Sign(closing.sign());
-    if comes(closing.mark(), tokens) {
+    if comes(lookahead_of(closing), tokens) {
         let (_end, rest) = taken(context, count, 0, sign, tokens)?;
         return Ok((None, rest));
     }
-    let (value, rest) = run(context, Level::Commas, count, tokens)?;
+    let (value, rest) = joined_operands(context, Level::Commas, count, tokens)?;
     let (_end, rest) = taken(context, count, 0, sign, rest)?;
     Ok((Some(value), rest))
-}
-
-/// The expression out of its box, where there is one.
-pub fn unboxed(value: Option<Box<Expr>>) -> Option<Expr>
-    ensures { option_map (λ v. expr_tree v) result ≡ option_map (λ v. boxed_expr v) value }
-{
-    match value {
-        Some(value) => Some(Box::into_inner(value)),
-        None => None,
-    }
 }
 
 /// An expression between parentheses, behind the word of a statement.
@@ -187,14 +160,14 @@ pub fn condition<'a>(
     context: &Context<'_>,
     count: u32,
     tokens: &'a [Placed],
-) -> Result<(Box<Expr>, &'a [Placed]), Fault<'a>>
+) -> Reading<'a, Box<Expr>>
     ensures goes { Conditions count (scene_of context.now) tokens.now result }
     ensures shorter { IfOk result (λ x. length x.1.now < length tokens.now) }
 {
     let opens = Class::Sign(Punctuator::LeftParenthesis);
     let closes = Class::Sign(Punctuator::RightParenthesis);
     let (_opening, behind) = taken(context, count, 1, opens, tokens)?;
-    let (value, rest) = run(context, Level::Commas, count + 1, behind)?;
+    let (value, rest) = joined_operands(context, Level::Commas, count + 1, behind)?;
     let (_close, rest) = taken(context, count + 1, 0, closes, rest)?;
     Ok((value, rest))
 }

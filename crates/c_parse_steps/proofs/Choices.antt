@@ -8,7 +8,9 @@ use Rattle.c_written.specs.declared.token.Punctuator.TheVariants as signs
 use Rattle.c_written.specs.declared.token.Token.{Token}
 use Rattle.c_written.specs.declared.token.Token.TheVariants as kinds
 use Rattle.c_written.specs.Written.{ExprTree}
-use Rattle.c_grammar.specs.Parts.{Scene, Part, Value, Level, Joint, Primary, Suffixes, More, AnExpr}
+use Rattle.c_grammar.specs.declared.parts.Level.{Level}
+use Rattle.c_grammar.specs.declared.parts.Joint.{Joint}
+use Rattle.c_grammar.specs.Parts.{Scene, Part, Value, Primary, Suffixes, More, AnExpr}
 use Rattle.c_grammar.specs.Process.{Process}
 use Rattle.c_grammar.specs.Grammar.{Produces, expr_rule}
 use Rattle.c_grammar.specs.ExprRules as exprs

@@ -4,8 +4,11 @@ use Rattle.std.specs.Prelude.{Bool, true, Some, None, Result, Ok, Err}
 use Rattle.std.specs.Result.{IsErrAnd}
 use Rattle.c_written.specs.declared.construct.Construct.{Construct}
 use Rattle.c_written.specs.declared.token.Placed.{Placed}
-use Rattle.c_grammar.specs.Parts.{Scene, Closing, Close, Part, Value}
-use Rattle.c_grammar.specs.Classes.{Class, sign, closing_sign}
+use Rattle.c_grammar.specs.declared.parts.Closing.{Closing}
+use Rattle.c_grammar.specs.Parts.{Scene, Close, Part, Value}
+use Rattle.c_grammar.specs.declared.class.Class.{Class}
+use Rattle.c_grammar.specs.declared.class.Class.TheVariants.{Sign as sign}
+use Rattle.c_grammar.specs.Classes.{closing_sign}
 use Rattle.c_grammar.specs.Process.{Process, give, token, part, only}
 use Rattle.c_grammar.specs.Grammar.{Produces}
 use Rattle.c_grammar.specs.Refused.{part_construct}
@@ -77,11 +80,6 @@ barred_at e h = halted (stopped h (is_barred e))
 pub lasts : {A : Type 0} {p i : Part} {goes : Outcome (Value p) → Type 0} {d : ℕ} {w s : Scene} {k : Value i → Process (Value p)} {of_part : A → Value i} {view : A → Value p} {ts : List Placed} {r : Result (A × Bor (List Placed)) Fault} → Path p goes d w (part 0 s i k) ts → Gives (λ o. Goes d s i ts o) of_part r → ((a : A) → k (of_part a) ≡ give (view a)) → Gives goes view r
 lasts {p = p} {d = d} {w = w} {view = view} {r = Ok x} path (given h) e = given (path.run _ (here h (subst (λ q. Follows d w p q x.1.now (Done (view x.0) x.1.now)) (sym (e x.0)) is_done)))
 lasts {r = Err f} path (halted g) e = halted (halts g (λ why rest h. path.run _ (stops_here h)))
-
--- what is left decides for all
-pub decides : {A V : Type 0} {goes others : Outcome V → Type 0} {view : A → V} (r : Result (A × Bor (List Placed)) Fault) → ((o : Outcome V) → goes o → others o) → Gives goes view r → Gives others view r
-decides (Ok x) step (given h) = given (step _ h)
-decides (Err f) step (halted h) = halted (halts h (λ why rest g. step _ g))
 
 -- what was read is the whole, in another form
 pub same_value : {A B V : Type 0} {goes : Outcome V → Type 0} {view : A → V} {other : B → V} {x : A × Bor (List Placed)} {y : B} → Gives goes view (Ok x) → other y ≡ view x.0 → Gives goes other (Ok (y, x.1))

@@ -7,8 +7,11 @@ use Rattle.c_written.specs.declared.construct.Construct.{Construct}
 use Rattle.c_written.specs.declared.token.Placed.{Placed}
 use Rattle.c_written.specs.declared.token.Punctuator.{Punctuator}
 use Rattle.c_written.specs.declared.token.Keyword.{Keyword}
-use Rattle.c_grammar.specs.Parts.{Scene, Closing, Close, Part, Value}
-use Rattle.c_grammar.specs.Classes.{Class, Fits, sign, keyword, closing_sign}
+use Rattle.c_grammar.specs.declared.parts.Closing.{Closing}
+use Rattle.c_grammar.specs.Parts.{Scene, Close, Part, Value}
+use Rattle.c_grammar.specs.declared.class.Class.{Class}
+use Rattle.c_grammar.specs.declared.class.Class.TheVariants.{Sign as sign, Keyword as keyword}
+use Rattle.c_grammar.specs.Classes.{Fits, closing_sign}
 use Rattle.c_grammar.specs.Process.{Process, give, token, part}
 use Rattle.c_grammar.specs.ExprRules as exprs
 use Rattle.c_grammar.specs.Grammar.{Produces, expr_rule}

@@ -8,7 +8,8 @@ use Rattle.c_written.specs.declared.token.Token.TheVariants as kinds
 use Rattle.c_written.specs.Written.{ExprTree}
 use Rattle.c_grammar.specs.Parts.{Scene, Part, Value, Texts, AnExpr}
 use Rattle.c_grammar.specs.Process.{Process, give, token, part}
-use Rattle.c_grammar.specs.Classes.{text, bytes_of}
+use Rattle.c_grammar.specs.declared.class.Class.TheVariants.{Text as text}
+use Rattle.c_grammar.specs.Classes.{bytes_of}
 use Rattle.c_grammar.specs.Grammar.{expr_rule}
 use Rattle.c_grammar.specs.ExprRules as exprs
 use Rattle.c_grammar.specs.Refused.{first_is, Why}

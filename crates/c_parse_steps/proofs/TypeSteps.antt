@@ -15,9 +15,11 @@ use Rattle.c_written.specs.declared.written.MemberDecl.TheVariants as lines
 use Rattle.c_written.proofs.WrittenTrees.{spec_typedef_name, memberdecl_members}
 use Rattle.c_written.specs.Written as trees
 use Rattle.c_written.specs.Written.{SpecTree, SpecTrees, no_specs, more_specs, specs_then, DeclaratorTree, DeclaratorTrees, declarators_then, MemberDeclTree, MemberDeclTrees, memberdecls_then, EnumeratorTree, EnumeratorTrees, enumerators_then, spec_tree, specs_tree, memberdecl_tree, declarators_tree}
-use Rattle.c_grammar.specs.Parts.{Scene, Spec, Structure, StructureTagged, Enumeration, EnumerationTagged, Declarator, OfMember, ASpec, ADeclarator, MoreSpecs, Members, MoreMembers, MoreDeclarators, Enumerators, MoreEnumerators, NextEnumerator, EnumeratorValue}
+use Rattle.c_grammar.specs.declared.parts.Role.TheVariants.{OfMember}
+use Rattle.c_grammar.specs.Parts.{Scene, Spec, Structure, StructureTagged, Enumeration, EnumerationTagged, Declarator, ASpec, ADeclarator, MoreSpecs, Members, MoreMembers, MoreDeclarators, Enumerators, MoreEnumerators, NextEnumerator, EnumeratorValue}
 use Rattle.c_grammar.specs.Process.{give, part}
-use Rattle.c_grammar.specs.Classes.{sign, names_type}
+use Rattle.c_grammar.specs.declared.class.Class.TheVariants.{Sign as sign}
+use Rattle.c_grammar.specs.Classes.{names_type}
 use Rattle.c_grammar.specs.Grammar.{type_rule}
 use Rattle.c_grammar.specs.TypeRules as types
 use Rattle.c_grammar.specs.Ahead.{is_colon, spec_ahead}

@@ -4,8 +4,9 @@ use Rattle.std.proofs.Common.{Bor}
 use Rattle.c_written.specs.declared.construct.Construct.{Construct}
 use Rattle.c_written.specs.declared.place.Pos.{Pos}
 use Rattle.c_written.specs.declared.token.Placed.{Placed}
-use Rattle.c_grammar.specs.Parts.{Scene, Role, Pointed, Tails, ADeclarator, Part, Value}
-use Rattle.c_grammar.specs.Classes.{Class}
+use Rattle.c_grammar.specs.declared.parts.Role.{Role}
+use Rattle.c_grammar.specs.Parts.{Scene, Pointed, Tails, ADeclarator, Part, Value}
+use Rattle.c_grammar.specs.declared.class.Class.{Class}
 use Rattle.c_grammar.specs.Process.{Process, token}
 use Rattle.c_grammar.specs.Refused.{Why, Syntax, Unsupported, TooDeep, first_is, is_type_name, is_right_bracket, may_name, may_omit, in_member, part_construct}
 use Rattle.c_grammar.specs.Ahead.{params_ahead}

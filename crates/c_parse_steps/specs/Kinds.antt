@@ -13,14 +13,17 @@ use Rattle.c_written.specs.declared.written.StorageWord.TheVariants as storages
 use Rattle.c_written.specs.declared.written.TypeWord.TheVariants as type_words
 use Rattle.c_written.specs.declared.written.UnaryOp.TheVariants as unaries
 use Rattle.c_written.specs.Written.{SpecTree, Basic, SpecTrees, no_specs, more_specs, ParamTrees, no_params, more_params}
-use Rattle.c_grammar.specs.Parts.{Scene, Level, Joint, Role, Naming, OfMember, OfParameter, OfTypeName}
+use Rattle.c_grammar.specs.declared.parts.Level.{Level}
+use Rattle.c_grammar.specs.declared.parts.Joint.{Joint}
+use Rattle.c_grammar.specs.declared.parts.Role.{Role}
+use Rattle.c_grammar.specs.declared.parts.Role.TheVariants.{Naming, OfMember, OfParameter, OfTypeName}
+use Rattle.c_grammar.specs.Parts.{Scene}
 use Rattle.c_grammar.specs.Classes.{names_type, level_of}
 use Rattle.c_grammar.specs.Made.{is_bare_void}
 use Rattle.c_grammar.specs.Choice.{joint_of, same_level, assign_of_sign as compound_of_sign}
-use Rattle.c_parse_steps.specs.declared.level.Level.{Level as Rank}
-use Rattle.c_parse_steps.specs.declared.level.Level.TheVariants as ranks
-use Rattle.c_parse_steps.specs.declared.level.Operand.{Operand}
-use Rattle.c_parse_steps.specs.declared.level.Operand.TheVariants as operands
+use Rattle.c_grammar.specs.declared.parts.Level.TheVariants as levels
+use Rattle.c_parse_steps.specs.declared.level.OperandKind.{OperandKind}
+use Rattle.c_parse_steps.specs.declared.level.OperandKind.TheVariants as operands
 use Rattle.c_parse_steps.specs.declared.kind.AssignKind.{AssignKind}
 use Rattle.c_parse_steps.specs.declared.kind.AssignKind.TheVariants as assigns
 use Rattle.c_parse_steps.specs.declared.kind.PrefixKind.{PrefixKind}
@@ -53,18 +56,18 @@ sign_at [] = None
 sign_at (t ∷ ts) = sign_of t.token
 
 -- what the joints of a level stand between
-abbrev pub operand_of : Rank → Operand
-operand_of ranks.Commas = operands.Assignment
-operand_of ranks.Ors = operands.Run ranks.Ands
-operand_of ranks.Ands = operands.Run ranks.BitOrs
-operand_of ranks.BitOrs = operands.Run ranks.BitXors
-operand_of ranks.BitXors = operands.Run ranks.BitAnds
-operand_of ranks.BitAnds = operands.Run ranks.Equalities
-operand_of ranks.Equalities = operands.Run ranks.Relations
-operand_of ranks.Relations = operands.Run ranks.Shifts
-operand_of ranks.Shifts = operands.Run ranks.Sums
-operand_of ranks.Sums = operands.Run ranks.Products
-operand_of ranks.Products = operands.Cast
+abbrev pub operand_of : Level → OperandKind
+operand_of levels.Commas = operands.Assignment
+operand_of levels.Ors = operands.Run levels.Ands
+operand_of levels.Ands = operands.Run levels.BitOrs
+operand_of levels.BitOrs = operands.Run levels.BitXors
+operand_of levels.BitXors = operands.Run levels.BitAnds
+operand_of levels.BitAnds = operands.Run levels.Equalities
+operand_of levels.Equalities = operands.Run levels.Relations
+operand_of levels.Relations = operands.Run levels.Shifts
+operand_of levels.Shifts = operands.Run levels.Sums
+operand_of levels.Sums = operands.Run levels.Products
+operand_of levels.Products = operands.Cast
 
 -- the joint, where it is of the level
 abbrev pub joint_where : {l : Level} (j : Joint) → Option (level_of j ≡ l) → Option Joint

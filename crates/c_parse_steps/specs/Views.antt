@@ -8,33 +8,17 @@ use Rattle.c_written.specs.Written.{DeclaratorTree, ExprTree, declarator_tree, e
 use Rattle.c_written.specs.declared.token.Punctuator.TheVariants as signs
 use Rattle.c_written.specs.declared.token.Token.{Token}
 use Rattle.c_written.specs.declared.token.Token.TheVariants as kinds
-use Rattle.c_grammar.specs.Parts as parts
-use Rattle.c_grammar.specs.Classes as classes
+use Rattle.c_grammar.specs.Parts.{Scene}
 use Rattle.c_grammar.specs.Ahead.{is_open, is_close, is_colon}
 use Rattle.c_grammar.specs.Refused.{is_brace, is_right_bracket}
 use Rattle.c_grammar.specs.Choice.{is_right_brace, is_semicolon, is_assign, is_star, is_const_word, is_else_word}
-use Rattle.c_parse_steps.specs.declared.context.Setting.{Setting}
-use Rattle.c_parse_steps.specs.declared.context.Setting.TheVariants as settings
 use Rattle.c_parse_steps.specs.declared.context.Context.{Context}
-use Rattle.c_parse_steps.specs.declared.class.Class.{Class}
-use Rattle.c_parse_steps.specs.declared.class.Class.TheVariants as wanted
-use Rattle.c_parse_steps.specs.declared.level.Level.{Level}
-use Rattle.c_parse_steps.specs.declared.level.Level.TheVariants as levels
-use Rattle.c_parse_steps.specs.declared.level.Joint.{Joint}
-use Rattle.c_parse_steps.specs.declared.level.Joint.TheVariants as joints
-use Rattle.c_parse_steps.specs.declared.look.Mark.{Mark}
-use Rattle.c_parse_steps.specs.declared.look.Mark.TheVariants as marks
-use Rattle.c_parse_steps.specs.declared.type_kind.Role.{Role}
-use Rattle.c_parse_steps.specs.declared.type_kind.Role.TheVariants as roles
-
-abbrev pub setting_of : Setting → parts.Setting
-setting_of settings.AtFile = parts.AtFile
-setting_of settings.InBlock = parts.InBlock
-setting_of settings.InSwitch = parts.InSwitch
+use Rattle.c_parse_steps.specs.declared.look.Lookahead.{Lookahead}
+use Rattle.c_parse_steps.specs.declared.look.Lookahead.TheVariants as lookaheads
 
 -- the scene of the tokens
-abbrev pub scene_of : Context → parts.Scene
-scene_of context = record { types = context.types.now; setting = setting_of context.setting }
+abbrev pub scene_of : Context → Scene
+scene_of context = record { types = context.types.now; setting = context.setting }
 
 -- the trees of what stands in a box of its own
 abbrev pub boxed_expr : Box Expr Global → ExprTree
@@ -42,39 +26,6 @@ boxed_expr e = expr_tree e.value
 
 abbrev pub boxed_declarator : Box Declarator Global → DeclaratorTree
 boxed_declarator d = declarator_tree d.value
-
-abbrev pub class_of : Class → classes.Class
-class_of (wanted.Keyword k) = classes.keyword k
-class_of (wanted.Sign p) = classes.sign p
-class_of wanted.Word = classes.word
-class_of wanted.AnyWord = classes.any_word
-class_of wanted.TypeName = classes.type_name
-class_of wanted.Number = classes.number
-class_of wanted.Character = classes.character
-class_of wanted.Text = classes.text
-
-abbrev pub level_view : Level → parts.Level
-level_view levels.Commas = parts.Commas
-level_view levels.Ors = parts.Ors
-level_view levels.Ands = parts.Ands
-level_view levels.BitOrs = parts.BitOrs
-level_view levels.BitXors = parts.BitXors
-level_view levels.BitAnds = parts.BitAnds
-level_view levels.Equalities = parts.Equalities
-level_view levels.Relations = parts.Relations
-level_view levels.Shifts = parts.Shifts
-level_view levels.Sums = parts.Sums
-level_view levels.Products = parts.Products
-
-abbrev pub joint_view : Joint → parts.Joint
-joint_view joints.Comma = parts.comma
-joint_view (joints.Binary op) = parts.binary op
-
-abbrev pub role_view : Role → parts.Role
-role_view roles.Naming = parts.Naming
-role_view roles.OfMember = parts.OfMember
-role_view roles.OfParameter = parts.OfParameter
-role_view roles.OfTypeName = parts.OfTypeName
 
 abbrev pub is_question : Token → Bool
 is_question (kinds.Punctuator signs.Question) = true
@@ -85,17 +36,17 @@ is_text (kinds.Text bytes) = true
 is_text _ = false
 
 -- the token is the one that is looked for
-abbrev pub mark_test : Mark → Token → Bool
-mark_test marks.Open = is_open
-mark_test marks.Close = is_close
-mark_test marks.RightBracket = is_right_bracket
-mark_test marks.Brace = is_brace
-mark_test marks.RightBrace = is_right_brace
-mark_test marks.Semicolon = is_semicolon
-mark_test marks.Colon = is_colon
-mark_test marks.Assign = is_assign
-mark_test marks.Star = is_star
-mark_test marks.Question = is_question
-mark_test marks.Const = is_const_word
-mark_test marks.Else = is_else_word
-mark_test marks.Text = is_text
+abbrev pub lookahead_test : Lookahead → Token → Bool
+lookahead_test lookaheads.Open = is_open
+lookahead_test lookaheads.Close = is_close
+lookahead_test lookaheads.RightBracket = is_right_bracket
+lookahead_test lookaheads.Brace = is_brace
+lookahead_test lookaheads.RightBrace = is_right_brace
+lookahead_test lookaheads.Semicolon = is_semicolon
+lookahead_test lookaheads.Colon = is_colon
+lookahead_test lookaheads.Assign = is_assign
+lookahead_test lookaheads.Star = is_star
+lookahead_test lookaheads.Question = is_question
+lookahead_test lookaheads.Const = is_const_word
+lookahead_test lookaheads.Else = is_else_word
+lookahead_test lookaheads.Text = is_text

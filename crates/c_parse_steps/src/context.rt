@@ -5,18 +5,8 @@ ghost use Rattle.c_grammar.specs.Classes.{names_type};
 ghost use Rattle.c_parse_steps.specs.Views.{scene_of};
 
 use crate::type_names::TypeNames;
+use c_grammar::Setting;
 use std::alloc::Global;
-
-/// Where tokens stand.
-#[derive(Clone, Copy, Debug, PartialEq, Eq)]
-pub enum Setting {
-    /// Outside of functions.
-    AtFile,
-    /// In a block, but not directly in that of a switch.
-    InBlock,
-    /// Directly in the block of a switch.
-    InSwitch,
-}
 
 /// The memory that trees are made in, the typedef names in force, and where the tokens stand.
 #[derive(Drop)]

@@ -12,13 +12,21 @@ pub fn name_of(alloc: Global, token: &Token) -> Result<Name, AllocError>
     ensures { IfOk result (λ n. n ≡ name_of token.now) }
 {
     match token {
-        Token::Word(name) => Ok(Name::from_vec(name.as_slice().to_vec(alloc)?)),
+        Token::Word(name) => name.copy(),
         Token::Keyword(_)
         | Token::Number(_)
         | Token::Character(_)
         | Token::Text(_)
         | Token::Punctuator(_) => Ok(Name::new(alloc)),
     }
+}
+
+/// The name of a word, in a box.
+pub fn boxed_name_of(alloc: Global, token: &Token) -> Result<Box<Name>, AllocError>
+    ensures { IfOk result (λ n. n.value ≡ name_of token.now) }
+{
+    let name = name_of(alloc, token)?;
+    Ok(Box::new(alloc, name)?)
 }
 
 /// The constant of a number.

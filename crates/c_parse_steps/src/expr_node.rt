@@ -4,9 +4,9 @@
 ghost use Rattle.std.specs.Prelude.{◌≡◌, IfOk};
 ghost use Rattle.c_written.specs.Written.{exprs_from, exprs_tree, specs_tree, expr_tree, exprs_then, more_exprs, no_exprs, Assign, Binary, Call, Cast, Comma, Compound, Cond, Dot, Arrow, Enclosed, Index, PostStep, PreStep, SizeofExpr, SizeofType, Unary};
 ghost use Rattle.c_grammar.specs.Made.{is_word, joined};
-ghost use Rattle.c_parse_steps.specs.Views.{boxed_declarator, boxed_expr, joint_view};
+ghost use Rattle.c_parse_steps.specs.Views.{boxed_declarator, boxed_expr};
 
-use crate::level::Joint;
+use c_grammar::Joint;
 use c_written::{AssignOp, Declarator, Expr, Exprs, Name, Pos, Specs, StepWay, UnaryOp};
 use std::alloc::{AllocError, Global};
 
@@ -33,6 +33,8 @@ pub fn index_expr(
 pub fn call_expr(alloc: Global, pos: Pos, name: Name, args: Exprs) -> Result<Box<Expr>, AllocError>
     ensures { IfOk result (λ e. boxed_expr e ≡ Call pos name (exprs_tree args)) }
 {
+    let name = Box::new(alloc, name)?;
+    let args = Box::new(alloc, args)?;
     Ok(Box::new(alloc, Expr::Call { pos, name, args })?)
 }
 
@@ -45,6 +47,7 @@ pub fn dot_expr(
 ) -> Result<Box<Expr>, AllocError>
     ensures { IfOk result (λ e. boxed_expr e ≡ Dot pos (boxed_expr base) member) }
 {
+    let member = Box::new(alloc, member)?;
     Ok(Box::new(alloc, Expr::Dot { pos, base, member })?)
 }
 
@@ -57,6 +60,7 @@ pub fn arrow_expr(
 ) -> Result<Box<Expr>, AllocError>
     ensures { IfOk result (λ e. boxed_expr e ≡ Arrow pos (boxed_expr base) member) }
 {
+    let member = Box::new(alloc, member)?;
     Ok(Box::new(alloc, Expr::Arrow { pos, base, member })?)
 }
 
@@ -112,6 +116,7 @@ pub fn sizeof_type(
 ) -> Result<Box<Expr>, AllocError>
     ensures { IfOk result (λ e. boxed_expr e ≡ SizeofType pos (specs_tree specs) (boxed_declarator declarator)) }
 {
+    let specs = Box::new(alloc, specs)?;
     Ok(Box::new(
         alloc,
         Expr::SizeofType {
@@ -132,6 +137,7 @@ pub fn cast_expr(
 ) -> Result<Box<Expr>, AllocError>
     ensures { IfOk result (λ e. boxed_expr e ≡ Cast pos (specs_tree specs) (boxed_declarator declarator) (boxed_expr operand)) }
 {
+    let specs = Box::new(alloc, specs)?;
     Ok(Box::new(
         alloc,
         Expr::Cast {
@@ -205,7 +211,7 @@ pub fn joined(
     left: Box<Expr>,
     right: Box<Expr>,
 ) -> Result<Box<Expr>, AllocError>
-    ensures { IfOk result (λ e. boxed_expr e ≡ joined (joint_view joint) pos (boxed_expr left) (boxed_expr right)) }
+    ensures { IfOk result (λ e. boxed_expr e ≡ joined joint pos (boxed_expr left) (boxed_expr right)) }
 {
     let whole = match joint {
         Joint::Comma => Expr::Comma { pos, left, right },

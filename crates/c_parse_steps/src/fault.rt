@@ -19,6 +19,9 @@ pub enum Fault<'a> {
     TooDeep(&'a [Placed]),
 }
 
+/// What was read and the tokens behind it, or why there is none.
+pub type Reading<'a, T> = Result<(T, &'a [Placed]), Fault<'a>>;
+
 impl From<AllocError> for Fault<'_> {
     ghost from_gives = { λ _ e. e ≡ NoMemory };
 

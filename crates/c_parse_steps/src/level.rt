@@ -1,34 +1,17 @@
 // Levels of operators.
 
-ghost use Rattle.std.specs.Prelude.{◌≡◌, option_map};
-ghost use Rattle.c_parse_steps.specs.Views.{joint_view, level_view};
+ghost use Rattle.std.specs.Prelude.{◌≡◌};
 ghost use Rattle.c_parse_steps.specs.Kinds.{joint_here, joint_for, operand_of};
 ghost use Rattle.c_grammar.specs.Choice.{joint_of_sign};
 ghost use Rattle.c_grammar.specs.Classes.{joint_sign};
-ghost use Rattle.c_grammar.specs.Parts as part;
 
 use crate::token::sign_at;
+use c_grammar::{Joint, Level};
 use c_written::{BinaryOp, Placed, Punctuator};
-
-/// The operators of one rank, which lean to the left.
-#[derive(Clone, Copy, Debug, PartialEq, Eq)]
-pub enum Level {
-    Commas,
-    Ors,
-    Ands,
-    BitOrs,
-    BitXors,
-    BitAnds,
-    Equalities,
-    Relations,
-    Shifts,
-    Sums,
-    Products,
-}
 
 /// What stands on either side of a joint of a level.
 #[derive(Clone, Copy, Debug, PartialEq, Eq)]
-pub enum Operand {
+pub enum OperandKind {
     Assignment,
     /// The operands of the next level, and joints between them.
     Run(Level),
@@ -36,34 +19,27 @@ pub enum Operand {
 }
 
 /// The operands of a level.
-pub fn operand_of(level: Level) -> Operand
+pub fn operand_of(level: Level) -> OperandKind
     ensures { result ≡ operand_of level }
 {
     match level {
-        Level::Commas => Operand::Assignment,
-        Level::Ors => Operand::Run(Level::Ands),
-        Level::Ands => Operand::Run(Level::BitOrs),
-        Level::BitOrs => Operand::Run(Level::BitXors),
-        Level::BitXors => Operand::Run(Level::BitAnds),
-        Level::BitAnds => Operand::Run(Level::Equalities),
-        Level::Equalities => Operand::Run(Level::Relations),
-        Level::Relations => Operand::Run(Level::Shifts),
-        Level::Shifts => Operand::Run(Level::Sums),
-        Level::Sums => Operand::Run(Level::Products),
-        Level::Products => Operand::Cast,
+        Level::Commas => OperandKind::Assignment,
+        Level::Ors => OperandKind::Run(Level::Ands),
+        Level::Ands => OperandKind::Run(Level::BitOrs),
+        Level::BitOrs => OperandKind::Run(Level::BitXors),
+        Level::BitXors => OperandKind::Run(Level::BitAnds),
+        Level::BitAnds => OperandKind::Run(Level::Equalities),
+        Level::Equalities => OperandKind::Run(Level::Relations),
+        Level::Relations => OperandKind::Run(Level::Shifts),
+        Level::Shifts => OperandKind::Run(Level::Sums),
+        Level::Sums => OperandKind::Run(Level::Products),
+        Level::Products => OperandKind::Cast,
     }
-}
-
-/// What stands between two operands.
-#[derive(Clone, Copy, Debug, PartialEq, Eq)]
-pub enum Joint {
-    Comma,
-    Binary(BinaryOp),
 }
 
 /// The joint of the level that comes, where one does.
 pub fn joint_at(level: Level, tokens: &[Placed]) -> Option<Joint>
-    ensures { option_map joint_view result ≡ joint_here (level_view level) tokens.now }
+    ensures { result ≡ joint_here level tokens.now }
 {
     match sign_at(tokens) {
         Some(sign) => joint_of(level, sign),
@@ -72,7 +48,7 @@ pub fn joint_at(level: Level, tokens: &[Placed]) -> Option<Joint>
 }
 
 fn joint_of(level: Level, sign: Punctuator) -> Option<Joint>
-    ensures { option_map joint_view result ≡ joint_for (level_view level) (joint_of_sign sign) }
+    ensures { result ≡ joint_for level (joint_of_sign sign) }
 {
     match level {
         Level::Commas => comma_of(sign),
@@ -90,7 +66,7 @@ fn joint_of(level: Level, sign: Punctuator) -> Option<Joint>
 }
 
 fn comma_of(sign: Punctuator) -> Option<Joint>
-    ensures { option_map joint_view result ≡ joint_for (level_view Level.Commas) (joint_of_sign sign) }
+    ensures { result ≡ joint_for Level.Commas (joint_of_sign sign) }
 {
     match sign {
         Punctuator::Comma => Some(Joint::Comma),
@@ -99,7 +75,7 @@ fn comma_of(sign: Punctuator) -> Option<Joint>
 }
 
 fn or_of(sign: Punctuator) -> Option<Joint>
-    ensures { option_map joint_view result ≡ joint_for (level_view Level.Ors) (joint_of_sign sign) }
+    ensures { result ≡ joint_for Level.Ors (joint_of_sign sign) }
 {
     match sign {
         Punctuator::Or => Some(Joint::Binary(BinaryOp::Or)),
@@ -108,7 +84,7 @@ fn or_of(sign: Punctuator) -> Option<Joint>
 }
 
 fn and_of(sign: Punctuator) -> Option<Joint>
-    ensures { option_map joint_view result ≡ joint_for (level_view Level.Ands) (joint_of_sign sign) }
+    ensures { result ≡ joint_for Level.Ands (joint_of_sign sign) }
 {
     match sign {
         Punctuator::And => Some(Joint::Binary(BinaryOp::And)),
@@ -117,7 +93,7 @@ fn and_of(sign: Punctuator) -> Option<Joint>
 }
 
 fn bit_or_of(sign: Punctuator) -> Option<Joint>
-    ensures { option_map joint_view result ≡ joint_for (level_view Level.BitOrs) (joint_of_sign sign) }
+    ensures { result ≡ joint_for Level.BitOrs (joint_of_sign sign) }
 {
     match sign {
         Punctuator::Bar => Some(Joint::Binary(BinaryOp::BitOr)),
@@ -126,7 +102,7 @@ fn bit_or_of(sign: Punctuator) -> Option<Joint>
 }
 
 fn bit_xor_of(sign: Punctuator) -> Option<Joint>
-    ensures { option_map joint_view result ≡ joint_for (level_view Level.BitXors) (joint_of_sign sign) }
+    ensures { result ≡ joint_for Level.BitXors (joint_of_sign sign) }
 {
     match sign {
         Punctuator::Caret => Some(Joint::Binary(BinaryOp::BitXor)),
@@ -135,7 +111,7 @@ fn bit_xor_of(sign: Punctuator) -> Option<Joint>
 }
 
 fn bit_and_of(sign: Punctuator) -> Option<Joint>
-    ensures { option_map joint_view result ≡ joint_for (level_view Level.BitAnds) (joint_of_sign sign) }
+    ensures { result ≡ joint_for Level.BitAnds (joint_of_sign sign) }
 {
     match sign {
         Punctuator::Ampersand => Some(Joint::Binary(BinaryOp::BitAnd)),
@@ -144,7 +120,7 @@ fn bit_and_of(sign: Punctuator) -> Option<Joint>
 }
 
 fn equality_of(sign: Punctuator) -> Option<Joint>
-    ensures { option_map joint_view result ≡ joint_for (level_view Level.Equalities) (joint_of_sign sign) }
+    ensures { result ≡ joint_for Level.Equalities (joint_of_sign sign) }
 {
     match sign {
         Punctuator::Equal => Some(Joint::Binary(BinaryOp::Equal)),
@@ -154,7 +130,7 @@ fn equality_of(sign: Punctuator) -> Option<Joint>
 }
 
 fn relation_of(sign: Punctuator) -> Option<Joint>
-    ensures { option_map joint_view result ≡ joint_for (level_view Level.Relations) (joint_of_sign sign) }
+    ensures { result ≡ joint_for Level.Relations (joint_of_sign sign) }
 {
     match sign {
         Punctuator::Less => Some(Joint::Binary(BinaryOp::Less)),
@@ -166,7 +142,7 @@ fn relation_of(sign: Punctuator) -> Option<Joint>
 }
 
 fn shift_of(sign: Punctuator) -> Option<Joint>
-    ensures { option_map joint_view result ≡ joint_for (level_view Level.Shifts) (joint_of_sign sign) }
+    ensures { result ≡ joint_for Level.Shifts (joint_of_sign sign) }
 {
     match sign {
         Punctuator::ShiftLeft => Some(Joint::Binary(BinaryOp::ShiftLeft)),
@@ -176,7 +152,7 @@ fn shift_of(sign: Punctuator) -> Option<Joint>
 }
 
 fn sum_of(sign: Punctuator) -> Option<Joint>
-    ensures { option_map joint_view result ≡ joint_for (level_view Level.Sums) (joint_of_sign sign) }
+    ensures { result ≡ joint_for Level.Sums (joint_of_sign sign) }
 {
     match sign {
         Punctuator::Plus => Some(Joint::Binary(BinaryOp::Plus)),
@@ -186,7 +162,7 @@ fn sum_of(sign: Punctuator) -> Option<Joint>
 }
 
 fn product_of(sign: Punctuator) -> Option<Joint>
-    ensures { option_map joint_view result ≡ joint_for (level_view Level.Products) (joint_of_sign sign) }
+    ensures { result ≡ joint_for Level.Products (joint_of_sign sign) }
 {
     match sign {
         Punctuator::Star => Some(Joint::Binary(BinaryOp::Multiply)),
@@ -198,7 +174,7 @@ fn product_of(sign: Punctuator) -> Option<Joint>
 
 /// How a joint is written.
 pub fn joint_sign(joint: Joint) -> Punctuator
-    ensures { result ≡ joint_sign (joint_view joint) }
+    ensures { result ≡ joint_sign joint }
 {
     match joint {
         Joint::Comma => Punctuator::Comma,
@@ -207,7 +183,7 @@ pub fn joint_sign(joint: Joint) -> Punctuator
 }
 
 fn binary_sign(op: BinaryOp) -> Punctuator
-    ensures { result ≡ joint_sign (part.binary op) }
+    ensures { result ≡ joint_sign (Joint.Binary op) }
 {
     match op {
         BinaryOp::Multiply => Punctuator::Star,

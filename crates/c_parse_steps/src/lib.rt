@@ -28,28 +28,28 @@ mod type_kind;
 mod type_names;
 mod type_node;
 
-pub use class::Class;
-pub use context::{Context, Setting};
-pub use copy::{byte_of, bytes_of, constant_of, name_of, push_bytes};
+pub use class::fits;
+pub use context::Context;
+pub use copy::{boxed_name_of, byte_of, bytes_of, constant_of, name_of, push_bytes};
 pub use expr_node::{
     arrow_expr, assign_expr, call_expr, cast_expr, compound_expr, cond_expr, dot_expr,
     enclosed_expr, index_expr, is_word, joined, post_step_expr, pre_step_expr, push_expr,
     sizeof_expr, sizeof_type, unary_expr,
 };
-pub use fault::Fault;
+pub use fault::{Fault, Reading};
 pub use kind::{
     AssignKind, PrefixKind, PrimaryKind, SuffixKind, assign_at, assign_sign, prefix_at, primary_at,
     step_sign, suffix_at, unary_sign,
 };
-pub use level::{Joint, Level, Operand, joint_at, joint_sign, operand_of};
+pub use level::{OperandKind, joint_at, joint_sign, operand_of};
 pub use look::{
-    Mark, comes, designator_ahead, label_ahead, params_ahead, plain_word_ahead, spec_ahead,
+    Lookahead, comes, designator_ahead, label_ahead, params_ahead, plain_word_ahead, spec_ahead,
     type_ahead, type_name_ahead,
 };
 pub use token::{barred, barred_call, first, refused, sign_at, taken};
 pub use type_kind::{
-    DirectKind, Role, SpecKind, TagKind, TailKind, direct_at, spec_at, storage_word, tag_at,
-    tail_at, type_word,
+    DirectKind, SpecKind, TagKind, TailKind, direct_at, spec_at, storage_word, tag_at, tail_at,
+    type_word,
 };
 pub use type_names::TypeNames;
 pub use type_node::{

@@ -3,7 +3,7 @@
 ghost use Rattle.std.specs.Prelude.{◌≡◌};
 ghost use Rattle.c_grammar.specs.Ahead.{begins_spec, close_ahead, is_plain_word, is_spec_word, label_ahead, params_ahead, spec_ahead, type_ahead};
 ghost use Rattle.c_grammar.specs.Refused.{begins_designator, first_is, is_type_name};
-ghost use Rattle.c_parse_steps.specs.Views.{mark_test, scene_of};
+ghost use Rattle.c_parse_steps.specs.Views.{lookahead_test, scene_of};
 
 use crate::context::Context;
 use crate::token::first;
@@ -11,67 +11,80 @@ use c_written::{Keyword, Placed, Punctuator, Token};
 
 /// Tokens that tell which production goes on.
 #[derive(Clone, Copy, Debug, PartialEq, Eq)]
-pub enum Mark {
+pub enum Lookahead {
+    /// `(`
     Open,
+    /// `)`
     Close,
+    /// `]`
     RightBracket,
+    /// `{`
     Brace,
+    /// `}`
     RightBrace,
+    /// `;`
     Semicolon,
+    /// `:`
     Colon,
+    /// `=`
     Assign,
+    /// `*`
     Star,
+    /// `?`
     Question,
+    /// `const`
     Const,
+    /// `else`
     Else,
+    /// `"a\n"`
     Text,
 }
 
 /// Whether this token comes.
-pub fn comes(mark: Mark, tokens: &[Placed]) -> bool
-    ensures { result ≡ first_is (mark_test mark) tokens.now }
+pub fn comes(lookahead: Lookahead, tokens: &[Placed]) -> bool
+    ensures { result ≡ first_is (lookahead_test lookahead) tokens.now }
 {
     match first(tokens) {
-        Some((placed, _)) => is_mark(mark, &placed.token),
+        Some((placed, _)) => is_lookahead(lookahead, &placed.token),
         None => false,
     }
 }
 
-fn is_mark(mark: Mark, token: &Token) -> bool
-    ensures { result ≡ mark_test mark token.now }
+fn is_lookahead(lookahead: Lookahead, token: &Token) -> bool
+    ensures { result ≡ lookahead_test lookahead token.now }
 {
     match token {
-        Token::Punctuator(sign) => is_mark_sign(mark, *sign),
-        Token::Keyword(keyword) => is_mark_word(mark, *keyword),
-        Token::Text(_) => matches!(mark, Mark::Text),
+        Token::Punctuator(sign) => is_lookahead_sign(lookahead, *sign),
+        Token::Keyword(keyword) => is_lookahead_word(lookahead, *keyword),
+        Token::Text(_) => matches!(lookahead, Lookahead::Text),
         Token::Word(_) | Token::Number(_) | Token::Character(_) => false,
     }
 }
 
-fn is_mark_sign(mark: Mark, sign: Punctuator) -> bool
-    ensures { result ≡ mark_test mark (Token.Punctuator sign) }
+fn is_lookahead_sign(lookahead: Lookahead, sign: Punctuator) -> bool
+    ensures { result ≡ lookahead_test lookahead (Token.Punctuator sign) }
 {
-    match mark {
-        Mark::Open => matches!(sign, Punctuator::LeftParenthesis),
-        Mark::Close => matches!(sign, Punctuator::RightParenthesis),
-        Mark::RightBracket => matches!(sign, Punctuator::RightBracket),
-        Mark::Brace => matches!(sign, Punctuator::LeftBrace),
-        Mark::RightBrace => matches!(sign, Punctuator::RightBrace),
-        Mark::Semicolon => matches!(sign, Punctuator::Semicolon),
-        Mark::Colon => matches!(sign, Punctuator::Colon),
-        Mark::Assign => matches!(sign, Punctuator::Assign),
-        Mark::Star => matches!(sign, Punctuator::Star),
-        Mark::Question => matches!(sign, Punctuator::Question),
-        Mark::Const | Mark::Else | Mark::Text => false,
+    match lookahead {
+        Lookahead::Open => matches!(sign, Punctuator::LeftParenthesis),
+        Lookahead::Close => matches!(sign, Punctuator::RightParenthesis),
+        Lookahead::RightBracket => matches!(sign, Punctuator::RightBracket),
+        Lookahead::Brace => matches!(sign, Punctuator::LeftBrace),
+        Lookahead::RightBrace => matches!(sign, Punctuator::RightBrace),
+        Lookahead::Semicolon => matches!(sign, Punctuator::Semicolon),
+        Lookahead::Colon => matches!(sign, Punctuator::Colon),
+        Lookahead::Assign => matches!(sign, Punctuator::Assign),
+        Lookahead::Star => matches!(sign, Punctuator::Star),
+        Lookahead::Question => matches!(sign, Punctuator::Question),
+        Lookahead::Const | Lookahead::Else | Lookahead::Text => false,
     }
 }
 
-fn is_mark_word(mark: Mark, keyword: Keyword) -> bool
-    ensures { result ≡ mark_test mark (Token.Keyword keyword) }
+fn is_lookahead_word(lookahead: Lookahead, keyword: Keyword) -> bool
+    ensures { result ≡ lookahead_test lookahead (Token.Keyword keyword) }
 {
-    match mark {
-        Mark::Const => matches!(keyword, Keyword::Const),
-        Mark::Else => matches!(keyword, Keyword::Else),
+    match lookahead {
+        Lookahead::Const => matches!(keyword, Keyword::Const),
+        Lookahead::Else => matches!(keyword, Keyword::Else),
         _ => false,
     }
 }
@@ -125,7 +138,9 @@ pub fn type_ahead(context: &Context<'_>, tokens: &[Placed]) -> bool
     ensures { result ≡ type_ahead (scene_of context.now) tokens.now }
 {
     match first(tokens) {
-        Some((placed, rest)) => { is_mark(Mark::Open, &placed.token) && spec_ahead(context, rest) }
+        Some((placed, rest)) => {
+            is_lookahead(Lookahead::Open, &placed.token) && spec_ahead(context, rest)
+        }
         None => false,
     }
 }
@@ -136,7 +151,7 @@ pub fn label_ahead(context: &Context<'_>, tokens: &[Placed]) -> bool
 {
     match first(tokens) {
         Some((placed, rest)) => {
-            is_plain_word(context, &placed.token) && comes(Mark::Colon, rest)
+            is_plain_word(context, &placed.token) && comes(Lookahead::Colon, rest)
         }
         None => false,
     }
@@ -148,8 +163,8 @@ pub fn params_ahead(context: &Context<'_>, tokens: &[Placed]) -> bool
 {
     match first(tokens) {
         Some((placed, rest)) => {
-            is_mark(Mark::Open, &placed.token)
-                && (spec_ahead(context, rest) || comes(Mark::Close, rest))
+            is_lookahead(Lookahead::Open, &placed.token)
+                && (spec_ahead(context, rest) || comes(Lookahead::Close, rest))
         }
         None => false,
     }

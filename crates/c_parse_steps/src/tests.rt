@@ -1,7 +1,8 @@
 // What is said of one token.
 #![tactic(auto, using(c_written::proofs::Trees::the_written_trees))]
 
-use crate::{Class, Context, Fault, Mark, Setting, TypeNames, comes, refused, taken};
+use crate::{Context, Fault, Lookahead, TypeNames, comes, refused, taken};
+use c_grammar::{Class, Setting};
 use c_written::{Placed, Pos, Punctuator, Token};
 use std::test::Fail;
 
@@ -62,7 +63,7 @@ fn signs(rt: HostRuntime) -> Result<(), Fail> {
         }];
         assert_eq!(rt; told(&context, *count, *wanted, &tokens), *answer);
         assert_eq!(rt;
-            comes(Mark::Brace, &tokens),
+            comes(Lookahead::Brace, &tokens),
             *found == Punctuator::LeftBrace
         );
     }

@@ -7,13 +7,14 @@ ghost use Rattle.c_grammar.specs.Parts as part;
 ghost use Rattle.c_grammar.specs.Ahead.{is_open};
 ghost use Rattle.c_written.specs.Written.{ExprTree};
 ghost use Rattle.c_grammar.specs.Descent.{barred, refusal};
-ghost use Rattle.c_parse_steps.specs.Views.{scene_of, setting_of, class_of};
+ghost use Rattle.c_parse_steps.specs.Views.{scene_of};
 ghost use Rattle.c_parse_steps.specs.Answers.{IsStop, Takes};
 ghost use Rattle.c_parse_steps.specs.Kinds.{opens, sign_at, sign_of};
 
-use crate::class::Class;
-use crate::context::{Context, Setting};
-use crate::fault::Fault;
+use crate::class::fits;
+use crate::context::Context;
+use crate::fault::{Fault, Reading};
+use c_grammar::{Class, Setting};
 use c_written::{Construct, Keyword, Placed, Punctuator, Token};
 
 // As many forms may be unfinished.
@@ -36,16 +37,16 @@ pub fn taken<'a>(
     forms: u32,
     class: Class,
     tokens: &'a [Placed],
-) -> Result<(&'a Placed, &'a [Placed]), Fault<'a>>
+) -> Reading<'a, &'a Placed>
     requires { forms ≤ 200 }
-    ensures goes { Takes count (scene_of context.now) forms (class_of class) tokens.now result }
+    ensures goes { Takes count (scene_of context.now) forms class tokens.now result }
     ensures shorter { IfOk result (λ x. length tokens.now ≡ length x.1.now + 1) }
     ensures within { IfOk result (λ _. count + forms ≤ 200) }
 {
     match first(tokens) {
         None => Err(Fault::Syntax(tokens)),
         Some((placed, rest)) => {
-            if !class.fits(context, &placed.token) {
+            if !fits(context, class, &placed.token) {
                 return Err(refused(context, count, tokens));
             }
             if count > NESTING_LIMIT - forms {
@@ -146,7 +147,7 @@ fn opens(sign: Punctuator) -> bool
 
 // The construct that a token bears wherever something must come.
 fn token_construct(setting: Setting, token: &Token) -> Option<Construct>
-    ensures { (types : List (List ℕ)) → result ≡ token_construct (record { types = types; setting = setting_of setting }) token.now }
+    ensures { (types : List (List ℕ)) → result ≡ token_construct (record { types = types; setting = setting }) token.now }
 {
     match token {
         Token::Keyword(keyword) => keyword_construct(setting, *keyword),
@@ -161,7 +162,7 @@ fn token_construct(setting: Setting, token: &Token) -> Option<Construct>
 
 #[tactic(auto, unfolding(c_grammar::specs::Refused::keyword_construct))]
 fn keyword_construct(setting: Setting, keyword: Keyword) -> Option<Construct>
-    ensures { result ≡ keyword_construct (setting_of setting) keyword }
+    ensures { result ≡ keyword_construct setting keyword }
 {
     match keyword {
         Keyword::Float | Keyword::Double => Some(Construct::Floating),
@@ -181,7 +182,7 @@ fn keyword_construct(setting: Setting, keyword: Keyword) -> Option<Construct>
 }
 
 fn inner_typedef(setting: Setting) -> Option<Construct>
-    ensures { result ≡ inner_typedef (setting_of setting) }
+    ensures { result ≡ inner_typedef setting }
 {
     match setting {
         Setting::AtFile => None,
@@ -190,7 +191,7 @@ fn inner_typedef(setting: Setting) -> Option<Construct>
 }
 
 fn nested_case(setting: Setting) -> Option<Construct>
-    ensures { result ≡ nested_case (setting_of setting) }
+    ensures { result ≡ nested_case setting }
 {
     match setting {
         Setting::AtFile | Setting::InBlock => Some(Construct::NestedCase),

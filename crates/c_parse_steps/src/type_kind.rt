@@ -2,25 +2,13 @@
 
 ghost use Rattle.std.specs.Prelude.{◌≡◌};
 ghost use Rattle.c_grammar.specs.Classes.{storage_word, type_word};
-ghost use Rattle.c_grammar.specs.Refused.{in_member, may_name, may_omit};
-ghost use Rattle.c_parse_steps.specs.Views.{role_view, scene_of};
+ghost use Rattle.c_parse_steps.specs.Views.{scene_of};
 ghost use Rattle.c_parse_steps.specs.Kinds.{direct_at, direct_of, direct_of_word, nameless_kind, spec_at, spec_of, spec_of_keyword, tag_at, tag_of, tail_at, tail_of_sign};
 
 use crate::context::Context;
 use crate::token::{first, sign_at};
+use c_grammar::Role;
 use c_written::{Keyword, Placed, Punctuator, StorageWord, Token, TypeWord};
-
-/// Whose declarator it is.
-#[derive(Clone, Copy, Debug, PartialEq, Eq)]
-pub enum Role {
-    /// It names something.
-    Naming,
-    OfMember,
-    /// It may go without a name.
-    OfParameter,
-    /// It has no name.
-    OfTypeName,
-}
 
 /// What a spec begins with.
 #[derive(Clone, Copy, Debug, PartialEq, Eq)]
@@ -58,38 +46,6 @@ pub enum TailKind {
     Array,
     Function,
     Nothing,
-}
-
-impl Role {
-    /// Whether the declarator may have no name.
-    pub fn may_omit(self) -> bool
-        ensures { result ≡ may_omit (role_view self) }
-    {
-        match self {
-            Role::Naming | Role::OfMember => false,
-            Role::OfParameter | Role::OfTypeName => true,
-        }
-    }
-
-    /// Whether the declarator may have a name.
-    pub fn may_name(self) -> bool
-        ensures { result ≡ may_name (role_view self) }
-    {
-        match self {
-            Role::Naming | Role::OfMember | Role::OfParameter => true,
-            Role::OfTypeName => false,
-        }
-    }
-
-    /// Whether it is a declarator of a member.
-    pub fn is_member(self) -> bool
-        ensures { result ≡ in_member (role_view self) }
-    {
-        match self {
-            Role::OfMember => true,
-            Role::Naming | Role::OfParameter | Role::OfTypeName => false,
-        }
-    }
 }
 
 /// Which spec comes.
@@ -197,7 +153,7 @@ fn tag_of(token: &Token) -> TagKind
 
 /// What a declarator of this role begins with, behind its stars.
 pub fn direct_at(context: &Context<'_>, role: Role, tokens: &[Placed]) -> DirectKind
-    ensures { result ≡ direct_at (scene_of context.now) (role_view role) tokens.now }
+    ensures { result ≡ direct_at (scene_of context.now) role tokens.now }
 {
     match first(tokens) {
         Some((placed, _)) => direct_of(context, role, &placed.token),
@@ -206,7 +162,7 @@ pub fn direct_at(context: &Context<'_>, role: Role, tokens: &[Placed]) -> Direct
 }
 
 fn direct_of(context: &Context<'_>, role: Role, token: &Token) -> DirectKind
-    ensures { result ≡ direct_of (scene_of context.now) (role_view role) token.now }
+    ensures { result ≡ direct_of (scene_of context.now) role token.now }
 {
     match token {
         Token::Word(name) => direct_of_word(role, context.names_type(name.as_slice())),
@@ -220,7 +176,7 @@ fn direct_of(context: &Context<'_>, role: Role, token: &Token) -> DirectKind
 }
 
 fn direct_of_word(role: Role, names_type: bool) -> DirectKind
-    ensures { result ≡ direct_of_word (role_view role) names_type }
+    ensures { result ≡ direct_of_word role names_type }
 {
     if names_type {
         return nameless_kind(role);
@@ -232,7 +188,7 @@ fn direct_of_word(role: Role, names_type: bool) -> DirectKind
 }
 
 fn nameless_kind(role: Role) -> DirectKind
-    ensures { result ≡ nameless_kind (role_view role) }
+    ensures { result ≡ nameless_kind role }
 {
     match role {
         Role::Naming | Role::OfMember => DirectKind::Neither,

@@ -7,7 +7,8 @@ use Rattle.c_written.specs.WrittenFile.{BlockItemTrees, StmtTree}
 use Rattle.c_written.specs.declared.file.Stmt.{Stmt}
 use Rattle.std.specs.declared.alloc.Global.{Global}
 use Rattle.std.specs.declared.boxed.Box.{Box}
-use Rattle.c_grammar.specs.Parts.{Scene, Setting, Statement, AStmt, Items, Part, Value}
+use Rattle.c_grammar.specs.declared.parts.Setting.{Setting}
+use Rattle.c_grammar.specs.Parts.{Scene, Statement, AStmt, Items, Part, Value}
 use Rattle.c_grammar.specs.FileRules.{substatement}
 use Rattle.c_grammar.specs.Process.{Process, give, part}
 use Rattle.c_grammar.specs.Descent.{Outcome, Done, Stop, Goes, Follows, is_done}
@@ -15,8 +16,8 @@ use Rattle.c_parse_steps.specs.declared.fault.Fault.{Fault}
 use Rattle.c_parse_steps.specs.Answers.{Gives, Steps}
 use Rattle.c_parse_steps.proofs.Paths.{Path}
 use Rattle.c_parse_steps.proofs.Steps.{failed, halts, here, stall, step, stops_here}
-use Rattle.c_parse_heads.specs.declared.head.ForHead.{ForHead}
-use Rattle.c_parse_heads.specs.Kinds.{ForHeads, Substatements, boxed_tree, for_rest}
+use Rattle.c_parse_heads.specs.declared.head.ForOpening.{ForOpening}
+use Rattle.c_parse_heads.specs.Kinds.{ForOpenings, Substatements, boxed_tree, for_rest}
 
 -- a block goes on with its next items
 pub last_items : {before more : BlockItemTrees} {d : ℕ} {w s : Scene} {ts : List Placed} (o : Outcome BlockItemTrees) → Goes d s (Items more) ts o → Follows d w (Items before) (part 0 s (Items more) give) ts o
@@ -41,10 +42,10 @@ not_held {p = p} {k = k} e path h = failed e (halts (stall (h p k)) (λ why rest
 pub same_statement : {d : ℕ} {w : Scene} {p : Part} (k : StmtTree → Process (Value p)) {a b : StmtTree} {ts : List Placed} {o : Outcome (Value p)} → a ≡ b → Follows d w p (k a) ts o → Follows d w p (k b) ts o
 same_statement {d} {w} {p} k {a} {b} {ts} {o} e f = subst (λ v. Follows d w p (k v) ts o) e f
 
--- the head of a for was read
-pub for_led : {b : Bool} {d : ℕ} {w : Scene} {ts : List Placed} {x : ForHead × Bor (List Placed)} → ForHeads d w ts (Ok x) → Path (AStmt (Statement b)) (λ o. Goes d w (AStmt (Statement b)) ts o) d w (for_rest w x.0) x.1.now
+-- what stands before the statement of a for was read
+pub for_led : {b : Bool} {d : ℕ} {w : Scene} {ts : List Placed} {x : ForOpening × Bor (List Placed)} → ForOpenings d w ts (Ok x) → Path (AStmt (Statement b)) (λ o. Goes d w (AStmt (Statement b)) ts o) d w (for_rest w x.0) x.1.now
 for_led {b} h = record { run = λ o g. step (h b) o g }
 
--- the head was not read
+-- it was not read
 pub not_led : {A B V : Type 0} {goes : Outcome V → Type 0} {next : B → List Placed → Outcome V → Type 0} {view : A → V} {f : Fault} {r : Result (A × Bor (List Placed)) Fault} → IsErrAnd r (λ e. e ≡ f) → Steps goes next (Err f) → Gives goes view r
 not_led e h = failed e (stall h)

@@ -10,21 +10,22 @@ ghost use Rattle.c_grammar.specs.Made.{ends_open};
 ghost use Rattle.c_grammar.specs.Parts as part;
 ghost use Rattle.c_grammar.specs.Refused.{first_is};
 ghost use Rattle.c_parse_steps.specs.Answers.{Answers};
-ghost use Rattle.c_parse_steps.specs.Views.{boxed_expr, scene_of, setting_of};
+ghost use Rattle.c_parse_steps.specs.Views.{boxed_expr, scene_of};
 ghost use Rattle.c_parse_simple.specs.Kinds.{StatementStarts};
 ghost use Rattle.c_parse_heads.specs.Kinds.{Substatements, boxed_tree};
 
+use c_grammar::{Class, Setting};
 use c_parse_decls::declaration;
 use c_parse_exprs::conditional;
 use c_parse_heads::{
-    case_stmt, do_stmt, for_head, for_stmt, if_else_stmt, if_stmt, switch_stmt, while_stmt,
+    case_stmt, do_stmt, for_opening, for_stmt, if_else_stmt, if_stmt, switch_stmt, while_stmt,
 };
 use c_parse_simple::{
-    StatementKind, condition, empty, ends_open, expression, goto, leave, next_turn,
-    no_left_bracket, return_statement, statement_at,
+    StatementKind, break_statement, condition, continue_statement, empty_statement, ends_open,
+    expression_statement, goto_statement, no_left_bracket, return_statement, statement_at,
 };
 use c_parse_steps::{
-    Class, Context, Fault, Mark, Setting, comes, label_ahead, name_of, refused, spec_ahead, taken,
+    Context, Lookahead, Reading, boxed_name_of, comes, label_ahead, refused, spec_ahead, taken,
 };
 use c_written::{BlockItem, BlockItems, Expr, Keyword, Placed, Pos, Punctuator, Stmt};
 use std::alloc::AllocError;
@@ -36,7 +37,7 @@ fn statement<'a>(
     switched: bool,
     count: u32,
     tokens: &'a [Placed],
-) -> Result<(Stmt, &'a [Placed]), Fault<'a>>
+) -> Reading<'a, Stmt>
     ensures goes { Answers count (scene_of context.now) (part.AStmt (part.Statement switched)) tokens.now (λ s. stmt_tree s) result }
     ensures shorter { IfOk result (λ x. length x.1.now < length tokens.now) }
 {
@@ -45,19 +46,19 @@ fn statement<'a>(
     }
     match statement_at(tokens) {
         StatementKind::Case => case(context, switched, count, tokens),
-        StatementKind::Default => otherwise(context, switched, count, tokens),
-        StatementKind::If => conditional_statement(context, switched, count, tokens),
-        StatementKind::Switch => choice(context, switched, count, tokens),
+        StatementKind::Default => default_statement(context, switched, count, tokens),
+        StatementKind::If => if_statement(context, switched, count, tokens),
+        StatementKind::Switch => switch_statement(context, switched, count, tokens),
         StatementKind::While => while_loop(context, switched, count, tokens),
         StatementKind::Do => do_loop(context, switched, count, tokens),
         StatementKind::For => for_loop(context, switched, count, tokens),
         StatementKind::Block => block(context, switched, count, tokens),
-        StatementKind::Goto => goto(context, count, tokens),
-        StatementKind::Continue => next_turn(context, count, tokens),
-        StatementKind::Break => leave(context, count, tokens),
+        StatementKind::Goto => goto_statement(context, count, tokens),
+        StatementKind::Continue => continue_statement(context, count, tokens),
+        StatementKind::Break => break_statement(context, count, tokens),
         StatementKind::Return => return_statement(context, count, tokens),
-        StatementKind::Empty => empty(context, count, tokens),
-        StatementKind::Expression => expression(context, count, tokens),
+        StatementKind::Empty => empty_statement(context, count, tokens),
+        StatementKind::Expression => expression_statement(context, count, tokens),
     }
 }
 
@@ -68,7 +69,7 @@ fn label<'a>(
     switched: bool,
     count: u32,
     tokens: &'a [Placed],
-) -> Result<(Stmt, &'a [Placed]), Fault<'a>>
+) -> Reading<'a, Stmt>
     requires { label_ahead (scene_of context.now) tokens.now ≡ true }
     ensures goes { Answers count (scene_of context.now) (part.AStmt (part.Statement switched)) tokens.now (λ s. stmt_tree s) result }
     ensures shorter { IfOk result (λ x. length x.1.now < length tokens.now) }
@@ -77,7 +78,7 @@ fn label<'a>(
     let (at, behind) = taken(context, count, 0, Class::Word, tokens)?;
     let (_colon, behind) = taken(context, count, 0, colon, behind)?;
     let (body, rest) = substatement(context, context.setting, false, count, behind)?;
-    let name = name_of(context.alloc, &at.token)?;
+    let name = boxed_name_of(context.alloc, &at.token)?;
     Ok((
         Stmt::Label {
             pos: at.pos,
@@ -95,7 +96,7 @@ fn case<'a>(
     switched: bool,
     count: u32,
     tokens: &'a [Placed],
-) -> Result<(Stmt, &'a [Placed]), Fault<'a>>
+) -> Reading<'a, Stmt>
     requires { StatementStarts (scene_of context.now) tokens.now StatementKind.Case }
     ensures goes { Answers count (scene_of context.now) (part.AStmt (part.Statement switched)) tokens.now (λ s. stmt_tree s) result }
     ensures shorter { IfOk result (λ x. length x.1.now < length tokens.now) }
@@ -110,12 +111,12 @@ fn case<'a>(
 
 /// A default and its statement.
 #[cycle(statements)]
-fn otherwise<'a>(
+fn default_statement<'a>(
     context: &Context<'_>,
     switched: bool,
     count: u32,
     tokens: &'a [Placed],
-) -> Result<(Stmt, &'a [Placed]), Fault<'a>>
+) -> Reading<'a, Stmt>
     requires { StatementStarts (scene_of context.now) tokens.now StatementKind.Default }
     ensures goes { Answers count (scene_of context.now) (part.AStmt (part.Statement switched)) tokens.now (λ s. stmt_tree s) result }
     ensures shorter { IfOk result (λ x. length x.1.now < length tokens.now) }
@@ -134,7 +135,7 @@ fn block<'a>(
     switched: bool,
     count: u32,
     tokens: &'a [Placed],
-) -> Result<(Stmt, &'a [Placed]), Fault<'a>>
+) -> Reading<'a, Stmt>
     requires { StatementStarts (scene_of context.now) tokens.now StatementKind.Block }
     ensures goes { Answers count (scene_of context.now) (part.AStmt (part.Statement switched)) tokens.now (λ s. stmt_tree s) result }
     ensures shorter { IfOk result (λ x. length x.1.now < length tokens.now) }
@@ -147,12 +148,12 @@ fn block<'a>(
 
 /// An if, with its else where there is one.
 #[cycle(statements)]
-fn conditional_statement<'a>(
+fn if_statement<'a>(
     context: &Context<'_>,
     switched: bool,
     count: u32,
     tokens: &'a [Placed],
-) -> Result<(Stmt, &'a [Placed]), Fault<'a>>
+) -> Reading<'a, Stmt>
     requires { StatementStarts (scene_of context.now) tokens.now StatementKind.If }
     ensures goes { Answers count (scene_of context.now) (part.AStmt (part.Statement switched)) tokens.now (λ s. stmt_tree s) result }
     ensures shorter { IfOk result (λ x. length x.1.now < length tokens.now) }
@@ -172,7 +173,7 @@ fn else_part<'a>(
     condition: Box<Expr>,
     then: Box<Stmt>,
     tokens: &'a [Placed],
-) -> Result<(Stmt, &'a [Placed]), Fault<'a>>
+) -> Reading<'a, Stmt>
     ensures goes { Answers count (scene_of context.now) (part.AStmt (part.Else at (boxed_expr condition) (boxed_tree then))) tokens.now (λ s. stmt_tree s) result }
     ensures shorter { IfOk result (λ x. length x.1.now ≤ length tokens.now) }
 {
@@ -186,7 +187,7 @@ fn else_part<'a>(
 fn else_comes(then: &Stmt, tokens: &[Placed]) -> bool
     ensures { result ≡ (first_is is_else_word tokens.now && not (ends_open (stmt_tree then.now))) }
 {
-    comes(Mark::Else, tokens) && !ends_open(then)
+    comes(Lookahead::Else, tokens) && !ends_open(then)
 }
 
 /// Else and its statement.
@@ -198,7 +199,7 @@ fn else_form<'a>(
     condition: Box<Expr>,
     then: Box<Stmt>,
     tokens: &'a [Placed],
-) -> Result<(Stmt, &'a [Placed]), Fault<'a>>
+) -> Reading<'a, Stmt>
     requires { (first_is is_else_word tokens.now && not (ends_open (boxed_tree then))) ≡ true }
     ensures goes { Answers count (scene_of context.now) (part.AStmt (part.Else at (boxed_expr condition) (boxed_tree then))) tokens.now (λ s. stmt_tree s) result }
     ensures shorter { IfOk result (λ x. length x.1.now < length tokens.now) }
@@ -210,12 +211,12 @@ fn else_form<'a>(
 
 /// A switch.
 #[cycle(statements)]
-fn choice<'a>(
+fn switch_statement<'a>(
     context: &Context<'_>,
     switched: bool,
     count: u32,
     tokens: &'a [Placed],
-) -> Result<(Stmt, &'a [Placed]), Fault<'a>>
+) -> Reading<'a, Stmt>
     requires { StatementStarts (scene_of context.now) tokens.now StatementKind.Switch }
     ensures goes { Answers count (scene_of context.now) (part.AStmt (part.Statement switched)) tokens.now (λ s. stmt_tree s) result }
     ensures shorter { IfOk result (λ x. length x.1.now < length tokens.now) }
@@ -233,7 +234,7 @@ fn while_loop<'a>(
     switched: bool,
     count: u32,
     tokens: &'a [Placed],
-) -> Result<(Stmt, &'a [Placed]), Fault<'a>>
+) -> Reading<'a, Stmt>
     requires { StatementStarts (scene_of context.now) tokens.now StatementKind.While }
     ensures goes { Answers count (scene_of context.now) (part.AStmt (part.Statement switched)) tokens.now (λ s. stmt_tree s) result }
     ensures shorter { IfOk result (λ x. length x.1.now < length tokens.now) }
@@ -251,7 +252,7 @@ fn do_loop<'a>(
     switched: bool,
     count: u32,
     tokens: &'a [Placed],
-) -> Result<(Stmt, &'a [Placed]), Fault<'a>>
+) -> Reading<'a, Stmt>
     requires { StatementStarts (scene_of context.now) tokens.now StatementKind.Do }
     ensures goes { Answers count (scene_of context.now) (part.AStmt (part.Statement switched)) tokens.now (λ s. stmt_tree s) result }
     ensures shorter { IfOk result (λ x. length x.1.now < length tokens.now) }
@@ -272,14 +273,14 @@ fn for_loop<'a>(
     switched: bool,
     count: u32,
     tokens: &'a [Placed],
-) -> Result<(Stmt, &'a [Placed]), Fault<'a>>
+) -> Reading<'a, Stmt>
     requires { StatementStarts (scene_of context.now) tokens.now StatementKind.For }
     ensures goes { Answers count (scene_of context.now) (part.AStmt (part.Statement switched)) tokens.now (λ s. stmt_tree s) result }
     ensures shorter { IfOk result (λ x. length x.1.now < length tokens.now) }
 {
-    let (head, rest) = for_head(context, count, tokens)?;
+    let (opening, rest) = for_opening(context, count, tokens)?;
     let (body, rest) = substatement(context, Setting::InBlock, false, count, rest)?;
-    Ok((for_stmt(head, body), rest))
+    Ok((for_stmt(opening, body), rest))
 }
 
 /// A statement that is a part of another one, where its tokens stand so. It counts as a form from
@@ -291,9 +292,9 @@ fn substatement<'a>(
     switched: bool,
     count: u32,
     tokens: &'a [Placed],
-) -> Result<(Box<Stmt>, &'a [Placed]), Fault<'a>>
+) -> Reading<'a, Box<Stmt>>
     requires { count ≤ 200 }
-    ensures goes { Substatements count (scene_of context.now) (setting_of setting) switched tokens.now result }
+    ensures goes { Substatements count (scene_of context.now) setting switched tokens.now result }
     ensures shorter { IfOk result (λ x. length x.1.now < length tokens.now) }
 {
     if !no_left_bracket(tokens) {
@@ -310,7 +311,7 @@ fn substatement<'a>(
 
 /// Where the tokens of a block stand.
 fn block_setting(switched: bool) -> Setting
-    ensures { (w : part.Scene) → block_scene switched w ≡ record { types = w.types; setting = setting_of result } }
+    ensures { (w : part.Scene) → block_scene switched w ≡ record { types = w.types; setting = result } }
 {
     if switched {
         Setting::InSwitch
@@ -326,7 +327,7 @@ pub fn block_items<'a>(
     switched: bool,
     count: u32,
     tokens: &'a [Placed],
-) -> Result<(BlockItems, &'a [Placed]), Fault<'a>>
+) -> Reading<'a, BlockItems>
     ensures goes { Answers count (block_scene switched (scene_of context.now)) (part.Items none) tokens.now (λ i. blockitems_tree i) result }
     ensures shorter { IfOk result (λ x. length x.1.now < length tokens.now) }
 {
@@ -340,17 +341,13 @@ pub fn block_items<'a>(
 
 /// The items of a block, up to the brace that closes it.
 #[cycle(statements)]
-fn items<'a>(
-    context: &Context<'_>,
-    count: u32,
-    tokens: &'a [Placed],
-) -> Result<(BlockItems, &'a [Placed]), Fault<'a>>
+fn items<'a>(context: &Context<'_>, count: u32, tokens: &'a [Placed]) -> Reading<'a, BlockItems>
     ensures goes { Answers count (scene_of context.now) (part.Items none) tokens.now (λ i. blockitems_tree i) result }
     ensures shorter { IfOk result (λ x. length x.1.now < length tokens.now) }
 {
     let mut items = Vec::new(context.alloc);
     let mut rest = tokens;
-    while !comes(Mark::RightBrace, rest) {
+    while !comes(Lookahead::RightBrace, rest) {
         let (next, after) = item(context, count, rest)?;
         push_item(&mut items, next)?;
         rest = after;
@@ -371,16 +368,13 @@ fn push_item(items: &mut Vec<BlockItem>, next: BlockItem) -> Result<(), AllocErr
 
 /// An item of a block.
 #[cycle(statements)]
-fn item<'a>(
-    context: &Context<'_>,
-    count: u32,
-    tokens: &'a [Placed],
-) -> Result<(BlockItem, &'a [Placed]), Fault<'a>>
+fn item<'a>(context: &Context<'_>, count: u32, tokens: &'a [Placed]) -> Reading<'a, BlockItem>
     ensures goes { Answers count (scene_of context.now) part.Item tokens.now (λ i. blockitem_tree i) result }
     ensures shorter { IfOk result (λ x. length x.1.now < length tokens.now) }
 {
     if spec_ahead(context, tokens) {
         let (decl, rest) = declaration(context, count, tokens)?;
+        let decl = Box::new(context.alloc, decl)?;
         return Ok((BlockItem::Declaration(decl), rest));
     }
     let (stmt, rest) = statement(context, false, count, tokens)?;

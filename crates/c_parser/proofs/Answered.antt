@@ -7,7 +7,8 @@ use Rattle.c_written.specs.declared.token.Placed.{Placed}
 use Rattle.c_written.specs.declared.token.Tokens.{Tokens}
 use Rattle.c_written.specs.WrittenFile.{OuterTree, FileTree, outer_tree}
 use Rattle.c_grammar.specs.Parts as parts
-use Rattle.c_grammar.specs.Parts.{AtFile, Scene, AnOuter, Outers}
+use Rattle.c_grammar.specs.declared.parts.Setting.TheVariants.{AtFile}
+use Rattle.c_grammar.specs.Parts.{Scene, AnOuter, Outers}
 use Rattle.c_grammar.specs.Process.{give, part}
 use Rattle.c_grammar.specs.FileRules.{after_outer, file_end, file_more}
 use Rattle.c_grammar.specs.Choice.{choose, this}

@@ -1,5 +1,7 @@
 -- The tree of a function that the code makes.
 use Rattle.std.proofs.Common.{◌≡◌, ap, ◌∙◌}
+use Rattle.std.specs.declared.alloc.Global.{Global}
+use Rattle.std.specs.declared.boxed.Box.{Box}
 use Rattle.c_written.specs.declared.place.Pos.{Pos}
 use Rattle.c_written.specs.declared.written.Specs.{Specs}
 use Rattle.c_written.specs.declared.written.Declarator.{Declarator}
@@ -11,5 +13,5 @@ use Rattle.c_written.specs.WrittenFile as trees
 use Rattle.c_written.proofs.WrittenFileTrees.{outer_function}
 use Rattle.c_grammar.specs.Made.{specs_pos}
 
-pub function_made : (at : Pos) (specs : Specs) (declarator : Declarator) (brace : Pos) (body : BlockItems) → at ≡ specs_pos (specs_tree specs) → outer_tree (outers.Function at specs declarator brace body) ≡ trees.Function (specs_pos (specs_tree specs)) (specs_tree specs) (declarator_tree declarator) brace (blockitems_tree body)
-function_made at specs declarator brace body e = outer_function at specs declarator brace body ∙ ap (λ (v : Pos). trees.Function v (specs_tree specs) (declarator_tree declarator) brace (blockitems_tree body)) e
+pub function_made : (at : Pos) (specs : Specs) (declarator : Box Declarator Global) (brace : Pos) (body : BlockItems) → at ≡ specs_pos (specs_tree specs) → outer_tree (outers.Function at specs declarator brace body) ≡ trees.Function (specs_pos (specs_tree specs)) (specs_tree specs) (declarator_tree declarator.value) brace (blockitems_tree body)
+function_made at specs declarator brace body e = outer_function at specs declarator brace body ∙ ap (λ (v : Pos). trees.Function v (specs_tree specs) (declarator_tree declarator.value) brace (blockitems_tree body)) e

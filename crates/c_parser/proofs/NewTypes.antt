@@ -2,6 +2,8 @@
 use Rattle.std.proofs.Common.{◌≡◌, ℕ, ◌+◌, ◌<◌, ◌≤◌, Bool, true, false, List, [], ◌∷◌, ◌++◌, length, get_or, drop, refl, sym, ap, ◌∙◌, append_assoc}
 use Rattle.std.specs.Prelude.{◌||◌, map, Option, Some, None}
 use Rattle.std.proofs.lemmas.List.{append-nil, at_drop_more, at_drop_all}
+use Rattle.std.specs.declared.alloc.Global.{Global}
+use Rattle.std.specs.declared.boxed.Box.{Box}
 use Rattle.c_written.specs.declared.declaration.Decl.{Decl}
 use Rattle.c_written.specs.declared.declaration.InitDeclarator.{InitDeclarator}
 use Rattle.c_written.specs.declared.file.BlockItems.{BlockItems}
@@ -77,7 +79,7 @@ words_added before all items i l f = sym (no_more_words before) ∙ ap (λ (v : 
 pub declares_no_type : (decl : Decl) → has_typedef (specs_tree decl.specs) ≡ false → new_types (outer_tree (outers.Declared decl)) ≡ []
 declares_no_type decl h = ap new_types (outer_declared decl) ∙ if_false _ h
 
-pub function_names_no_type : (at : Pos) (specs : Specs) (declarator : Declarator) (brace : Pos) (body : BlockItems) → new_types (outer_tree (outers.Function at specs declarator brace body)) ≡ []
+pub function_names_no_type : (at : Pos) (specs : Specs) (declarator : Box Declarator Global) (brace : Pos) (body : BlockItems) → new_types (outer_tree (outers.Function at specs declarator brace body)) ≡ []
 function_names_no_type at specs declarator brace body = ap new_types (outer_function at specs declarator brace body)
 
 pub nothing_added : (before : List (List ℕ)) (outer made : Outer) → outer ≡ made → new_types (outer_tree made) ≡ [] → before ≡ before ++ new_types (outer_tree outer)

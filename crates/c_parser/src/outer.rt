@@ -11,24 +11,21 @@ ghost use Rattle.c_grammar.specs.Refused.{first_is, is_brace};
 ghost use Rattle.c_parse_steps.specs.Answers.{Answers};
 ghost use Rattle.c_parse_steps.specs.Views.{boxed_declarator, scene_of};
 
+use c_grammar::{Class, Role};
 use c_parse_decls::{initial, no_declarators};
 use c_parse_exprs::{declarator, specs};
 use c_parse_steps::{
-    Class, Context, Fault, Mark, Role, TypeNames, comes, declared_word, specs_pos, taken,
+    Context, Lookahead, Reading, TypeNames, comes, declared_word, specs_pos, taken,
 };
 use c_parse_stmts::block_items;
 use c_written::{
     BlockItems, Declarator, InitDeclarator, Outer, Placed, Pos, Punctuator, Spec, Specs,
     StorageWord,
 };
-use std::alloc::{AllocError, Global};
+use std::alloc::AllocError;
 
 /// A declaration of a file, or a function with its body.
-pub fn outer<'a>(
-    context: &Context<'_>,
-    count: u32,
-    tokens: &'a [Placed],
-) -> Result<(Outer, &'a [Placed]), Fault<'a>>
+pub fn outer<'a>(context: &Context<'_>, count: u32, tokens: &'a [Placed]) -> Reading<'a, Outer>
     ensures goes { Answers count (scene_of context.now) (part.AnOuter part.Outer) tokens.now (λ o. outer_tree o) result }
     ensures shorter { IfOk result (λ x. length x.1.now < length tokens.now) }
 {
@@ -42,11 +39,11 @@ fn outer_declared<'a>(
     count: u32,
     specs: Specs,
     tokens: &'a [Placed],
-) -> Result<(Outer, &'a [Placed]), Fault<'a>>
+) -> Reading<'a, Outer>
     ensures goes { Answers count (scene_of context.now) (part.AnOuter (part.OuterDeclared (specs_tree specs))) tokens.now (λ o. outer_tree o) result }
     ensures shorter { IfOk result (λ x. length x.1.now < length tokens.now) }
 {
-    if comes(Mark::Semicolon, tokens) {
+    if comes(Lookahead::Semicolon, tokens) {
         let semicolon = Class::Sign(Punctuator::Semicolon);
         let (_end, rest) = taken(context, count, 0, semicolon, tokens)?;
         let decl = no_declarators(context.alloc, specs);
@@ -63,11 +60,11 @@ fn outer_initial<'a>(
     specs: Specs,
     first: Box<Declarator>,
     tokens: &'a [Placed],
-) -> Result<(Outer, &'a [Placed]), Fault<'a>>
+) -> Reading<'a, Outer>
     ensures goes { Answers count (scene_of context.now) (part.AnOuter (part.OuterInitial (specs_tree specs) (boxed_declarator first))) tokens.now (λ o. outer_tree o) result }
     ensures shorter { IfOk result (λ x. length x.1.now < length tokens.now) }
 {
-    if comes(Mark::Brace, tokens) {
+    if comes(Lookahead::Brace, tokens) {
         return function(context, count, specs, first, tokens);
     }
     let (decl, rest) = initial(context, count, specs, first, tokens)?;
@@ -81,7 +78,7 @@ fn function<'a>(
     specs: Specs,
     declarator: Box<Declarator>,
     tokens: &'a [Placed],
-) -> Result<(Outer, &'a [Placed]), Fault<'a>>
+) -> Reading<'a, Outer>
     requires { first_is is_brace tokens.now ≡ true }
     ensures goes { Answers count (scene_of context.now) (part.AnOuter (part.OuterInitial (specs_tree specs) (boxed_declarator declarator))) tokens.now (λ o. outer_tree o) result }
     ensures shorter { IfOk result (λ x. length x.1.now < length tokens.now) }
@@ -96,7 +93,6 @@ fn function<'a>(
 fn function_outer(specs: Specs, declarator: Box<Declarator>, brace: Pos, body: BlockItems) -> Outer
     ensures { outer_tree result ≡ Function (specs_pos (specs_tree specs)) (specs_tree specs) (boxed_declarator declarator) brace (blockitems_tree body) }
 {
-    let declarator = Box::into_inner(declarator);
     Outer::Function {
         pos: specs_pos(&specs),
         specs,
@@ -107,7 +103,7 @@ fn function_outer(specs: Specs, declarator: Box<Declarator>, brace: Pos, body: B
 }
 
 /// The typedef names in force behind a declaration of the file.
-pub fn types_after(alloc: Global, types: TypeNames, outer: &Outer) -> Result<TypeNames, AllocError>
+pub fn types_after(types: TypeNames, outer: &Outer) -> Result<TypeNames, AllocError>
     ensures { IfOk result (λ names. names ≡ types ++ new_types (outer_tree outer.now)) }
 {
     match outer {
@@ -115,7 +111,7 @@ pub fn types_after(alloc: Global, types: TypeNames, outer: &Outer) -> Result<Typ
             if !has_typedef(decl.specs.as_slice()) {
                 return Ok(types);
             }
-            with_words(alloc, types, decl.inits.as_slice())
+            with_words(types, decl.inits.as_slice())
         }
         Outer::Function { .. } => Ok(types),
     }
@@ -148,29 +144,21 @@ fn is_typedef(spec: &Spec) -> bool
 }
 
 /// The names, and behind them the words that the declarators declare.
-fn with_words(
-    alloc: Global,
-    types: TypeNames,
-    inits: &[InitDeclarator],
-) -> Result<TypeNames, AllocError>
+fn with_words(types: TypeNames, inits: &[InitDeclarator]) -> Result<TypeNames, AllocError>
     ensures { IfOk result (λ names. names ≡ types ++ declared_words (map initdeclarator_tree inits.now)) }
 {
     let mut names = types;
     for item in inits {
-        names = with_word(alloc, names, &item.declarator)?;
+        names = with_word(names, &item.declarator)?;
     }
     Ok(names)
 }
 
-fn with_word(
-    alloc: Global,
-    types: TypeNames,
-    declarator: &Declarator,
-) -> Result<TypeNames, AllocError>
+fn with_word(types: TypeNames, declarator: &Declarator) -> Result<TypeNames, AllocError>
     ensures { IfOk result (λ names. names ≡ types ++ with_word (declared_word (declarator_tree declarator.now)) []) }
 {
     match declared_word(declarator) {
-        Some(name) => types.with(name.as_slice().to_vec(alloc)?),
+        Some(name) => types.with(name.copy()?.into_vec()),
         None => Ok(types),
     }
 }

@@ -13,7 +13,8 @@ ghost use Rattle.c_grammar.specs.Descent.{Done, Goes, Stop};
 ghost use Rattle.c_parser.specs.declared.parsing.ParseError.TheVariants.{NoMemory};
 
 use crate::outer::{outer, types_after};
-use c_parse_steps::{Context, Fault, Setting, TypeNames};
+use c_grammar::Setting;
+use c_parse_steps::{Context, Fault, Reading, TypeNames};
 use c_written::{Construct, File, Outer, Outers, Placed, Pos, Tokens};
 use std::alloc::Global;
 use thiserror::Error;
@@ -64,19 +65,15 @@ fn outers(alloc: Global, tokens: &[Placed]) -> Result<Vec<Outer>, Fault<'_>>
     let mut rest = tokens;
     while !rest.is_empty() {
         let (next, after) = outer_here(alloc, &types, rest)?;
-        types = types_after(alloc, types, &next)?;
+        types = types_after(types, &next)?;
         outers.push(next)?;
         rest = after;
     }
     Ok(outers)
 }
 
-fn outer_here<'a>(
-    alloc: Global,
-    types: &TypeNames,
-    tokens: &'a [Placed],
-) -> Result<(Outer, &'a [Placed]), Fault<'a>>
-    ensures goes { Answers 0 (record { types = types.now; setting = part.AtFile }) (part.AnOuter part.Outer) tokens.now (λ o. outer_tree o) result }
+fn outer_here<'a>(alloc: Global, types: &TypeNames, tokens: &'a [Placed]) -> Reading<'a, Outer>
+    ensures goes { Answers 0 (record { types = types.now; setting = Setting.AtFile }) (part.AnOuter part.Outer) tokens.now (λ o. outer_tree o) result }
     ensures shorter { IfOk result (λ x. length x.1.now < length tokens.now) }
 {
     let context = Context {

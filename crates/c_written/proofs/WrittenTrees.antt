@@ -112,15 +112,15 @@ pub expr_index : (at : Pos) (base : Box Expr Global) (index : Box Expr Global) �
 unfolding expr_tree
 expr_index at base index = refl
 
-pub expr_call : (at : Pos) (name : List ℕ) (args : Exprs) → expr_tree (exprs.Call at name args) ≡ trees.Call at name (exprs_tree args)
+pub expr_call : (at : Pos) (name : Box (List ℕ) Global) (args : Box Exprs Global) → expr_tree (exprs.Call at name args) ≡ trees.Call at name.value (exprs_tree args.value)
 unfolding expr_tree
-expr_call at name args = ap (trees.Call at name) (exprs_row args)
+expr_call at name args = ap (trees.Call at name.value) (exprs_row args.value)
 
-pub expr_dot : (at : Pos) (base : Box Expr Global) (member : List ℕ) → expr_tree (exprs.Dot at base member) ≡ trees.Dot at (expr_tree base.value) member
+pub expr_dot : (at : Pos) (base : Box Expr Global) (member : Box (List ℕ) Global) → expr_tree (exprs.Dot at base member) ≡ trees.Dot at (expr_tree base.value) member.value
 unfolding expr_tree
 expr_dot at base member = refl
 
-pub expr_arrow : (at : Pos) (base : Box Expr Global) (member : List ℕ) → expr_tree (exprs.Arrow at base member) ≡ trees.Arrow at (expr_tree base.value) member
+pub expr_arrow : (at : Pos) (base : Box Expr Global) (member : Box (List ℕ) Global) → expr_tree (exprs.Arrow at base member) ≡ trees.Arrow at (expr_tree base.value) member.value
 unfolding expr_tree
 expr_arrow at base member = refl
 
@@ -140,13 +140,13 @@ pub expr_sizeof_expr : (at : Pos) (operand : Box Expr Global) → expr_tree (exp
 unfolding expr_tree
 expr_sizeof_expr at operand = refl
 
-pub expr_sizeof_type : (at : Pos) (specs : Specs) (declarator : Box Declarator Global) → expr_tree (exprs.SizeofType at specs declarator) ≡ trees.SizeofType at (specs_tree specs) (declarator_tree declarator.value)
+pub expr_sizeof_type : (at : Pos) (specs : Box Specs Global) (declarator : Box Declarator Global) → expr_tree (exprs.SizeofType at specs declarator) ≡ trees.SizeofType at (specs_tree specs.value) (declarator_tree declarator.value)
 unfolding expr_tree
-expr_sizeof_type at specs declarator = ap (λ (list : SpecTrees). trees.SizeofType at list (declarator_tree declarator.value)) (specs_row specs)
+expr_sizeof_type at specs declarator = ap (λ (list : SpecTrees). trees.SizeofType at list (declarator_tree declarator.value)) (specs_row specs.value)
 
-pub expr_cast : (at : Pos) (specs : Specs) (declarator : Box Declarator Global) (operand : Box Expr Global) → expr_tree (exprs.Cast at specs declarator operand) ≡ trees.Cast at (specs_tree specs) (declarator_tree declarator.value) (expr_tree operand.value)
+pub expr_cast : (at : Pos) (specs : Box Specs Global) (declarator : Box Declarator Global) (operand : Box Expr Global) → expr_tree (exprs.Cast at specs declarator operand) ≡ trees.Cast at (specs_tree specs.value) (declarator_tree declarator.value) (expr_tree operand.value)
 unfolding expr_tree
-expr_cast at specs declarator operand = ap (λ (list : SpecTrees). trees.Cast at list (declarator_tree declarator.value) (expr_tree operand.value)) (specs_row specs)
+expr_cast at specs declarator operand = ap (λ (list : SpecTrees). trees.Cast at list (declarator_tree declarator.value) (expr_tree operand.value)) (specs_row specs.value)
 
 pub expr_binary : (at : Pos) (op : BinaryOp) (left : Box Expr Global) (right : Box Expr Global) → expr_tree (exprs.Binary at op left right) ≡ trees.Binary at op (expr_tree left.value) (expr_tree right.value)
 unfolding expr_tree

@@ -43,7 +43,7 @@ pub record InitDeclaratorTree : Type 0 where
   pub init : Option InitTree
 
 abbrev pub initdeclarator_tree : InitDeclarator → InitDeclaratorTree
-initdeclarator_tree item = record { declarator = declarator_tree item.declarator; init = option_map init_tree item.init }
+initdeclarator_tree item = record { declarator = declarator_tree item.declarator; init = option_map (λ v. init_tree v.value) item.init }
 
 pub record DeclTree : Type 0 where
   pub pos : Pos

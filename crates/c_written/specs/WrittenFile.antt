@@ -1,6 +1,9 @@
 -- Statements and files as trees without pointers. Each constructor has the fields of the code's variant, in their order.
 use Rattle.std.specs.Prelude.{ℕ, List, [], ◌∷◌, map, Option, option_map}
+use Rattle.std.specs.declared.alloc.Global.{Global}
+use Rattle.std.specs.declared.boxed.Box.{Box}
 use Rattle.c_written.specs.declared.place.Pos.{Pos}
+use Rattle.c_written.specs.declared.written.Expr.{Expr}
 use Rattle.c_written.specs.declared.file.ForStart.{ForStart}
 use Rattle.c_written.specs.declared.file.ForStart.TheVariants as starts
 use Rattle.c_written.specs.declared.file.Stmt.{Stmt}
@@ -22,8 +25,12 @@ pub data ForStartTree : Type 0 where
 
 unfoldable pub forstart_tree : ForStart → ForStartTree
 forstart_tree starts.Nothing = Nothing
-forstart_tree (starts.Value value) = Value (expr_tree value)
-forstart_tree (starts.Declares decl) = Declares (decl_tree decl)
+forstart_tree (starts.Value value) = Value (expr_tree value.value)
+forstart_tree (starts.Declares decl) = Declares (decl_tree decl.value)
+
+-- the tree of an expression that may be missing
+abbrev pub optional_tree : Option (Box Expr Global) → Option ExprTree
+optional_tree e = option_map (λ v. expr_tree v.value) e
 
 mutual
   pub data StmtTree : Type 0 where
@@ -54,25 +61,25 @@ mutual
 
 unfoldable mutual
   pub stmt_tree : Stmt → StmtTree
-  stmt_tree (stmts.Label' at name body_box body) = Label at name (stmt_tree body)
-  stmt_tree (stmts.Case' at value body_box body) = Case at (expr_tree value) (stmt_tree body)
+  stmt_tree (stmts.Label' at name body_box body) = Label at name.value (stmt_tree body)
+  stmt_tree (stmts.Case' at value body_box body) = Case at (expr_tree value.value) (stmt_tree body)
   stmt_tree (stmts.Default' at body_box body) = Default at (stmt_tree body)
   stmt_tree (stmts.Block' at items_shape items) = Block at (blockitem_rows items)
   stmt_tree (stmts.Empty at) = Empty at
-  stmt_tree (stmts.Expression at value) = Expression at (expr_tree value)
-  stmt_tree (stmts.If' at condition first_box first) = If at (expr_tree condition) (stmt_tree first)
-  stmt_tree (stmts.IfElse' at condition first_box first second_box second) = IfElse at (expr_tree condition) (stmt_tree first) (stmt_tree second)
-  stmt_tree (stmts.Switch' at value body_box body) = Switch at (expr_tree value) (stmt_tree body)
-  stmt_tree (stmts.While' at condition body_box body) = While at (expr_tree condition) (stmt_tree body)
-  stmt_tree (stmts.DoWhile' at body_box body condition) = DoWhile at (stmt_tree body) (expr_tree condition)
-  stmt_tree (stmts.For' at start condition step body_box body) = For at (forstart_tree start) (option_map expr_tree condition) (option_map expr_tree step) (stmt_tree body)
+  stmt_tree (stmts.Expression at value) = Expression at (expr_tree value.value)
+  stmt_tree (stmts.If' at condition first_box first) = If at (expr_tree condition.value) (stmt_tree first)
+  stmt_tree (stmts.IfElse' at condition first_box first second_box second) = IfElse at (expr_tree condition.value) (stmt_tree first) (stmt_tree second)
+  stmt_tree (stmts.Switch' at value body_box body) = Switch at (expr_tree value.value) (stmt_tree body)
+  stmt_tree (stmts.While' at condition body_box body) = While at (expr_tree condition.value) (stmt_tree body)
+  stmt_tree (stmts.DoWhile' at body_box body condition) = DoWhile at (stmt_tree body) (expr_tree condition.value)
+  stmt_tree (stmts.For' at head body_box body) = For at (forstart_tree head.value.start) (optional_tree head.value.condition) (optional_tree head.value.step) (stmt_tree body)
   stmt_tree (stmts.Goto at label) = Goto at label
   stmt_tree (stmts.Continue at) = Continue at
   stmt_tree (stmts.Break at) = Break at
-  stmt_tree (stmts.Return at value) = Return at (option_map expr_tree value)
+  stmt_tree (stmts.Return at value) = Return at (optional_tree value)
 
   pub blockitem_tree : BlockItem → BlockItemTree
-  blockitem_tree (items.Declaration decl) = Declaration (decl_tree decl)
+  blockitem_tree (items.Declaration decl) = Declaration (decl_tree decl.value)
   blockitem_tree (items.Statement stmt) = Statement (stmt_tree stmt)
 
   pub blockitem_rows : {m : _} → Row_of-BlockItem m → BlockItemTrees
@@ -98,7 +105,7 @@ pub data OuterTree : Type 0 where
 
 unfoldable pub outer_tree : Outer → OuterTree
 outer_tree (outers.Declared decl) = Declared (decl_tree decl)
-outer_tree (outers.Function at specs declarator brace body) = Function at (specs_tree specs) (declarator_tree declarator) brace (blockitems_tree body)
+outer_tree (outers.Function at specs declarator brace body) = Function at (specs_tree specs) (declarator_tree declarator.value) brace (blockitems_tree body)
 
 pub record FileTree : Type 0 where
   pub outers : List OuterTree

@@ -28,7 +28,7 @@ pub struct Inits {
 #[derive(Drop)]
 pub struct InitDeclarator {
     pub declarator: Declarator,
-    pub init: Option<Init>,
+    pub init: Option<Box<Init>>,
 }
 
 /// A declaration. The place is that of the first of its specs. It may have no declarator.
@@ -52,10 +52,12 @@ impl Init {
 }
 
 impl Inits {
-    /// The list of these items.
+    /// The list of these items, in a block of their size.
     pub fn from_vec(items: Vec<Init>) -> Inits
         ensures { inits_tree result ≡ inits_from items.items }
     {
+        let mut items = items;
+        items.shrink_to_fit();
         Inits { items }
     }
 
@@ -107,10 +109,12 @@ impl InitDeclarators {
         }
     }
 
-    /// The list of these items.
+    /// The list of these items, in a block of their size.
     pub fn from_vec(items: Vec<InitDeclarator>) -> InitDeclarators
         ensures { result ≡ items.items }
     {
+        let mut items = items;
+        items.shrink_to_fit();
         InitDeclarators { items }
     }
 

@@ -13,23 +13,31 @@ use std::marker::Model;
 #[derive(Drop)]
 pub enum ForStart {
     Nothing,
-    Value(Expr),
-    Declares(Decl),
+    Value(Box<Expr>),
+    Declares(Box<Decl>),
+}
+
+/// What stands between the parentheses of a `for`.
+#[derive(Drop)]
+pub struct ForHead {
+    pub start: ForStart,
+    pub condition: Option<Box<Expr>>,
+    pub step: Option<Box<Expr>>,
 }
 
 /// A statement. Its place is that of its first token, but for one that is an expression, which has
-/// the place of that.
+/// the place of that. What is large stands in a box, so that a statement that is small takes little.
 #[cycle(blocks)]
 #[derive(Drop)]
 pub enum Stmt {
     Label {
         pos: Pos,
-        name: Name,
+        name: Box<Name>,
         body: Box<Stmt>,
     },
     Case {
         pos: Pos,
-        value: Expr,
+        value: Box<Expr>,
         body: Box<Stmt>,
     },
     Default {
@@ -45,39 +53,37 @@ pub enum Stmt {
     },
     Expression {
         pos: Pos,
-        value: Expr,
+        value: Box<Expr>,
     },
     If {
         pos: Pos,
-        condition: Expr,
+        condition: Box<Expr>,
         then: Box<Stmt>,
     },
     IfElse {
         pos: Pos,
-        condition: Expr,
+        condition: Box<Expr>,
         then: Box<Stmt>,
         otherwise: Box<Stmt>,
     },
     Switch {
         pos: Pos,
-        value: Expr,
+        value: Box<Expr>,
         body: Box<Stmt>,
     },
     While {
         pos: Pos,
-        condition: Expr,
+        condition: Box<Expr>,
         body: Box<Stmt>,
     },
     DoWhile {
         pos: Pos,
         body: Box<Stmt>,
-        condition: Expr,
+        condition: Box<Expr>,
     },
     For {
         pos: Pos,
-        start: ForStart,
-        condition: Option<Expr>,
-        step: Option<Expr>,
+        head: Box<ForHead>,
         body: Box<Stmt>,
     },
     Goto {
@@ -92,7 +98,7 @@ pub enum Stmt {
     },
     Return {
         pos: Pos,
-        value: Option<Expr>,
+        value: Option<Box<Expr>>,
     },
 }
 
@@ -100,7 +106,7 @@ pub enum Stmt {
 #[cycle(blocks)]
 #[derive(Drop)]
 pub enum BlockItem {
-    Declaration(Decl),
+    Declaration(Box<Decl>),
     Statement(Stmt),
 }
 
@@ -119,7 +125,7 @@ pub enum Outer {
     Function {
         pos: Pos,
         specs: Specs,
-        declarator: Declarator,
+        declarator: Box<Declarator>,
         brace: Pos,
         body: BlockItems,
     },
@@ -167,10 +173,12 @@ impl BlockItems {
         }
     }
 
-    /// The list of these items.
+    /// The list of these items, in a block of their size.
     pub fn from_vec(items: Vec<BlockItem>) -> BlockItems
         ensures { blockitems_tree result ≡ blockitems_from items.items }
     {
+        let mut items = items;
+        items.shrink_to_fit();
         BlockItems { items }
     }
 
@@ -224,10 +232,12 @@ impl Outers {
         }
     }
 
-    /// The list of these items.
+    /// The list of these items, in a block of their size.
     pub fn from_vec(items: Vec<Outer>) -> Outers
         ensures { result ≡ items.items }
     {
+        let mut items = items;
+        items.shrink_to_fit();
         Outers { items }
     }
 

@@ -28,7 +28,7 @@ mod written;
 
 pub use construct::Construct;
 pub use declaration::{Decl, Init, InitDeclarator, InitDeclarators, Inits};
-pub use file::{BlockItem, BlockItems, File, ForStart, Outer, Outers, Stmt};
+pub use file::{BlockItem, BlockItems, File, ForHead, ForStart, Outer, Outers, Stmt};
 pub use int_type::IntType;
 pub use lists::{Bytes, Name, Names, Numbers, Places};
 pub use place::Pos;

@@ -26,10 +26,11 @@ fn cast(alloc: Global, pos: Pos, operand: Box<Expr>) -> Result<Expr, NoMemory>
         pos,
         word: TypeWord::Int,
     })?;
+    let specs = Box::new(alloc, Specs::from_vec(items))?;
     let declarator = Box::new(alloc, Declarator::Absent)?;
     Ok(Expr::Cast {
         pos,
-        specs: Specs::from_vec(items),
+        specs,
         declarator,
         operand,
     })
@@ -64,6 +65,7 @@ fn block(alloc: Global, pos: Pos, decl: Decl, stmt: Stmt) -> Result<Stmt, NoMemo
     ensures { IfOk result (λ s. stmt_tree s ≡
         files.Block pos (files.more (files.Declaration (decl_tree decl)) (files.more (files.Statement (stmt_tree stmt)) files.none))) }
 {
+    let decl = Box::new(alloc, decl)?;
     let mut items = Vec::new(alloc);
     items.push(BlockItem::Declaration(decl))?;
     items.push(BlockItem::Statement(stmt))?;
@@ -100,7 +102,7 @@ fn a_file_is_built(rt: HostRuntime) -> Result<(), Fail> {
     let mut inits = Vec::new(alloc);
     inits.push(InitDeclarator {
         declarator: Declarator::Name { pos: at(2), name },
-        init: Some(init),
+        init: Some(Box::new(alloc, init)?),
     })?;
     let decl = Decl {
         pos: at(1),
@@ -113,11 +115,13 @@ fn a_file_is_built(rt: HostRuntime) -> Result<(), Fail> {
     items.push(BlockItem::Statement(stmt))?;
     let inner = Box::new(alloc, Declarator::Absent)?;
     let specs = Specs::from_vec(Vec::new(alloc));
+    let declarator = taking(alloc, at(8), inner, specs, Declarator::Absent)?;
+    let declarator = Box::new(alloc, declarator)?;
     let mut outers = Vec::new(alloc);
     outers.push(Outer::Function {
         pos: at(1),
         specs: Specs::from_vec(Vec::new(alloc)),
-        declarator: taking(alloc, at(8), inner, specs, Declarator::Absent)?,
+        declarator,
         brace: at(5),
         body: BlockItems::from_vec(items),
     })?;

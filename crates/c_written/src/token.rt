@@ -231,10 +231,12 @@ impl PlacedList {
         }
     }
 
-    /// The list of these items.
+    /// The list of these items, in a block of their size.
     pub fn from_vec(items: Vec<Placed>) -> PlacedList
         ensures { result ≡ items.items }
     {
+        let mut items = items;
+        items.shrink_to_fit();
         PlacedList { items }
     }
 

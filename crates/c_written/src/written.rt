@@ -122,18 +122,18 @@ pub enum Expr {
     /// A call of a word, whose place is that of the call.
     Call {
         pos: Pos,
-        name: Name,
-        args: Exprs,
+        name: Box<Name>,
+        args: Box<Exprs>,
     },
     Dot {
         pos: Pos,
         base: Box<Expr>,
-        member: Name,
+        member: Box<Name>,
     },
     Arrow {
         pos: Pos,
         base: Box<Expr>,
-        member: Name,
+        member: Box<Name>,
     },
     /// `++` or `--` after its operand.
     PostStep {
@@ -158,13 +158,13 @@ pub enum Expr {
     },
     SizeofType {
         pos: Pos,
-        specs: Specs,
+        specs: Box<Specs>,
         declarator: Box<Declarator>,
     },
     /// The place is that of the opening parenthesis.
     Cast {
         pos: Pos,
-        specs: Specs,
+        specs: Box<Specs>,
         declarator: Box<Declarator>,
         operand: Box<Expr>,
     },
@@ -457,10 +457,12 @@ impl Exprs {
         }
     }
 
-    /// The list of these items.
+    /// The list of these items, in a block of their size.
     pub fn from_vec(items: Vec<Expr>) -> Exprs
         ensures { exprs_tree result ≡ exprs_from items.items }
     {
+        let mut items = items;
+        items.shrink_to_fit();
         Exprs { items }
     }
 
@@ -481,10 +483,12 @@ impl Exprs {
 }
 
 impl Specs {
-    /// The list of these items.
+    /// The list of these items, in a block of their size.
     pub fn from_vec(items: Vec<Spec>) -> Specs
         ensures { specs_tree result ≡ specs_from items.items }
     {
+        let mut items = items;
+        items.shrink_to_fit();
         Specs { items }
     }
 
@@ -505,10 +509,12 @@ impl Specs {
 }
 
 impl MemberDecls {
-    /// The list of these items.
+    /// The list of these items, in a block of their size.
     pub fn from_vec(items: Vec<MemberDecl>) -> MemberDecls
         ensures { memberdecls_tree result ≡ memberdecls_from items.items }
     {
+        let mut items = items;
+        items.shrink_to_fit();
         MemberDecls { items }
     }
 
@@ -529,10 +535,12 @@ impl MemberDecls {
 }
 
 impl Enumerators {
-    /// The list of these items.
+    /// The list of these items, in a block of their size.
     pub fn from_vec(items: Vec<Enumerator>) -> Enumerators
         ensures { enumerators_tree result ≡ enumerators_from items.items }
     {
+        let mut items = items;
+        items.shrink_to_fit();
         Enumerators { items }
     }
 
@@ -553,10 +561,12 @@ impl Enumerators {
 }
 
 impl Declarators {
-    /// The list of these items.
+    /// The list of these items, in a block of their size.
     pub fn from_vec(items: Vec<Declarator>) -> Declarators
         ensures { declarators_tree result ≡ declarators_from items.items }
     {
+        let mut items = items;
+        items.shrink_to_fit();
         Declarators { items }
     }
 
@@ -586,10 +596,12 @@ impl Params {
         }
     }
 
-    /// The list of these items.
+    /// The list of these items, in a block of their size.
     pub fn from_vec(items: Vec<Param>) -> Params
         ensures { params_tree result ≡ params_from items.items }
     {
+        let mut items = items;
+        items.shrink_to_fit();
         Params { items }
     }
 

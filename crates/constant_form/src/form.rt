@@ -158,7 +158,10 @@ fn value_of(statement: &Stmt) -> Option<&c_syntax::Expr>
     ensures { option_map (λ e. written.expr_tree e.now) result ≡ returned_by (Statement (stmt_tree statement.now)) }
 {
     match statement {
-        Stmt::Return { value, .. } => value.as_ref(),
+        Stmt::Return { value, .. } => match value {
+            Some(value) => Some(value),
+            None => None,
+        },
         Stmt::Label { .. }
         | Stmt::Case { .. }
         | Stmt::Default { .. }

@@ -52,7 +52,7 @@ fn returning(alloc: Global, value: Expr) -> Result<BlockItems, NoMemory> {
     let mut items = Vec::new(alloc);
     items.push(BlockItem::Statement(Stmt::Return {
         pos: at(1),
-        value: Some(value),
+        value: Some(Box::new(alloc, value)?),
     }))?;
     Ok(BlockItems::from_vec(items))
 }
@@ -72,6 +72,7 @@ fn file_of(alloc: Global, value: Expr) -> Result<File, NoMemory> {
     let body = returning(alloc, value)?;
     let specs = int(alloc)?;
     let declarator = main_declarator(alloc)?;
+    let declarator = Box::new(alloc, declarator)?;
     let mut outers = Vec::new(alloc);
     outers.push(Outer::Function {
         pos: at(1),

@@ -1,7 +1,7 @@
 // Real files, and standard output. They tell nothing of content.
-ghost use Rattle.std.specs.Prelude.{◌≡◌, ◌⊎◌, ◌<◌, ◌≤◌, [], None, IsTrue, IsErr, IfOk, OnErr, false, is_ok, length, take, if◌then◌else◌};
+ghost use Rattle.std.specs.Prelude.{◌≡◌, ◌⊎◌, ◌<◌, ◌≤◌, List, ℕ, [], None, IsTrue, IsErr, IfOk, OnErr, false, is_ok, length, take, if◌then◌else◌};
 ghost use Rattle.std.specs.Io.KnownBytes.{Appends, ReadConsumes};
-ghost use Rattle.outside_io.specs.Io.{raised};
+ghost use Rattle.outside_io.specs.Io.{IsFront, raised};
 
 use crate::{Failed, Files, Sink};
 use std::io::{Read, Write};
@@ -98,10 +98,12 @@ fn read_piece<S: Read>(source: &mut S, into: &mut [u8]) -> Result<usize, Failed>
     }
 }
 
-// Writes the front of a piece to a sink, and flushes it.
+// Writes the front of a piece to a sink, and flushes it. At `Err` a front was written too, where the
+// flush failed.
 fn write_piece<W: Write>(sink: &mut W, piece: &[u8]) -> Result<usize, Failed>
     ensures count { IfOk result (λ k. k ≤ length piece.now) }
     ensures bytes { IfOk result (λ k. Appends (W.contents sink.old) (W.contents sink.new) (take k piece.now)) }
+    ensures cut { OnErr result ((front : List ℕ) × IsFront front piece.now × Appends (W.contents sink.old) (W.contents sink.new) front) }
 {
     match sink.write(piece) {
         Ok(count) => match sink.flush() {

@@ -8,7 +8,7 @@ use Rattle.c_grammar.specs.Grammar.{expr_rule, type_rule}
 use Rattle.c_grammar.specs.ExprRules as rule
 use Rattle.c_grammar.specs.TypeRules as kind
 use Rattle.c_grammar.specs.Descent.{goes_on, stops, is_done, is_barred, no_rule, passes, fails}
-use Rattle.c_parse_steps.specs.Views.{boxed_declarator, boxed_expr, scene_of, level_view, role_view}
+use Rattle.c_parse_steps.specs.Views.{boxed_declarator, boxed_expr, scene_of}
 use Rattle.c_parse_steps.specs.Answers.{given, halted, stalled, stepped}
 use Rattle.c_parse_steps.proofs.Steps.{relayed, halts, starved, answer, halt, take, refuse, shut, not_shut, step, stall, stopped, by, here, stops_here, done, if_true, if_false, borne, unborne, sign_is}
 use Rattle.c_parse_steps.proofs.Choices.{primary_is, prefix_is, suffix_is, assign_is, more_is}
@@ -20,17 +20,17 @@ use Rattle.c_parse_steps.proofs.TypeSteps.{declarators_at, value_at, again_is, n
 use Rattle.c_parse_leaves.proofs.DeclaratorSteps.{direct_is, tail_is, no_tail, tails_at, tails_absent, function_so, tail_declarator, regiven, renamed, both_true, first_false}
 use Rattle.c_parse_exprs.proofs.+descent.Goals as goal
 
-pub exprs::run-returns-in-Err-clause-goes : goal.exprs::run-returns-in-Err-clause-goes
-exprs::run-returns-in-Err-clause-goes t c = halted (halts (halt c.in-Err.ensures.goes) (λ why rest g. by (expr_rule rule.run) (refl) (refl) (stops_here g)))
+pub exprs::joined_operands-returns-in-Err-clause-goes : goal.exprs::joined_operands-returns-in-Err-clause-goes
+exprs::joined_operands-returns-in-Err-clause-goes t c = halted (halts (halt c.in-Err.ensures.goes) (λ why rest g. by (expr_rule rule.run) (refl) (refl) (stops_here g)))
 
-pub exprs::run-returns-clause-goes : goal.exprs::run-returns-clause-goes
-exprs::run-returns-clause-goes t c = relayed c.more.ensures.goes (λ x g. by (expr_rule rule.run) (refl) (refl) (here (answer c.in-Ok.ensures.goes) (here g (is_done)))) (λ why rest g. by (expr_rule rule.run) (refl) (refl) (here (answer c.in-Ok.ensures.goes) (stops_here g)))
+pub exprs::joined_operands-returns-clause-goes : goal.exprs::joined_operands-returns-clause-goes
+exprs::joined_operands-returns-clause-goes t c = relayed c.more.ensures.goes (λ x g. by (expr_rule rule.run) (refl) (refl) (here (answer c.in-Ok.ensures.goes) (here g (is_done)))) (λ why rest g. by (expr_rule rule.run) (refl) (refl) (here (answer c.in-Ok.ensures.goes) (stops_here g)))
 
 pub exprs::operand-returns-in-Assignment-clause-goes : goal.exprs::operand-returns-in-Assignment-clause-goes
 exprs::operand-returns-in-Assignment-clause-goes t c = operand_at c.args.level (sym c.in-Assignment.ensures) c.assignment.ensures.goes
 
 pub exprs::operand-returns-in-Run-clause-goes : goal.exprs::operand-returns-in-Run-clause-goes
-exprs::operand-returns-in-Run-clause-goes t c = operand_at c.args.level (sym c.in-Run.ensures) c.run.ensures.goes
+exprs::operand-returns-in-Run-clause-goes t c = operand_at c.args.level (sym c.in-Run.ensures) c.joined_operands.ensures.goes
 
 pub exprs::operand-returns-in-Cast-clause-goes : goal.exprs::operand-returns-in-Cast-clause-goes
 exprs::operand-returns-in-Cast-clause-goes t c = operand_at c.args.level (sym c.in-Cast.ensures) c.cast.ensures.goes
@@ -68,17 +68,17 @@ exprs::chosen-returns-then-not-comes-clause-goes t c = given (by (expr_rule rule
 pub exprs::chosen-returns-in-Err-clause-goes : goal.exprs::chosen-returns-in-Err-clause-goes
 exprs::chosen-returns-in-Err-clause-goes t c = halted (halts (refuse c.in-Err.ensures.goes) (λ why rest g. by (expr_rule rule.chosen) refl (is_question_ahead (scene_of c.args.context.now) (boxed_expr c.args.condition) c.args.tokens.now (sym c.if-not-comes.ensures)) (g _ _)))
 
-pub exprs::chosen-returns-in-Err-run-clause-goes : goal.exprs::chosen-returns-in-Err-run-clause-goes
-exprs::chosen-returns-in-Err-run-clause-goes t c = halted (halts (halt c.in-Err-run.ensures.goes) (λ why rest g. by (expr_rule rule.chosen) refl (is_question_ahead (scene_of c.args.context.now) (boxed_expr c.args.condition) c.args.tokens.now (sym c.if-not-comes.ensures)) (take c.in-Ok.ensures.goes (stops g))))
+pub exprs::chosen-returns-in-Err-joined_operands-clause-goes : goal.exprs::chosen-returns-in-Err-joined_operands-clause-goes
+exprs::chosen-returns-in-Err-joined_operands-clause-goes t c = halted (halts (halt c.in-Err-joined_operands.ensures.goes) (λ why rest g. by (expr_rule rule.chosen) refl (is_question_ahead (scene_of c.args.context.now) (boxed_expr c.args.condition) c.args.tokens.now (sym c.if-not-comes.ensures)) (take c.in-Ok.ensures.goes (stops g))))
 
 pub exprs::chosen-returns-in-Err-taken-clause-goes : goal.exprs::chosen-returns-in-Err-taken-clause-goes
-exprs::chosen-returns-in-Err-taken-clause-goes t c = halted (halts (not_shut c.in-Err-taken.ensures.goes) (λ why rest g. by (expr_rule rule.chosen) refl (is_question_ahead (scene_of c.args.context.now) (boxed_expr c.args.condition) c.args.tokens.now (sym c.if-not-comes.ensures)) (take c.in-Ok.ensures.goes (goes_on (answer c.in-Ok-run.ensures.goes) (g _ _)))))
+exprs::chosen-returns-in-Err-taken-clause-goes t c = halted (halts (not_shut c.in-Err-taken.ensures.goes) (λ why rest g. by (expr_rule rule.chosen) refl (is_question_ahead (scene_of c.args.context.now) (boxed_expr c.args.condition) c.args.tokens.now (sym c.if-not-comes.ensures)) (take c.in-Ok.ensures.goes (goes_on (answer c.in-Ok-joined_operands.ensures.goes) (g _ _)))))
 
 pub exprs::chosen-returns-in-Err-conditional-clause-goes : goal.exprs::chosen-returns-in-Err-conditional-clause-goes
-exprs::chosen-returns-in-Err-conditional-clause-goes t c = halted (halts (halt c.in-Err-conditional.ensures.goes) (λ why rest g. by (expr_rule rule.chosen) refl (is_question_ahead (scene_of c.args.context.now) (boxed_expr c.args.condition) c.args.tokens.now (sym c.if-not-comes.ensures)) (take c.in-Ok.ensures.goes (goes_on (answer c.in-Ok-run.ensures.goes) (shut c.in-Ok-taken.ensures.goes (stops g))))))
+exprs::chosen-returns-in-Err-conditional-clause-goes t c = halted (halts (halt c.in-Err-conditional.ensures.goes) (λ why rest g. by (expr_rule rule.chosen) refl (is_question_ahead (scene_of c.args.context.now) (boxed_expr c.args.condition) c.args.tokens.now (sym c.if-not-comes.ensures)) (take c.in-Ok.ensures.goes (goes_on (answer c.in-Ok-joined_operands.ensures.goes) (shut c.in-Ok-taken.ensures.goes (stops g))))))
 
 pub exprs::chosen-returns-clause-goes : goal.exprs::chosen-returns-clause-goes
-exprs::chosen-returns-clause-goes t c = made_so _ (by (expr_rule rule.chosen) refl (is_question_ahead (scene_of c.args.context.now) (boxed_expr c.args.condition) c.args.tokens.now (sym c.if-not-comes.ensures)) (take c.in-Ok.ensures.goes (goes_on (answer c.in-Ok-run.ensures.goes) (shut c.in-Ok-taken.ensures.goes (goes_on (answer c.in-Ok-conditional.ensures.goes) is_done))))) c.cond_expr.ensures c.handed.ensures.goes
+exprs::chosen-returns-clause-goes t c = made_so _ (by (expr_rule rule.chosen) refl (is_question_ahead (scene_of c.args.context.now) (boxed_expr c.args.condition) c.args.tokens.now (sym c.if-not-comes.ensures)) (take c.in-Ok.ensures.goes (goes_on (answer c.in-Ok-joined_operands.ensures.goes) (shut c.in-Ok-taken.ensures.goes (goes_on (answer c.in-Ok-conditional.ensures.goes) is_done))))) c.cond_expr.ensures c.handed.ensures.goes
 
 pub exprs::cast_form-returns-in-Err-clause-goes : goal.exprs::cast_form-returns-in-Err-clause-goes
 exprs::cast_form-returns-in-Err-clause-goes t c = halted (halts (refuse c.in-Err.ensures.goes) (λ why rest g. by (expr_rule rule.cast) (refl) (if_true _ c.requires) (passes (c.requires) (g _ _))))
@@ -161,20 +161,20 @@ exprs::postfix-returns-clause-goes t c = relayed c.suffixes.ensures.goes (λ x g
 pub exprs::enclosed-returns-in-Err-clause-goes : goal.exprs::enclosed-returns-in-Err-clause-goes
 exprs::enclosed-returns-in-Err-clause-goes t c = halted (halts (refuse c.in-Err.ensures.goes) (λ why rest g. by (expr_rule rule.enclosed) (refl) (primary_is (scene_of c.args.context.now) c.args.tokens.now c.requires) (g _ _)))
 
-pub exprs::enclosed-returns-in-Err-run-clause-goes : goal.exprs::enclosed-returns-in-Err-run-clause-goes
-exprs::enclosed-returns-in-Err-run-clause-goes t c = halted (halts (halt c.in-Err-run.ensures.goes) (λ why rest g. by (expr_rule rule.enclosed) (refl) (primary_is (scene_of c.args.context.now) c.args.tokens.now c.requires) (take c.in-Ok.ensures.goes (stops g))))
+pub exprs::enclosed-returns-in-Err-joined_operands-clause-goes : goal.exprs::enclosed-returns-in-Err-joined_operands-clause-goes
+exprs::enclosed-returns-in-Err-joined_operands-clause-goes t c = halted (halts (halt c.in-Err-joined_operands.ensures.goes) (λ why rest g. by (expr_rule rule.enclosed) (refl) (primary_is (scene_of c.args.context.now) c.args.tokens.now c.requires) (take c.in-Ok.ensures.goes (stops g))))
 
 pub exprs::enclosed-returns-clause-goes : goal.exprs::enclosed-returns-clause-goes
-exprs::enclosed-returns-clause-goes t c = shut_so (λ o g. by (expr_rule rule.enclosed) (refl) (primary_is (scene_of c.args.context.now) c.args.tokens.now c.requires) (take c.in-Ok.ensures.goes (goes_on (answer c.in-Ok-run.ensures.goes) g))) c.enclosed_expr-whole.ensures c.closed.ensures.goes
+exprs::enclosed-returns-clause-goes t c = shut_so (λ o g. by (expr_rule rule.enclosed) (refl) (primary_is (scene_of c.args.context.now) c.args.tokens.now c.requires) (take c.in-Ok.ensures.goes (goes_on (answer c.in-Ok-joined_operands.ensures.goes) g))) c.enclosed_expr-whole.ensures c.closed.ensures.goes
 
 pub exprs::index-returns-in-Err-clause-goes : goal.exprs::index-returns-in-Err-clause-goes
 exprs::index-returns-in-Err-clause-goes t c = stalled (halts (refuse c.in-Err.ensures.goes) (λ why rest g. by (expr_rule rule.index) (suffix_free (scene_of c.args.context.now) (boxed_expr c.args.base) c.args.tokens.now (suffix_is (scene_of c.args.context.now) (boxed_expr c.args.base) c.args.tokens.now c.requires).1) ((suffix_is (scene_of c.args.context.now) (boxed_expr c.args.base) c.args.tokens.now c.requires).0) (g _ _)))
 
-pub exprs::index-returns-in-Err-run-clause-goes : goal.exprs::index-returns-in-Err-run-clause-goes
-exprs::index-returns-in-Err-run-clause-goes t c = stalled (halts (halt c.in-Err-run.ensures.goes) (λ why rest g. by (expr_rule rule.index) (suffix_free (scene_of c.args.context.now) (boxed_expr c.args.base) c.args.tokens.now (suffix_is (scene_of c.args.context.now) (boxed_expr c.args.base) c.args.tokens.now c.requires).1) ((suffix_is (scene_of c.args.context.now) (boxed_expr c.args.base) c.args.tokens.now c.requires).0) (take c.in-Ok.ensures.goes (stops g))))
+pub exprs::index-returns-in-Err-joined_operands-clause-goes : goal.exprs::index-returns-in-Err-joined_operands-clause-goes
+exprs::index-returns-in-Err-joined_operands-clause-goes t c = stalled (halts (halt c.in-Err-joined_operands.ensures.goes) (λ why rest g. by (expr_rule rule.index) (suffix_free (scene_of c.args.context.now) (boxed_expr c.args.base) c.args.tokens.now (suffix_is (scene_of c.args.context.now) (boxed_expr c.args.base) c.args.tokens.now c.requires).1) ((suffix_is (scene_of c.args.context.now) (boxed_expr c.args.base) c.args.tokens.now c.requires).0) (take c.in-Ok.ensures.goes (stops g))))
 
 pub exprs::index-returns-clause-goes : goal.exprs::index-returns-clause-goes
-exprs::index-returns-clause-goes t c = longer_shut _ (λ o h. by (expr_rule rule.index) (suffix_free (scene_of c.args.context.now) (boxed_expr c.args.base) c.args.tokens.now (suffix_is (scene_of c.args.context.now) (boxed_expr c.args.base) c.args.tokens.now c.requires).1) ((suffix_is (scene_of c.args.context.now) (boxed_expr c.args.base) c.args.tokens.now c.requires).0) (take c.in-Ok.ensures.goes (goes_on (answer c.in-Ok-run.ensures.goes) h))) c.index_expr-whole.ensures c.closed.ensures.goes
+exprs::index-returns-clause-goes t c = longer_shut _ (λ o h. by (expr_rule rule.index) (suffix_free (scene_of c.args.context.now) (boxed_expr c.args.base) c.args.tokens.now (suffix_is (scene_of c.args.context.now) (boxed_expr c.args.base) c.args.tokens.now c.requires).1) ((suffix_is (scene_of c.args.context.now) (boxed_expr c.args.base) c.args.tokens.now c.requires).0) (take c.in-Ok.ensures.goes (goes_on (answer c.in-Ok-joined_operands.ensures.goes) h))) c.index_expr-whole.ensures c.closed.ensures.goes
 
 pub exprs::suffixes-returns-then-calls_no_word-clause-goes : goal.exprs::suffixes-returns-then-calls_no_word-clause-goes
 exprs::suffixes-returns-then-calls_no_word-clause-goes t c = halted (stopped (c.barred_call.ensures (boxed_expr c.forms.base) (and_left _ _ (rebased _ c.deref.ensures c.if-calls_no_word.ensures))) (c.forms.invariant.0 _ (is_barred (borne _ (rebased _ c.deref.ensures c.if-calls_no_word.ensures)))))
@@ -222,7 +222,7 @@ pub exprs::sized_type-returns-clause-goes : goal.exprs::sized_type-returns-claus
 exprs::sized_type-returns-clause-goes t c = made_so _ (by (expr_rule rule.size_of_type) refl (if_true _ c.requires) (passes c.requires (take c.in-Ok.ensures.goes (goes_on (answer c.in-Ok-specs.ensures.goes) (goes_on (answer c.in-Ok-declarator.ensures.goes) (shut c.in-Ok-taken.ensures.goes (here (by (expr_rule rule.after_type) (unborne _ (sym c.if-comes.ensures)) refl is_done) is_done))))))) c.sizeof_type.ensures c.handed.ensures.goes
 
 pub exprs::more-returns-clause-goes : goal.exprs::more-returns-clause-goes
-exprs::more-returns-clause-goes t c = given (c.joints.invariant.0 _ (by (expr_rule rule.run_end) refl (more_is (scene_of c.args.context.now) (level_view c.args.level) (boxed_expr c.joints.left) c.joints.rest.now (no_joint c.joint_at.result (λ j e. c.in_default.not-Some j e) c.joint_at.ensures)) is_done))
+exprs::more-returns-clause-goes t c = given (c.joints.invariant.0 _ (by (expr_rule rule.run_end) refl (more_is (scene_of c.args.context.now) c.args.level (boxed_expr c.joints.left) c.joints.rest.now (no_joint c.joint_at.result (λ j e. c.in_default.not-Some j e) c.joint_at.ensures)) is_done))
 
 pub types::structure-returns-in-Err-clause-goes : goal.types::structure-returns-in-Err-clause-goes
 types::structure-returns-in-Err-clause-goes t c = halted (stall c.in-Err.ensures.goes)
@@ -486,7 +486,7 @@ pub declarators::grouped-returns-clause-goes : goal.declarators::grouped-returns
 declarators::grouped-returns-clause-goes t c = relayed c.tails.ensures.goes (λ x g. by (type_rule kind.grouped) (unborne _ c.requires.0) (direct_is _ _ _ c.requires.1) (take c.in-Ok.ensures.goes (goes_on (answer c.in-Ok-declarator.ensures.goes) (behind_group boxed_declarator (regiven c.deref.ensures c.if-not-is_given.ensures) c.in-Ok-closed.ensures.goes c.grouped_declarator-whole.ensures (λ e. here (tails_at e g) is_done))))) (λ why rest g. by (type_rule kind.grouped) (unborne _ c.requires.0) (direct_is _ _ _ c.requires.1) (take c.in-Ok.ensures.goes (goes_on (answer c.in-Ok-declarator.ensures.goes) (behind_group boxed_declarator (regiven c.deref.ensures c.if-not-is_given.ensures) c.in-Ok-closed.ensures.goes c.grouped_declarator-whole.ensures (λ e. stops_here (tails_at e g))))))
 
 pub declarators::named-returns-in-Err-clause-goes : goal.declarators::named-returns-in-Err-clause-goes
-declarators::named-returns-in-Err-clause-goes t c = halted (halts (stall (c.in-Err.ensures.goes (part.ADeclarator (part.Direct (role_view c.args.role))) (λ d. process.part 0 (scene_of c.args.context.now) (part.ADeclarator (part.Tails (role_view c.args.role) true d)) process.give))) (λ why rest g. by (type_rule (kind.declared_name (direct_is _ _ _ c.requires.1).0)) (unborne _ c.requires.0) (direct_is _ _ _ c.requires.1).1 g))
+declarators::named-returns-in-Err-clause-goes t c = halted (halts (stall (c.in-Err.ensures.goes (part.ADeclarator (part.Direct c.args.role)) (λ d. process.part 0 (scene_of c.args.context.now) (part.ADeclarator (part.Tails c.args.role true d)) process.give))) (λ why rest g. by (type_rule (kind.declared_name (direct_is _ _ _ c.requires.1).0)) (unborne _ c.requires.0) (direct_is _ _ _ c.requires.1).1 g))
 
 pub declarators::named-returns-clause-goes : goal.declarators::named-returns-clause-goes
-declarators::named-returns-clause-goes t c = relayed c.tails.ensures.goes (λ x g. by (type_rule (kind.declared_name (direct_is _ _ _ c.requires.1).0)) (unborne _ c.requires.0) (direct_is _ _ _ c.requires.1).1 (step (c.in-Ok.ensures.goes (part.ADeclarator (part.Direct (role_view c.args.role))) (λ d. process.part 0 (scene_of c.args.context.now) (part.ADeclarator (part.Tails (role_view c.args.role) true d)) process.give)) _ (here g is_done))) (λ why rest g. by (type_rule (kind.declared_name (direct_is _ _ _ c.requires.1).0)) (unborne _ c.requires.0) (direct_is _ _ _ c.requires.1).1 (step (c.in-Ok.ensures.goes (part.ADeclarator (part.Direct (role_view c.args.role))) (λ d. process.part 0 (scene_of c.args.context.now) (part.ADeclarator (part.Tails (role_view c.args.role) true d)) process.give)) _ (stops_here g)))
+declarators::named-returns-clause-goes t c = relayed c.tails.ensures.goes (λ x g. by (type_rule (kind.declared_name (direct_is _ _ _ c.requires.1).0)) (unborne _ c.requires.0) (direct_is _ _ _ c.requires.1).1 (step (c.in-Ok.ensures.goes (part.ADeclarator (part.Direct c.args.role)) (λ d. process.part 0 (scene_of c.args.context.now) (part.ADeclarator (part.Tails c.args.role true d)) process.give)) _ (here g is_done))) (λ why rest g. by (type_rule (kind.declared_name (direct_is _ _ _ c.requires.1).0)) (unborne _ c.requires.0) (direct_is _ _ _ c.requires.1).1 (step (c.in-Ok.ensures.goes (part.ADeclarator (part.Direct c.args.role)) (λ d. process.part 0 (scene_of c.args.context.now) (part.ADeclarator (part.Tails c.args.role true d)) process.give)) _ (stops_here g)))

@@ -1,8 +1,9 @@
 use Rattle.std.proofs.Common.{◌+◌, ◌*◌, ◌<◌, ◌≤◌, length, ◌≡◌}
 use Rattle.c_written.specs.Written.{ExprTree, ExprTrees, exprs_from, exprs_then, DeclaratorTree, EnumeratorTrees, MemberDeclTree, MemberDeclTrees, SpecTrees, declarators_from, declarators_then, enumerators_from, enumerators_then, memberdecls_from, memberdecls_then, params_from, params_then, specs_from, specs_then, specs_tree}
 use Rattle.c_grammar.specs.Parts as part
+use Rattle.c_grammar.specs.declared.parts.Role.TheVariants.{OfMember}
 use Rattle.c_grammar.specs.Descent.{Outcome, Goes}
-use Rattle.c_parse_steps.specs.Views.{boxed_declarator, boxed_expr, scene_of, level_view, role_view}
+use Rattle.c_parse_steps.specs.Views.{boxed_declarator, boxed_expr, scene_of}
 use Rattle.c_parse_leaves.proofs.Listings.{Listing}
 use Rattle.c_parse_exprs.proofs.Ranks.{rank}
 use Rattle.c_grammar.specs.Made.{has_type}
@@ -155,8 +156,8 @@ decreases-declarators::parameter l = 64 * length l.tokens.now + 3
 abbrev pub decreases-exprs::right_side : goal.decreases-exprs::right_side
 decreases-exprs::right_side l = 64 * length l.tokens.now + 0
 
-abbrev pub decreases-exprs::run : goal.decreases-exprs::run
-decreases-exprs::run l = 64 * length l.tokens.now + (9 + rank l.level)
+abbrev pub decreases-exprs::joined_operands : goal.decreases-exprs::joined_operands
+decreases-exprs::joined_operands l = 64 * length l.tokens.now + (9 + rank l.level)
 
 abbrev pub decreases-exprs::operand : goal.decreases-exprs::operand
 decreases-exprs::operand l = 64 * length l.tokens.now + (8 + rank l.level)
@@ -164,7 +165,7 @@ decreases-exprs::operand l = 64 * length l.tokens.now + (8 + rank l.level)
 -- what is left decides for all of it
 abbrev pub invariant-exprs::more-joints : goal.invariant-exprs::more-joints
 invariant-exprs::more-joints l =
-    ((o : Outcome ExprTree) → Goes l.depth (scene_of l.context) (part.AnExpr (part.More (level_view l.level) (boxed_expr l.left))) l.rest o → Goes l.fn.count (scene_of l.context) (part.AnExpr (part.More (level_view l.level) (boxed_expr l.fn.first))) l.fn.tokens o) × (length l.rest ≤ length l.fn.tokens)
+    ((o : Outcome ExprTree) → Goes l.depth (scene_of l.context) (part.AnExpr (part.More l.level (boxed_expr l.left))) l.rest o → Goes l.fn.count (scene_of l.context) (part.AnExpr (part.More l.level (boxed_expr l.fn.first))) l.fn.tokens o) × (length l.rest ≤ length l.fn.tokens)
 
 abbrev pub decreases-exprs::more-joints : goal.decreases-exprs::more-joints
 decreases-exprs::more-joints l = length l.rest
@@ -178,7 +179,7 @@ decreases-exprs::suffixes-forms l = length l.rest
 
 abbrev pub invariant-declarators::tails-forms : goal.invariant-declarators::tails-forms
 invariant-declarators::tails-forms l =
-    ((o : Outcome DeclaratorTree) → Goes l.count (scene_of l.context) (part.ADeclarator (part.Tails (role_view l.role) l.is_plain (boxed_declarator l.inner))) l.rest o → Goes l.count (scene_of l.context) (part.ADeclarator (part.Tails (role_view l.role) l.fn.plain (boxed_declarator l.fn.first))) l.fn.tokens o) × (length l.rest ≤ length l.fn.tokens)
+    ((o : Outcome DeclaratorTree) → Goes l.count (scene_of l.context) (part.ADeclarator (part.Tails l.role l.is_plain (boxed_declarator l.inner))) l.rest o → Goes l.count (scene_of l.context) (part.ADeclarator (part.Tails l.role l.fn.plain (boxed_declarator l.fn.first))) l.fn.tokens o) × (length l.rest ≤ length l.fn.tokens)
 
 abbrev pub decreases-declarators::tails-forms : goal.decreases-declarators::tails-forms
 decreases-declarators::tails-forms l = length l.rest
@@ -220,7 +221,7 @@ decreases-types::specs-words l = length l.rest
 
 abbrev pub invariant-types::member-all : goal.invariant-types::member-all
 invariant-types::member-all l =
-    (Listing (part.ADeclarator (part.Declarator part.OfMember)) (λ (o : Outcome MemberDeclTree). Goes l.count (scene_of l.context) part.AMember l.fn.tokens o) l.count (scene_of l.context) (λ v after o. Goes l.count (scene_of l.context) (part.MoreDeclarators (specs_tree l.words) (declarators_then (declarators_from l.declarators.items) v)) after o) l.rest) × (length l.rest < length l.fn.tokens)
+    (Listing (part.ADeclarator (part.Declarator OfMember)) (λ (o : Outcome MemberDeclTree). Goes l.count (scene_of l.context) part.AMember l.fn.tokens o) l.count (scene_of l.context) (λ v after o. Goes l.count (scene_of l.context) (part.MoreDeclarators (specs_tree l.words) (declarators_then (declarators_from l.declarators.items) v)) after o) l.rest) × (length l.rest < length l.fn.tokens)
 
 abbrev pub decreases-types::member-all : goal.decreases-types::member-all
 decreases-types::member-all l = length l.rest

@@ -5,7 +5,8 @@ use Rattle.c_written.specs.Written.{specs_tree}
 use Rattle.c_written.specs.WrittenDecl.{initdeclarator_tree}
 use Rattle.c_grammar.specs.Parts.{ADecl, Ending}
 use Rattle.c_parse_steps.proofs.Steps.{failed, halts, if_false, starved}
-use Rattle.c_parse_steps.proofs.Paths.{after, begin, behind, decides, goes_so, not_after, not_behind}
+use Rattle.c_parse_steps.proofs.TypeSteps.{carried}
+use Rattle.c_parse_steps.proofs.Paths.{after, begin, behind, goes_so, not_after, not_behind}
 use Rattle.c_parse_decls.proofs.Steps.{initialised_at, last_decl, not_initialised_at, same_ending}
 use Rattle.c_parse_decls.proofs.decl.initial.Goals as goal
 
@@ -34,4 +35,4 @@ pub loop-comma-preserved : goal.loop-comma-preserved
 loop-comma-preserved c = ((λ o g. goes_so (behind (after (begin {p = ADecl (Ending (specs_tree c.args.specs) (map initdeclarator_tree c.loop-comma.inits.items))} c.loop-comma.invariant.0 refl (if_false _ (sym c.comes.ensures ∙ c.loop-comma-test.true))) c.in_ok-_comma.ensures.goes) c.in_ok-next.ensures.goes) o (last_decl o (initialised_at c.in_ok-more.ensures.goes o (same_ending c.in_ok-push_declared-2.ensures g)))), omega (arith, c.in_ok-_comma.ensures.shorter, c.in_ok-next.ensures.shorter, c.in_ok-more.ensures.shorter))
 
 pub returns-clause-goes : goal.returns-clause-goes
-returns-clause-goes c = decides _ c.loop-comma.invariant.0 c.declaration_end.ensures.goes
+returns-clause-goes c = carried c.declaration_end.ensures.goes c.loop-comma.invariant.0

@@ -7,7 +7,8 @@ use Rattle.std.specs.Prelude.{Ok, Err}
 use Rattle.c_written.proofs.WrittenDeclTrees.{init_braces}
 use Rattle.c_parse_steps.proofs.Steps.{borne, if_false, if_true, starved, unborne}
 use Rattle.c_parse_decls.proofs.Starts.{brace_first}
-use Rattle.c_parse_steps.proofs.Paths.{after, barred_at, begin, behind, decides, ends, goes_so, inside, lasts, not_after, not_behind, not_inside}
+use Rattle.c_parse_steps.proofs.TypeSteps.{carried}
+use Rattle.c_parse_steps.proofs.Paths.{after, barred_at, begin, behind, ends, goes_so, inside, lasts, not_after, not_behind, not_inside}
 use Rattle.c_parse_decls.proofs.Steps.{last_inits, next_inits, same_inits}
 use Rattle.c_parse_decls.proofs.init.+initialisers.Goals as goal
 
@@ -39,13 +40,13 @@ pub initialisers-returns-in_err-items-clause-goes : goal.initialisers-returns-in
 initialisers-returns-in_err-items-clause-goes t c = starved c.from_residual-in_err-items.ensures.1
 
 pub initialisers-returns-clause-goes : goal.initialisers-returns-clause-goes
-initialisers-returns-clause-goes t c = lasts (behind (begin {p = Initialisers} (λ o g. g) refl refl) c.in_ok-first.ensures.goes) (decides _ (λ o g. same_inits c.in_ok-items.ensures g) c.more_initialisers.ensures.goes) (λ i. refl)
+initialisers-returns-clause-goes t c = lasts (behind (begin {p = Initialisers} (λ o g. g) refl refl) c.in_ok-first.ensures.goes) (carried c.more_initialisers.ensures.goes (λ o g. same_inits c.in_ok-items.ensures g)) (λ i. refl)
 
 pub more_initialisers-returns-in_err-_comma-clause-goes : goal.more_initialisers-returns-in_err-_comma-clause-goes
 more_initialisers-returns-in_err-_comma-clause-goes t c = not_after c.from_residual.ensures.1 (begin {p = MoreInitialisers (inits_from c.loop-rest.items.items)} c.loop-rest.invariant.0 refl (if_false _ (sym c.comes.ensures ∙ c.loop-rest-test.true))) c.in_err-_comma.ensures.goes
 
 pub more_initialisers-returns-then-comes-clause-goes : goal.more_initialisers-returns-then-comes-clause-goes
-more_initialisers-returns-then-comes-clause-goes t c = decides _ (λ o g. goes_so (after (begin {p = MoreInitialisers (inits_from c.loop-rest.items.items)} c.loop-rest.invariant.0 refl (if_false _ (sym c.comes.ensures ∙ c.loop-rest-test.true))) c.in_ok-_comma.ensures.goes) o (next_inits o g)) c.comma_end.ensures.goes
+more_initialisers-returns-then-comes-clause-goes t c = carried c.comma_end.ensures.goes (λ o g. goes_so (after (begin {p = MoreInitialisers (inits_from c.loop-rest.items.items)} c.loop-rest.invariant.0 refl (if_false _ (sym c.comes.ensures ∙ c.loop-rest-test.true))) c.in_ok-_comma.ensures.goes) o (next_inits o g))
 
 pub more_initialisers-returns-in_err-next-clause-goes : goal.more_initialisers-returns-in_err-next-clause-goes
 more_initialisers-returns-in_err-next-clause-goes t c = not_behind c.from_residual-in_err-next.ensures.1 (begin {p = NextInitialiser (inits_from c.loop-rest.items.items)} (λ o g. goes_so (after (begin {p = MoreInitialisers (inits_from c.loop-rest.items.items)} c.loop-rest.invariant.0 refl (if_false _ (sym c.comes.ensures ∙ c.loop-rest-test.true))) c.in_ok-_comma.ensures.goes) o (next_inits o g)) refl (if_false _ (sym c.comes-in-loop-rest.ensures ∙ c.if-comes.false))) c.in_err-next.ensures.goes

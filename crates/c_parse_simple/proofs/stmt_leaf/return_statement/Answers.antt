@@ -1,5 +1,4 @@
-use Rattle.std.proofs.Common.{refl, ap, ◌∙◌}
-use Rattle.c_written.specs.WrittenFile as trees
+use Rattle.std.proofs.Common.{refl}
 use Rattle.c_written.proofs.WrittenFileTrees.{stmt_return}
 use Rattle.c_parse_simple.specs.declared.stmt_kind.StatementKind.TheVariants as statements
 use Rattle.c_parse_simple.proofs.Starts.{statement_begins}
@@ -13,4 +12,4 @@ pub returns-in_err-value-clause-goes : goal.returns-in_err-value-clause-goes
 returns-in_err-value-clause-goes c = λ b. not_behind c.from_residual-in_err-value.ensures.1 (after (statement_begins statements.Return c.requires refl) c.in_ok-at.ensures.goes) c.in_err-value.ensures.goes
 
 pub returns-clause-goes : goal.returns-clause-goes
-returns-clause-goes c = λ b. ends (behind (after (statement_begins statements.Return c.requires refl) c.in_ok-at.ensures.goes) c.in_ok-value.ensures.goes) (stmt_return _ _ ∙ ap (trees.Return c.in_ok-at.at.now.pos) c.unboxed-value.ensures)
+returns-clause-goes c = λ b. ends (behind (after (statement_begins statements.Return c.requires refl) c.in_ok-at.ensures.goes) c.in_ok-value.ensures.goes) (stmt_return _ _)

@@ -1,7 +1,9 @@
 use Rattle.c_grammar.specs.Parts.{AStmt, Statement, Else, Item, Items}
 use Rattle.std.proofs.Common.{refl, sym, ap, ◌∙◌, arith}
 use Rattle.std.specs.Prelude.{not, ◌&&◌}
+use Rattle.c_written.specs.declared.declaration.Decl.{Decl}
 use Rattle.c_written.specs.declared.file.Stmt.{Stmt}
+use Rattle.c_written.specs.WrittenDecl.{decl_tree}
 use Rattle.c_grammar.specs.Choice.{is_else_word}
 use Rattle.c_grammar.specs.Descent.{fails, goes_on, passes, stops}
 use Rattle.c_parse_steps.specs.Answers.{stalled, stepped}
@@ -17,7 +19,8 @@ use Rattle.c_parse_simple.specs.declared.stmt_kind.StatementKind.TheVariants as 
 use Rattle.c_parse_steps.proofs.Steps.{answer, halt, halts, if_false, if_true, stalls, starved, starves, stopped}
 use Rattle.c_parse_simple.proofs.Starts.{statement_begins}
 use Rattle.c_parse_stmts.proofs.Starts.{label_rule}
-use Rattle.c_parse_steps.proofs.Paths.{after, begin, behind, decides, ends, goes_so, inside, lasts, not_after, not_behind, not_inside, where_so}
+use Rattle.c_parse_steps.proofs.TypeSteps.{carried}
+use Rattle.c_parse_steps.proofs.Paths.{after, begin, behind, ends, goes_so, inside, lasts, not_after, not_behind, not_inside, where_so}
 use Rattle.c_parse_simple.proofs.Steps.{not_tried, tried}
 use Rattle.c_parse_stmts.proofs.Steps.{for_led, held, in_scene, last_items, not_held, not_led, same_items, same_statement}
 use Rattle.c_parse_stmts.proofs.stmt.+statements.Goals as goal
@@ -52,17 +55,17 @@ case-returns-in_err-body-clause-goes t c = not_held c.from_residual-in_err-body.
 pub case-returns-clause-goes : goal.case-returns-clause-goes
 case-returns-clause-goes t c = ends (held (after (behind (after (statement_begins statements.Case c.requires refl) c.in_ok-at.ensures.goes) c.in_ok-value.ensures.goes) c.in_ok-_colon.ensures.goes) c.in_ok-body.ensures.goes) c.case_stmt.ensures
 
-pub otherwise-returns-in_err-at-clause-goes : goal.otherwise-returns-in_err-at-clause-goes
-otherwise-returns-in_err-at-clause-goes t c = not_after c.from_residual.ensures.1 (statement_begins statements.Default c.requires refl) c.in_err-at.ensures.goes
+pub default_statement-returns-in_err-at-clause-goes : goal.default_statement-returns-in_err-at-clause-goes
+default_statement-returns-in_err-at-clause-goes t c = not_after c.from_residual.ensures.1 (statement_begins statements.Default c.requires refl) c.in_err-at.ensures.goes
 
-pub otherwise-returns-in_err-_colon-clause-goes : goal.otherwise-returns-in_err-_colon-clause-goes
-otherwise-returns-in_err-_colon-clause-goes t c = not_after c.from_residual-in_err-_colon.ensures.1 (after (statement_begins statements.Default c.requires refl) c.in_ok-at.ensures.goes) c.in_err-_colon.ensures.goes
+pub default_statement-returns-in_err-_colon-clause-goes : goal.default_statement-returns-in_err-_colon-clause-goes
+default_statement-returns-in_err-_colon-clause-goes t c = not_after c.from_residual-in_err-_colon.ensures.1 (after (statement_begins statements.Default c.requires refl) c.in_ok-at.ensures.goes) c.in_err-_colon.ensures.goes
 
-pub otherwise-returns-in_err-body-clause-goes : goal.otherwise-returns-in_err-body-clause-goes
-otherwise-returns-in_err-body-clause-goes t c = not_held c.from_residual-in_err-body.ensures.1 (after (after (statement_begins statements.Default c.requires refl) c.in_ok-at.ensures.goes) c.in_ok-_colon.ensures.goes) c.in_err-body.ensures.goes
+pub default_statement-returns-in_err-body-clause-goes : goal.default_statement-returns-in_err-body-clause-goes
+default_statement-returns-in_err-body-clause-goes t c = not_held c.from_residual-in_err-body.ensures.1 (after (after (statement_begins statements.Default c.requires refl) c.in_ok-at.ensures.goes) c.in_ok-_colon.ensures.goes) c.in_err-body.ensures.goes
 
-pub otherwise-returns-clause-goes : goal.otherwise-returns-clause-goes
-otherwise-returns-clause-goes t c = ends (held (after (after (statement_begins statements.Default c.requires refl) c.in_ok-at.ensures.goes) c.in_ok-_colon.ensures.goes) c.in_ok-body.ensures.goes) (stmt_default _ _)
+pub default_statement-returns-clause-goes : goal.default_statement-returns-clause-goes
+default_statement-returns-clause-goes t c = ends (held (after (after (statement_begins statements.Default c.requires refl) c.in_ok-at.ensures.goes) c.in_ok-_colon.ensures.goes) c.in_ok-body.ensures.goes) (stmt_default _ _)
 
 pub block-returns-in_err-at-clause-goes : goal.block-returns-in_err-at-clause-goes
 block-returns-in_err-at-clause-goes t c = not_after c.from_residual.ensures.1 (statement_begins statements.Block c.requires refl) c.in_err-at.ensures.goes
@@ -73,29 +76,29 @@ block-returns-in_err-items-clause-goes t c = not_inside c.from_residual-in_err-i
 pub block-returns-clause-goes : goal.block-returns-clause-goes
 block-returns-clause-goes t c = ends (inside (after (statement_begins statements.Block c.requires refl) c.in_ok-at.ensures.goes) c.in_ok-items.ensures.goes) (stmt_block _ _)
 
-pub conditional_statement-returns-in_err-at-clause-goes : goal.conditional_statement-returns-in_err-at-clause-goes
-conditional_statement-returns-in_err-at-clause-goes t c = not_after c.from_residual.ensures.1 (statement_begins statements.If c.requires refl) c.in_err-at.ensures.goes
+pub if_statement-returns-in_err-at-clause-goes : goal.if_statement-returns-in_err-at-clause-goes
+if_statement-returns-in_err-at-clause-goes t c = not_after c.from_residual.ensures.1 (statement_begins statements.If c.requires refl) c.in_err-at.ensures.goes
 
-pub conditional_statement-returns-in_err-value-clause-goes : goal.conditional_statement-returns-in_err-value-clause-goes
-conditional_statement-returns-in_err-value-clause-goes t c = not_tried c.from_residual-in_err-value.ensures.1 (after (statement_begins statements.If c.requires refl) c.in_ok-at.ensures.goes) c.in_err-value.ensures.goes
+pub if_statement-returns-in_err-value-clause-goes : goal.if_statement-returns-in_err-value-clause-goes
+if_statement-returns-in_err-value-clause-goes t c = not_tried c.from_residual-in_err-value.ensures.1 (after (statement_begins statements.If c.requires refl) c.in_ok-at.ensures.goes) c.in_err-value.ensures.goes
 
-pub conditional_statement-returns-in_err-then-clause-goes : goal.conditional_statement-returns-in_err-then-clause-goes
-conditional_statement-returns-in_err-then-clause-goes t c = not_held c.from_residual-in_err-then.ensures.1 (tried (after (statement_begins statements.If c.requires refl) c.in_ok-at.ensures.goes) c.in_ok-value.ensures.goes) c.in_err-then.ensures.goes
+pub if_statement-returns-in_err-then-clause-goes : goal.if_statement-returns-in_err-then-clause-goes
+if_statement-returns-in_err-then-clause-goes t c = not_held c.from_residual-in_err-then.ensures.1 (tried (after (statement_begins statements.If c.requires refl) c.in_ok-at.ensures.goes) c.in_ok-value.ensures.goes) c.in_err-then.ensures.goes
 
-pub conditional_statement-returns-clause-goes : goal.conditional_statement-returns-clause-goes
-conditional_statement-returns-clause-goes t c = lasts (held (tried (after (statement_begins statements.If c.requires refl) c.in_ok-at.ensures.goes) c.in_ok-value.ensures.goes) c.in_ok-then.ensures.goes) c.else_part.ensures.goes (λ s. refl)
+pub if_statement-returns-clause-goes : goal.if_statement-returns-clause-goes
+if_statement-returns-clause-goes t c = lasts (held (tried (after (statement_begins statements.If c.requires refl) c.in_ok-at.ensures.goes) c.in_ok-value.ensures.goes) c.in_ok-then.ensures.goes) c.else_part.ensures.goes (λ s. refl)
 
-pub choice-returns-in_err-at-clause-goes : goal.choice-returns-in_err-at-clause-goes
-choice-returns-in_err-at-clause-goes t c = not_after c.from_residual.ensures.1 (statement_begins statements.Switch c.requires refl) c.in_err-at.ensures.goes
+pub switch_statement-returns-in_err-at-clause-goes : goal.switch_statement-returns-in_err-at-clause-goes
+switch_statement-returns-in_err-at-clause-goes t c = not_after c.from_residual.ensures.1 (statement_begins statements.Switch c.requires refl) c.in_err-at.ensures.goes
 
-pub choice-returns-in_err-value-clause-goes : goal.choice-returns-in_err-value-clause-goes
-choice-returns-in_err-value-clause-goes t c = not_tried c.from_residual-in_err-value.ensures.1 (after (statement_begins statements.Switch c.requires refl) c.in_ok-at.ensures.goes) c.in_err-value.ensures.goes
+pub switch_statement-returns-in_err-value-clause-goes : goal.switch_statement-returns-in_err-value-clause-goes
+switch_statement-returns-in_err-value-clause-goes t c = not_tried c.from_residual-in_err-value.ensures.1 (after (statement_begins statements.Switch c.requires refl) c.in_ok-at.ensures.goes) c.in_err-value.ensures.goes
 
-pub choice-returns-in_err-body-clause-goes : goal.choice-returns-in_err-body-clause-goes
-choice-returns-in_err-body-clause-goes t c = not_held c.from_residual-in_err-body.ensures.1 (tried (after (statement_begins statements.Switch c.requires refl) c.in_ok-at.ensures.goes) c.in_ok-value.ensures.goes) c.in_err-body.ensures.goes
+pub switch_statement-returns-in_err-body-clause-goes : goal.switch_statement-returns-in_err-body-clause-goes
+switch_statement-returns-in_err-body-clause-goes t c = not_held c.from_residual-in_err-body.ensures.1 (tried (after (statement_begins statements.Switch c.requires refl) c.in_ok-at.ensures.goes) c.in_ok-value.ensures.goes) c.in_err-body.ensures.goes
 
-pub choice-returns-clause-goes : goal.choice-returns-clause-goes
-choice-returns-clause-goes t c = ends (held (tried (after (statement_begins statements.Switch c.requires refl) c.in_ok-at.ensures.goes) c.in_ok-value.ensures.goes) c.in_ok-body.ensures.goes) c.switch_stmt.ensures
+pub switch_statement-returns-clause-goes : goal.switch_statement-returns-clause-goes
+switch_statement-returns-clause-goes t c = ends (held (tried (after (statement_begins statements.Switch c.requires refl) c.in_ok-at.ensures.goes) c.in_ok-value.ensures.goes) c.in_ok-body.ensures.goes) c.switch_stmt.ensures
 
 pub while_loop-returns-in_err-at-clause-goes : goal.while_loop-returns-in_err-at-clause-goes
 while_loop-returns-in_err-at-clause-goes t c = not_after c.from_residual.ensures.1 (statement_begins statements.While c.requires refl) c.in_err-at.ensures.goes
@@ -127,14 +130,14 @@ do_loop-returns-in_err-_end-clause-goes t c = not_after c.from_residual-in_err-_
 pub do_loop-returns-clause-goes : goal.do_loop-returns-clause-goes
 do_loop-returns-clause-goes t c = ends (after (tried (after (held (after (statement_begins statements.Do c.requires refl) c.in_ok-at.ensures.goes) c.in_ok-body.ensures.goes) c.in_ok-_word.ensures.goes) c.in_ok-condition.ensures.goes) c.in_ok-_end.ensures.goes) c.do_stmt.ensures
 
-pub for_loop-returns-in_err-head-clause-goes : goal.for_loop-returns-in_err-head-clause-goes
-for_loop-returns-in_err-head-clause-goes t c = not_led c.from_residual.ensures.1 (c.in_err-head.ensures.goes c.args.switched)
+pub for_loop-returns-in_err-opening-clause-goes : goal.for_loop-returns-in_err-opening-clause-goes
+for_loop-returns-in_err-opening-clause-goes t c = not_led c.from_residual.ensures.1 (c.in_err-opening.ensures.goes c.args.switched)
 
 pub for_loop-returns-in_err-body-clause-goes : goal.for_loop-returns-in_err-body-clause-goes
-for_loop-returns-in_err-body-clause-goes t c = not_held c.from_residual-in_err-body.ensures.1 (for_led {b = c.args.switched} c.in_ok-head.ensures.goes) c.in_err-body.ensures.goes
+for_loop-returns-in_err-body-clause-goes t c = not_held c.from_residual-in_err-body.ensures.1 (for_led {b = c.args.switched} c.in_ok-opening.ensures.goes) c.in_err-body.ensures.goes
 
 pub for_loop-returns-clause-goes : goal.for_loop-returns-clause-goes
-for_loop-returns-clause-goes t c = ends (held (for_led {b = c.args.switched} c.in_ok-head.ensures.goes) c.in_ok-body.ensures.goes) c.for_stmt.ensures
+for_loop-returns-clause-goes t c = ends (held (for_led {b = c.args.switched} c.in_ok-opening.ensures.goes) c.in_ok-body.ensures.goes) c.for_stmt.ensures
 
 pub substatement-returns-then-not-no_left_bracket-clause-goes : goal.substatement-returns-then-not-no_left_bracket-clause-goes
 substatement-returns-then-not-no_left_bracket-clause-goes t c = λ p k. stalled (stopped c.refused.ensures (fails (sym c.no_left_bracket.ensures ∙ c.if-not-no_left_bracket.true)))
@@ -149,13 +152,16 @@ pub substatement-returns-clause-goes : goal.substatement-returns-clause-goes
 substatement-returns-clause-goes t c = λ p k. stepped (λ o h. passes (sym c.no_left_bracket.ensures ∙ c.if-not-no_left_bracket.false) (goes_on (answer c.in_ok-whole.ensures.goes) (same_statement k (ap stmt_tree c.in_ok-new.ensures.ok) h)))
 
 pub block_items-returns-clause-goes : goal.block_items-returns-clause-goes
-block_items-returns-clause-goes t c = decides _ (λ o g. in_scene (sym (c.block_setting.ensures (scene_of c.args.context.now))) g) c.items.ensures.goes
+block_items-returns-clause-goes t c = carried c.items.ensures.goes (λ o g. in_scene (sym (c.block_setting.ensures (scene_of c.args.context.now))) g)
 
 pub item-returns-in_err-decl-clause-goes : goal.item-returns-in_err-decl-clause-goes
 item-returns-in_err-decl-clause-goes t c = not_behind c.from_residual.ensures.1 (where_so (begin {p = Item} (λ o g. g) refl (if_true _ (sym c.spec_ahead.ensures ∙ c.if-spec_ahead.true))) (sym c.spec_ahead.ensures ∙ c.if-spec_ahead.true)) c.in_err-decl.ensures.goes
 
 pub item-returns-then-spec_ahead-clause-goes : goal.item-returns-then-spec_ahead-clause-goes
-item-returns-then-spec_ahead-clause-goes t c = ends (behind (where_so (begin {p = Item} (λ o g. g) refl (if_true _ (sym c.spec_ahead.ensures ∙ c.if-spec_ahead.true))) (sym c.spec_ahead.ensures ∙ c.if-spec_ahead.true)) c.in_ok-decl.ensures.goes) (blockitem_declaration _)
+item-returns-then-spec_ahead-clause-goes t c = ends (behind (where_so (begin {p = Item} (λ o g. g) refl (if_true _ (sym c.spec_ahead.ensures ∙ c.if-spec_ahead.true))) (sym c.spec_ahead.ensures ∙ c.if-spec_ahead.true)) c.in_ok-decl.ensures.goes) (blockitem_declaration _ ∙ ap (λ (v : Decl). trees.Declaration (decl_tree v)) c.in_ok-decl-2.ensures.ok)
+
+pub item-returns-in_err-decl-2-clause-goes : goal.item-returns-in_err-decl-2-clause-goes
+item-returns-in_err-decl-2-clause-goes t c = starved c.from_residual-in_err-decl-2.ensures.1
 
 pub item-returns-in_err-stmt-clause-goes : goal.item-returns-in_err-stmt-clause-goes
 item-returns-in_err-stmt-clause-goes t c = not_behind c.from_residual-in_err-stmt.ensures.1 (where_so (begin {p = Item} (λ o g. g) refl (if_false _ (sym c.spec_ahead.ensures ∙ c.if-spec_ahead.false))) (ap not (sym c.spec_ahead.ensures ∙ c.if-spec_ahead.false))) c.in_err-stmt.ensures.goes

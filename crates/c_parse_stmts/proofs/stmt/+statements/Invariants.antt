@@ -14,14 +14,14 @@ decreases-label l = 8 * length l.tokens.now + 0
 abbrev pub decreases-case : goal.decreases-case
 decreases-case l = 8 * length l.tokens.now + 0
 
-abbrev pub decreases-otherwise : goal.decreases-otherwise
-decreases-otherwise l = 8 * length l.tokens.now + 0
+abbrev pub decreases-default_statement : goal.decreases-default_statement
+decreases-default_statement l = 8 * length l.tokens.now + 0
 
 abbrev pub decreases-block : goal.decreases-block
 decreases-block l = 8 * length l.tokens.now + 0
 
-abbrev pub decreases-conditional_statement : goal.decreases-conditional_statement
-decreases-conditional_statement l = 8 * length l.tokens.now + 0
+abbrev pub decreases-if_statement : goal.decreases-if_statement
+decreases-if_statement l = 8 * length l.tokens.now + 0
 
 abbrev pub decreases-else_part : goal.decreases-else_part
 decreases-else_part l = 8 * length l.tokens.now + 1
@@ -29,8 +29,8 @@ decreases-else_part l = 8 * length l.tokens.now + 1
 abbrev pub decreases-else_form : goal.decreases-else_form
 decreases-else_form l = 8 * length l.tokens.now + 0
 
-abbrev pub decreases-choice : goal.decreases-choice
-decreases-choice l = 8 * length l.tokens.now + 0
+abbrev pub decreases-switch_statement : goal.decreases-switch_statement
+decreases-switch_statement l = 8 * length l.tokens.now + 0
 
 abbrev pub decreases-while_loop : goal.decreases-while_loop
 decreases-while_loop l = 8 * length l.tokens.now + 0

@@ -3,12 +3,11 @@ use Rattle.std.proofs.lemmas.Grind.{common_steps}
 use Rattle.block_mem.specs.Blocks.{block_at, bytes_at, loaded, store}
 use Rattle.block_mem.specs.Bytes.{size_of}
 use Rattle.block_mem.specs.AfterStore.{KeepsElsewhere}
-use Rattle.block_mem.proofs.StoreLaws.{loaded-put, elsewhere-store}
+use Rattle.block_mem.proofs.StoreLaws.{inside_access, loaded-store, elsewhere-store}
 use Rattle.block_mem.specs.Whole.{KeepsWhole}
-use Rattle.block_mem.proofs.Whole.{whole-put}
+use Rattle.block_mem.proofs.Whole.{whole-store}
 use Rattle.block_mem.specs.Block.{BlockView}
 use Rattle.block_mem.specs.Proper.{AreProper}
-use Rattle.block_mem.proofs.StoreLaws.{inside_access}
 use Rattle.block_mem.proofs.Proper.{proper-store}
 use Rattle.block_mem.proofs.blocks.Memory.put.Goals as goal
 
@@ -22,8 +21,9 @@ invariant_of-self c =
 
 pub returns-clause-reads_back : goal.returns-clause-reads_back
 returns-clause-reads_back c =
+    let room = inside_access (block_at c.args.self.now c.args.at.block) c.args.at.offset (size_of c.args.ty) 1 false c.requires.inside in
     let after : slice_set c.self.inside.blocks.items c.args.at.block c.store.new.self ≡ store c.args.self.now c.args.at c.args.v = grind (arith, common_steps) in
-    subst (λ (m : List BlockView). loaded c.args.ty (bytes_at m c.args.at (size_of c.args.ty)) ≡ Ok c.args.v) (sym after) (loaded-put c.args.self.now c.args.at c.args.ty c.args.v c.requires.made c.requires.typed c.requires.inside)
+    subst (λ (m : List BlockView). loaded c.args.ty (bytes_at m c.args.at (size_of c.args.ty)) ≡ Ok c.args.v) (sym after) (loaded-store c.args.self.now c.args.at c.args.ty c.args.v c.requires.made c.requires.typed room)
 
 pub returns-clause-elsewhere : goal.returns-clause-elsewhere
 returns-clause-elsewhere c =
@@ -32,5 +32,6 @@ returns-clause-elsewhere c =
 
 pub returns-clause-whole : goal.returns-clause-whole
 returns-clause-whole c =
+    let room = inside_access (block_at c.args.self.now c.args.at.block) c.args.at.offset (size_of c.args.ty) 1 false c.requires.inside in
     let after : slice_set c.self.inside.blocks.items c.args.at.block c.store.new.self ≡ store c.args.self.now c.args.at c.args.v = grind (arith, common_steps) in
-    subst (λ (m : List BlockView). KeepsWhole c.args.self.now m c.args.at (size_of c.args.ty)) (sym after) (whole-put c.args.self.now c.args.at c.args.ty c.args.v c.requires.made c.requires.typed c.requires.inside)
+    subst (λ (m : List BlockView). KeepsWhole c.args.self.now m c.args.at (size_of c.args.ty)) (sym after) (whole-store c.args.self.now c.args.at c.args.ty c.args.v c.requires.made c.requires.typed room)

@@ -41,5 +41,6 @@ returns-clause-elsewhere c =
 pub returns-clause-whole : goal.returns-clause-whole
 returns-clause-whole c =
     let passes : wrong_access c.args.self.now c.args.at (size_of c.args.ty) (size_of c.args.ty) true ≡ None = grind (arith, common_steps) in
+    let room = inside_access (block_at c.args.self.now c.args.at.block) c.args.at.offset (size_of c.args.ty) (size_of c.args.ty) true passes in
     let after : slice_set c.self.inside.blocks.items c.args.at.block c.store.new.self ≡ store c.args.self.now c.args.at c.args.v = grind (arith, common_steps) in
-    subst (λ (m : List BlockView). KeepsWhole c.args.self.now m c.args.at (size_of c.args.ty)) (sym after) (whole-store c.args.self.now c.args.at c.args.ty c.args.v c.requires.made c.requires.typed passes)
+    subst (λ (m : List BlockView). KeepsWhole c.args.self.now m c.args.at (size_of c.args.ty)) (sym after) (whole-store c.args.self.now c.args.at c.args.ty c.args.v c.requires.made c.requires.typed room)

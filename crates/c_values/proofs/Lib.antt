@@ -1,0 +1,5 @@
+pub mod Ranges
+pub mod Outcomes
+pub mod Settled
+pub mod Accesses
+pub mod Judging
