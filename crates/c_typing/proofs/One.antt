@@ -1,14 +1,10 @@
 -- A world and a tree have one outcome.
-use Rattle.std.proofs.Common.{◌≡◌, sym, ◌∙◌, subst, ap}
-use Rattle.std.specs.Prelude.{Bool, true, false, IsTrue, IsFalse, Option, Some, None, List, [], ◌∷◌, ⊤}
+use Rattle.std.proofs.Common.{◌≡◌, sym, ◌∙◌, subst}
+use Rattle.std.specs.Prelude.{Bool}
 use Rattle.c_written.specs.Written as written
-use Rattle.c_written.specs.WrittenDecl as inits
-use Rattle.c_written.specs.WrittenFile as files
-use Rattle.c_syntax.specs.Types.{CTypeTree}
-use Rattle.c_syntax.specs.Program.{StructDefTree}
 use Rattle.c_typing.specs.World.{World, Outcome, Typed, Refused, Then, goes_on, stops, Is}
 use Rattle.c_typing.specs.Operands.{OperandTree}
-use Rattle.c_typing.specs.Typing.{Types, TypesArgs, TypesSpecs, TypesSpec, TypesMembers, TypesMemberNames, TypesEnumerators, TypesDeclarator, TypesParams, Valued, OfTypeName, OfParameter}
+use Rattle.c_typing.specs.Typing.{Types, TypesArgs, TypesSpecs, TypesSpec, TypesMembers, TypesMemberNames, TypesEnumerators, TypesDeclarator, TypesParams, Valued}
 use Rattle.c_typing.specs.Laws.{One}
 
 -- what comes after an outcome
@@ -50,7 +46,7 @@ mutual
       then_one (then_one (one_specs w _ _ specs) (λ s w1. then_one (is_one _) (λ base w2. then_one (one_declarator w2 declarator) (λ shape w3. is_one _)))) (λ form w1. is_one _)
   one w (written.Cast at specs declarator a) =
       then_one (then_one (one_specs w _ _ specs) (λ s w1. then_one (is_one _) (λ base w2. then_one (one_declarator w2 declarator) (λ shape w3. is_one _))))
-        (λ form w1. then_one (valued_one (one w1 a)) (λ x w2. is_one _))
+      (λ form w1. then_one (valued_one (one w1 a)) (λ x w2. is_one _))
   one w (written.Binary at op a b) = then_one (valued_one (one w a)) (λ x w1. then_one (valued_one (one w1 b)) (λ y w2. is_one _))
   one w (written.Cond at c a b) = then_one (valued_one (one w c)) (λ z w1. then_one (valued_one (one w1 a)) (λ x w2. then_one (valued_one (one w2 b)) (λ y w3. is_one _)))
   one w (written.Assign at a b) = then_one (one w a) (λ x w1. then_one (valued_one (one w1 b)) (λ y w2. is_one _))

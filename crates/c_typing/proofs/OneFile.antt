@@ -1,16 +1,15 @@
 -- Initialisers, declarations, statements and files have one outcome.
 use Rattle.std.proofs.Common.{◌≡◌, sym, ◌∙◌, subst, ap, refl}
-use Rattle.std.specs.Prelude.{Bool, true, false, IsTrue, IsFalse, Option, Some, None, List, [], ◌∷◌, ⊤}
+use Rattle.std.specs.Prelude.{Bool, true, false, Option, Some, None, List, [], ◌∷◌}
 use Rattle.c_written.specs.Written as written
 use Rattle.c_written.specs.WrittenDecl as inits
 use Rattle.c_written.specs.WrittenDecl.{InitTree, InitTrees, DeclTree, InitDeclaratorTree}
 use Rattle.c_written.specs.WrittenFile as files
 use Rattle.c_written.specs.WrittenFile.{StmtTree, BlockItemTrees, ForStartTree, OuterTree}
 use Rattle.c_syntax.specs.Types.{CTypeTree}
-use Rattle.c_syntax.specs.Program.{StructDefTree}
 use Rattle.c_syntax.specs.TypedStmt.{TStmtTrees, TStmtTree}
 use Rattle.c_syntax.specs.TypedExpr.{TExprTree}
-use Rattle.c_typing.specs.World.{World, Outcome, Typed, Refused, Then, goes_on, stops, Is}
+use Rattle.c_typing.specs.World.{World, Outcome}
 use Rattle.c_typing.specs.CurrentObject.{Part, Aggregates, Fills, whole, inside}
 use Rattle.c_typing.specs.Inits.{AtPart, Either, Into, TypedAndRefused, WithText, TypesItems, TypesInBraces, ByValue, TypesInit}
 use Rattle.c_typing.specs.Context.{Context}
@@ -62,10 +61,10 @@ mutual
   one_inits w static all done inits.no_inits = is_one _
   one_inits w static all done (inits.more_inits (inits.Braces at inner) rest) =
       at_one _ (is_one _) (λ part. either_one _ (one_in_braces w _ at inner)
-        (then_one (one_inits w static _ _ inner) (λ filled w1. one_inits w1 static all _ rest)))
+      (then_one (one_inits w static _ _ inner) (λ filled w1. one_inits w1 static all _ rest)))
   one_inits w static all done (inits.more_inits (inits.Value (written.Strings at text)) rest) =
       either_one _ (then_one (is_one _) (λ items w1. one_inits w1 static all _ rest))
-        (at_one _ (refused_one w _ _) (λ part. into_one (λ inner after. then_one (text_one w static inner at text) (λ items w1. one_inits w1 static all _ rest))))
+      (at_one _ (refused_one w _ _) (λ part. into_one (λ inner after. then_one (text_one w static inner at text) (λ items w1. one_inits w1 static all _ rest))))
   one_inits w static all done (inits.more_inits (inits.Value e) rest) =
       at_one _ (refused_one w e _) (λ part. then_one (valued_one (one w e)) (λ x w1. into_one (λ inner after. then_one (is_one _) (λ item w2. one_inits w2 static all _ rest))))
 
@@ -79,7 +78,7 @@ by_value_one w static ty e = then_one (valued_one (one w e)) (λ x w1. then_one 
 
 pub init_one : (w : World) (static : Bool) (ty : CTypeTree) (frame : _) (init : InitTree) → One (TypesInit w static ty frame init)
 init_one w static ty frame (inits.Braces at items) = then_one (one_inits w static ty _ items) (λ filled w1. is_one _)
-init_one w static ty frame (inits.Value (written.Strings at text)) = either_one _ (is_one _) (by_value_one w static ty (written.Strings at text))
+init_one w static ty frame (inits.Value (written.Strings at text)) = either_one _ (then_one (is_one _) (λ items w1. is_one _)) (by_value_one w static ty (written.Strings at text))
 init_one w static ty frame (inits.Value e) = by_value_one w static ty e
 
 -- ---- declarations

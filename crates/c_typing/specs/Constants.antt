@@ -1,17 +1,20 @@
 -- Constant expressions and static addresses, as functions of typed trees (C11 6.6).
-use Rattle.std.specs.Prelude.{ℕ, ℤ, pos, neg_ℤ, ◌+ℤ◌, ◌*ℤ◌, int_le, int_lt, Bool, true, false, not, ◌&&◌, ◌||◌, if◌then◌else◌, Option, Some, None, option_map, option_and_then, unwrap_or, List, [], slice_get}
+use Rattle.std.specs.Prelude.{ℕ, ℤ, pos, neg_ℤ, ◌+ℤ◌, ◌*ℤ◌, int_le, Bool, true, false, not, ◌&&◌, ◌||◌, if◌then◌else◌, Option, Some, None, option_map, option_and_then, unwrap_or, List, [], slice_get}
 use Rattle.std.specs.Ordering.{int_eq}
 use Rattle.c_written.specs.declared.int_type.IntType.{IntType}
-use Rattle.c_written.specs.declared.int_type.IntType.TheVariants as ints
 use Rattle.c_written.specs.Integer.{wrapped}
 use Rattle.c_syntax.specs.declared.operator.TUnaryOp.{TUnaryOp}
-use Rattle.c_syntax.specs.declared.operator.TUnaryOp.TheVariants as unaries
 use Rattle.c_syntax.specs.declared.operator.TBinaryOp.{TBinaryOp}
 use Rattle.c_syntax.specs.declared.operator.TBinaryOp.TheVariants as binaries
-use Rattle.c_syntax.specs.Types.{CTypeTree, Void, Int, Pointer, Array, ObjectTree}
-use Rattle.c_syntax.specs.TypedExpr.{TExprTree, Const, Null, Load, AddressOf, Decay, Whole, Unary, Binary, Convert, Assign, AssignStruct, Compound, Step, And, Or, Cond, Comma, Call, Any, Assume, Assert, TLvalueTree, Var, Deref, Member}
+use Rattle.c_syntax.specs.Types.{CTypeTree, Void, Int, Pointer, ObjectTree}
+use Rattle.c_syntax.specs.TypedExpr.{TExprTree, Const, Null, AddressOf, Decay, Unary, Binary, Convert, And, Or, Cond, TLvalueTree, Var, Deref, Member}
 use Rattle.c_syntax.specs.TypedParts.{texpr_type}
-use Rattle.c_typing.specs.Stub.{integer_unary, integer_binary}
+use Rattle.block_mem.specs.declared.types.Value.{Value}
+use Rattle.block_mem.specs.declared.types.Value.TheVariants as values
+use Rattle.block_mem.specs.declared.types.Scalar.TheVariants as scalars
+use Rattle.c_values.specs.Places.{ObjectMemory}
+use Rattle.c_values.specs.Looks as looks
+use Rattle.c_values.specs.Operators.{binary, unary}
 
 -- 0 or 1
 abbrev pub truth_value : Bool → ℤ
@@ -19,6 +22,26 @@ truth_value b = if b then pos 1 else pos 0
 
 abbrev pub is_true : ℤ → Bool
 is_true n = not (int_eq n (pos 0))
+
+-- operators on integers look at no memory
+abbrev pub no_memory : ObjectMemory
+no_memory = record { blocks = []; owners = []; places = [] }
+
+abbrev pub number_in : Value → Option ℤ
+number_in (values.Int t n) = Some n
+number_in v = None
+
+-- the number that an operator gives, where it does not go wrong
+abbrev pub number_given : looks.Outcome → Option ℤ
+number_given (looks.Gives v) = number_in v
+number_given (looks.GoesWrong kind operand) = None
+number_given looks.IsStuck = None
+
+abbrev pub integer_unary : TUnaryOp → IntType → ℤ → Option ℤ
+integer_unary op t n = number_given (unary [] no_memory op (Some (scalars.Int t)) (values.Int t n))
+
+abbrev pub integer_binary : TBinaryOp → IntType → IntType → ℤ → ℤ → Option ℤ
+integer_binary op t u a b = number_given (binary [] no_memory op (values.Int t a) (values.Int u b))
 
 -- an operator on the value of an operand of this type, where nothing goes wrong
 abbrev pub unary_constant : TUnaryOp → CTypeTree → Option ℤ → Option ℤ

@@ -1,11 +1,11 @@
 -- What stands round a part of a file, and what the text of the file tells beforehand.
-use Rattle.std.specs.Prelude.{ℕ, Bool, true, false, not, ◌&&◌, ◌||◌, if◌then◌else◌, is_some, Option, Some, None, List, [], ◌∷◌, ◌++◌, find, map, flat_map, bytes_eq, codes}
+use Rattle.std.specs.Prelude.{ℕ, Bool, true, false, not, ◌&&◌, ◌||◌, if◌then◌else◌, is_some, Option, Some, None, List, [], ◌∷◌, ◌++◌, find, flat_map, bytes_eq}
 use Rattle.c_written.specs.declared.int_type.IntType.{IntType}
 use Rattle.c_written.specs.declared.written.StorageWord.{StorageWord}
 use Rattle.c_written.specs.declared.written.StorageWord.TheVariants.{Typedef, Extern, Static, Auto, Register}
 use Rattle.c_written.specs.Written as written
 use Rattle.c_written.specs.Written.{SpecTrees, DeclaratorTree}
-use Rattle.c_written.specs.WrittenDecl.{InitDeclaratorTree, DeclTree}
+use Rattle.c_written.specs.WrittenDecl.{InitDeclaratorTree}
 use Rattle.c_written.specs.WrittenFile.{StmtTree, BlockItemTree, BlockItemTrees, OuterTree, Declared, FileTree}
 use Rattle.c_written.specs.WrittenFile as files
 use Rattle.c_syntax.specs.Types.{CTypeTree, Void}
@@ -34,7 +34,7 @@ name_in (written.Grouped at inner) = name_in inner
 name_in (written.Pointer at is_const inner) = name_in inner
 name_in (written.Array at inner size) = name_in inner
 name_in (written.OpenArray at inner) = name_in inner
-name_in (written.Function at inner params) = name_in inner
+name_in (written.Function at inner _) = name_in inner
 name_in (written.VoidFunction at inner) = name_in inner
 
 -- a name with nothing round it but parentheses
@@ -51,7 +51,7 @@ is_function_declarator (written.Grouped at inner) = is_function_declarator inner
 is_function_declarator (written.Pointer at is_const inner) = is_function_declarator inner
 is_function_declarator (written.Array at inner size) = is_function_declarator inner
 is_function_declarator (written.OpenArray at inner) = is_function_declarator inner
-is_function_declarator (written.Function at inner params) = is_plain_name inner || is_function_declarator inner
+is_function_declarator (written.Function at inner _) = is_plain_name inner || is_function_declarator inner
 is_function_declarator (written.VoidFunction at inner) = is_plain_name inner || is_function_declarator inner
 
 abbrev pub to_names : Option (List ℕ) → List (List ℕ)

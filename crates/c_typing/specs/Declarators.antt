@@ -3,7 +3,7 @@ use Rattle.std.specs.Prelude.{ℕ, ◌*◌, ◌^◌, nat_lt, Bool, false, if◌t
 use Rattle.c_written.specs.declared.place.Pos.{Pos}
 use Rattle.c_written.specs.declared.construct.Construct.TheVariants as constructs
 use Rattle.c_syntax.specs.declared.op.Op.TheVariants as ops
-use Rattle.c_syntax.specs.Types.{CTypeTree, Void, Int, Pointer, Array, Struct, Function}
+use Rattle.c_syntax.specs.Types.{CTypeTree, Pointer, Array, Struct, Function}
 use Rattle.c_typing.specs.World.{World, Form, Whole, Unsized, Callable, Binding, TagBinding, Refusal, no_rule, NotConstant, ObjectTooLarge, Unsupported, Outcome, Typed, Refused}
 use Rattle.c_typing.specs.Operands.{complete_size}
 

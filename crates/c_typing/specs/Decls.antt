@@ -1,5 +1,5 @@
 -- Declarations: of objects, functions and typedef names.
-use Rattle.std.specs.Prelude.{◌≡◌, ℕ, zero, suc, ◌+◌, drop, ◌==◌, nat_lt, Bool, true, false, not, ◌&&◌, ◌||◌, if◌then◌else◌, is_some, is_none, Option, Some, None, option_map, option_and_then, unwrap_or, List, [], ◌∷◌, ◌++◌, map, fold, length, find, slice_get, set, bytes_eq, codes, ⊤}
+use Rattle.std.specs.Prelude.{ℕ, zero, suc, ◌+◌, drop, ◌==◌, nat_lt, Bool, true, false, not, ◌&&◌, ◌||◌, if◌then◌else◌, is_some, Option, Some, None, option_map, option_and_then, unwrap_or, List, [], ◌∷◌, ◌++◌, map, length, find, slice_get, set, bytes_eq, codes}
 use Rattle.c_written.specs.declared.place.Pos.{Pos}
 use Rattle.c_written.specs.declared.construct.Construct.TheVariants as constructs
 use Rattle.c_written.specs.declared.int_type.IntType.{IntType}
@@ -11,19 +11,19 @@ use Rattle.c_written.specs.WrittenDecl.{InitTree, InitDeclaratorTree, DeclTree}
 use Rattle.c_syntax.specs.declared.op.Op.TheVariants as ops
 use Rattle.c_syntax.specs.Types.{CTypeTree, Void, Int, Array, ObjectTree}
 use Rattle.c_syntax.specs.Program.{TFunctionTree}
-use Rattle.c_syntax.specs.TypedStmt.{TStmtTrees, Declare, none, more}
+use Rattle.c_syntax.specs.TypedStmt.{TInitTree, TStmtTrees, Declare, none, more}
 use Rattle.c_syntax.specs.TypedStmt as stmts
 use Rattle.c_layout.specs.Layout.{size_in}
 use Rattle.c_layout.specs.RowTypes.{has_const_elements}
 use Rattle.c_layout.specs.WellTyped.{is_array}
-use Rattle.c_typing.specs.World.{World, Form, Whole, Unsized, Callable, Meaning, Object, Missing, Function, TypeName, Binding, Linked, no_rule, Undeclared, Redeclared, NotConstant, ObjectTooLarge, Unsupported, Outcome, Typed, Refused, Then, Is, unless}
+use Rattle.c_typing.specs.World.{World, Form, Whole, Unsized, Callable, Meaning, Object, Missing, Function, TypeName, Binding, Linked, no_rule, Redeclared, NotConstant, ObjectTooLarge, Unsupported, Outcome, Typed, Refused, Then, Is, unless}
 use Rattle.c_typing.specs.SameTypes.{is_same_truth, is_same, are_same}
-use Rattle.c_typing.specs.Names.{input_type, is_assume, is_assert, is_reserved, first_here, unless_declared, with_name, linked_as, object_limit, within_limits, with_initial}
+use Rattle.c_typing.specs.Names.{input_type, is_reserved, first_here, unless_declared, with_name, linked_as, object_limit, within_limits, with_initial}
 use Rattle.c_typing.specs.Operands.{is_unsized}
 use Rattle.c_typing.specs.Specifiers.{no_specs_yet, OfDeclaration, type_told}
 use Rattle.c_typing.specs.Declarators.{DeclaredName, ParameterTree, Step, FunctionOf, Shape, unknown_function, unless_incomplete, laid}
-use Rattle.c_typing.specs.Typing.{first_of, TypesSpecs, TypesDeclarator}
-use Rattle.c_typing.specs.CurrentObject.{Part, Frame, frame_of, open_frame}
+use Rattle.c_typing.specs.Typing.{first_of, with_its_name, TypesSpecs, TypesDeclarator}
+use Rattle.c_typing.specs.CurrentObject.{Frame, frame_of, open_frame}
 use Rattle.c_typing.specs.Inits.{Initialised, whole_part, TypesInit, static_bytes}
 use Rattle.c_typing.specs.Context.{Context, has_name, is_storage}
 
@@ -123,8 +123,8 @@ with_function_entry w types function = record w { functions = w.functions ++ fun
 abbrev pub new_function : World → DeclaredName → Bool → List ParameterTree → List CTypeTree → CTypeTree → World
 new_function w named has_body_later params types result =
     with_linked (if has_body_later then with_function_entry w types (function_tree named [] result)
-        else with_function_entry (with_parameters w params) types (function_tree named (numbers_from (length w.objects) (length params)) result))
-      named (Function (length w.functions)) false
+    else with_function_entry (with_parameters w params) types (function_tree named (numbers_from (length w.objects) (length params)) result))
+    named (Function (length w.functions)) false
 
 abbrev pub number_of : Meaning → ℕ
 number_of (Object n) = n
@@ -142,7 +142,7 @@ abbrev pub function_declared : World → Context → DeclaredName → List Param
 function_declared w around named params types result has_body =
     if is_reserved named.name then reserved_declared w named types result has_body
     else unless_other named.pos (binding_here w named.name) (linked_as w named.name) (is_function_so w types result has_body) (λ linked.
-      unless_main_shape named (is_main_shape types result) (function_again w around named params types result linked))
+    unless_main_shape named (is_main_shape types result) (function_again w around named params types result linked))
 
 -- ---- objects
 
@@ -186,11 +186,11 @@ pub data Declares : Type 0 where
 abbrev pub local_declared : World → DeclaredName → Form → Bool → Bool → Outcome Declares
 local_declared w named (Whole ty is_const) is_static has_init =
     unless_incomplete w named.pos ty (λ size. unless_declared named.pos (first_here w named.pos named.name)
-      (within_limits named.pos size w (Typed (AnObject (local_now w named ty is_static false)) (local_object w named ty is_const is_static size))))
+    (within_limits named.pos size w (Typed (AnObject (local_now w named ty is_static false)) (local_object w named ty is_const is_static size))))
 local_declared w named (Unsized of is_const) is_static has_init =
     unless_declared named.pos (first_here w named.pos named.name)
-      (unless (not has_init) (NotConstant named.pos)
-      (Typed (AnObject (local_now w named (Array of is_const 0) is_static true)) (local_object w named (Array of is_const 0) false is_static 0)))
+    (unless (not has_init) (NotConstant named.pos)
+    (Typed (AnObject (local_now w named (Array of is_const 0) is_static true)) (local_object w named (Array of is_const 0) false is_static 0)))
 local_declared w named (Callable params result) is_static has_init = Refused (no_rule w named.pos ops.Init (unknown_function w) None)
 
 -- an array without size agrees with any array of its element (C11 6.7.6.2p6)
@@ -284,13 +284,13 @@ declares how object = if how.is_there then AnObject object else NoObject
 abbrev pub file_sized : World → DeclaredName → CTypeTree → Bool → FileObject → Option Linked → Outcome Declares
 file_sized w named ty is_const how linked =
     unless_incomplete w named.pos ty (λ size. counted_once w named.pos size how linked (λ v.
-      unless_main_shape named false (Typed (declares how (file_now w named ty how linked false)) (object_world v named ty is_const size how linked))))
+    unless_main_shape named false (Typed (declares how (file_now w named ty how linked false)) (object_world v named ty is_const size how linked))))
 
 -- one whose size is not told yet: by its initialiser, or, in an `extern` declaration alone, later (C11 6.7.9p22, this profile)
 abbrev pub file_unsized : World → DeclaredName → CTypeTree → FileObject → Option Linked → Outcome Declares
 file_unsized w named ty how linked =
     unless (how.defines && not how.has_init) (NotConstant named.pos)
-      (unless_main_shape named false (Typed (declares how (file_now w named ty how linked how.has_init)) (object_world w named ty false 0 how linked)))
+    (unless_main_shape named false (Typed (declares how (file_now w named ty how linked how.has_init)) (object_world w named ty false 0 how linked)))
 
 abbrev pub file_object : World → DeclaredName → CTypeTree → Bool → FileObject → Option Linked → Outcome Declares
 file_object w named ty is_const how linked =
@@ -304,9 +304,9 @@ composite_type w ty (Some l) = composite (type_before w l.meaning ty) ty
 abbrev pub file_declared : World → DeclaredName → CTypeTree → Bool → FileObject → Outcome Declares
 file_declared w named ty is_const how =
     unless (how.in_block && how.has_init) (no_rule w named.pos ops.Init ty None)
-      (if is_reserved named.name then Refused (Redeclared named.pos named.pos)
-      else unless_other named.pos (binding_here w named.name) (linked_as w named.name) (is_object_again w ty is_const how.has_init) (λ linked.
-        file_object w named (composite_type w ty linked) is_const how linked))
+    (if is_reserved named.name then Refused (Redeclared named.pos named.pos)
+    else unless_other named.pos (binding_here w named.name) (linked_as w named.name) (is_object_again w ty is_const how.has_init) (λ linked.
+    file_object w named (composite_type w ty linked) is_const how linked))
 
 -- incomplete types come first
 abbrev pub file_form : World → DeclaredName → Form → FileObject → Outcome Declares
@@ -354,23 +354,22 @@ no_object (Refused r) = Refused r
 abbrev pub prototype_declared : World → Context → List Step → DeclaredName → List CTypeTree → CTypeTree → Bool → Outcome Declares
 prototype_declared w around steps named types result has_init =
     unless has_init (no_rule w named.pos ops.Init (unknown_function w) None)
-      (no_object (function_declared w around named (parameters_of steps types named.pos) types result false))
+    (no_object (function_declared w around named (parameters_of steps types named.pos) types result false))
 
-abbrev pub name_declared : World → Context → List StorageWord → List Step → DeclaredName → Bool → Outcome Form → Outcome Declares
-name_declared w around storage steps named has_init (Refused r) = Refused r
-name_declared w around storage steps named has_init (Typed form v) = if is_word Typedef storage then typedef_declared v named form else by_form form
-  where
-    by_form : Form → Outcome Declares
-    by_form (Callable types result) = prototype_declared v around steps named types result has_init
-    by_form other = object_declared v around storage named other has_init
+-- what is no typedef name is a function or an object, by its type
+abbrev pub entity_declared : World → Context → List StorageWord → List Step → DeclaredName → Bool → Form → Outcome Declares
+entity_declared w around storage steps named has_init (Callable types result) = prototype_declared w around steps named types result has_init
+entity_declared w around storage steps named has_init form = object_declared w around storage named form has_init
+
+abbrev pub name_declared : Context → List StorageWord → List Step → DeclaredName → Bool → Outcome Form → Outcome Declares
+name_declared around storage steps named has_init (Refused r) = Refused r
+name_declared around storage steps named has_init (Typed form w) =
+    if is_word Typedef storage then typedef_declared w named form else entity_declared w around storage steps named has_init form
 
 -- what a declarator with its specs declares
 abbrev pub declared : World → Context → Pos → List StorageWord → Form → Bool → Shape → Outcome Declares
-declared w around first storage base has_init shape = by_name shape.name
-  where
-    by_name : Option DeclaredName → Outcome Declares
-    by_name None = Refused (Undeclared first)
-    by_name (Some named) = name_declared w around storage shape.steps named has_init (laid w named.pos shape.steps base)
+declared w around first storage base has_init shape =
+    with_its_name first shape.name (λ named. name_declared around storage shape.steps named has_init (laid w named.pos shape.steps base))
 
 -- ---- initialisers of declarators
 
@@ -394,29 +393,37 @@ abbrev pub measured_type : CTypeTree → ℕ → CTypeTree
 measured_type (Array of is_const n) count = Array of is_const count
 measured_type ty count = ty
 
-abbrev pub measured : World → ObjectNow → Initialised → Outcome CTypeTree
-measured w object by = if object.measured then with_size (measured_type object.ty by.count) else Typed object.ty w
-  where
-    with_size : CTypeTree → Outcome CTypeTree
-    with_size ty = within_limits object.pos (unwrap_or (size_in w.structs ty) 0) w
-        (Typed ty (with_total (with_sized w object.number ty (unwrap_or (size_in w.structs ty) 0)) (unwrap_or (size_in w.structs ty) 0)))
+-- an object whose size is told now, which counts among the sizes from here on
+abbrev pub sized_now : World → ObjectNow → CTypeTree → ℕ → Outcome CTypeTree
+sized_now w object ty size = within_limits object.pos size w (Typed ty (with_total (with_sized w object.number ty size) size))
 
--- what stands for the declarator in a block
-abbrev pub made_of : ObjectNow → Option Initialised → Made
-made_of object by = if not object.in_block then nothing_made
-    else (if object.is_static then record { objects = []; items = more (stmts.Static object.pos object.number) none } else automatic by)
-  where
-    automatic : Option Initialised → Made
-    automatic None = record { objects = object.number ∷ []; items = more (Declare object.pos object.number [] false) none }
-    automatic (Some i) = record { objects = object.number ∷ []; items = more (Declare object.pos object.number i.items i.zeroes_rest) none }
+abbrev pub size_or_zero : World → CTypeTree → ℕ
+size_or_zero w ty = unwrap_or (size_in w.structs ty) 0
+
+abbrev pub measured : World → ObjectNow → Initialised → Outcome CTypeTree
+measured w object by =
+    if object.measured then sized_now w object (measured_type object.ty by.count) (size_or_zero w (measured_type object.ty by.count))
+    else Typed object.ty w
+
+-- an object that begins to live in its block
+abbrev pub automatic : ObjectNow → List TInitTree → Bool → Made
+automatic object items zeroes_rest = record { objects = object.number ∷ []; items = more (Declare object.pos object.number items zeroes_rest) none }
+
+abbrev pub static_made : ObjectNow → Made
+static_made object = record { objects = []; items = more (stmts.Static object.pos object.number) none }
+
+-- what stands for the declarator in a block, with these items of its initialiser
+abbrev pub made_of : ObjectNow → List TInitTree → Bool → Made
+made_of object items zeroes_rest =
+    if object.in_block then (if object.is_static then static_made object else automatic object items zeroes_rest) else nothing_made
 
 -- the bytes with which a static object begins (C11 6.7.9p4)
 abbrev pub with_static : World → ObjectNow → CTypeTree → Initialised → World
 with_static w object ty by =
-    if object.is_static then with_initial w object.number (static_bytes w.objects (unwrap_or (size_in w.structs ty) 0) by.items) else w
+    if object.is_static then with_initial w object.number (static_bytes w.objects (size_or_zero w ty) by.items) else w
 
 abbrev pub initialised : World → ObjectNow → Initialised → Outcome CTypeTree → Outcome Made
-initialised w object by (Typed ty v) = Typed (made_of object (Some by)) (with_static v object ty by)
+initialised w object by (Typed ty v) = Typed (made_of object by.items by.zeroes_rest) (with_static v object ty by)
 initialised w object by (Refused r) = Refused r
 
 abbrev pub frame_for : World → ObjectNow → Frame
@@ -425,7 +432,7 @@ frame_for w object = if object.measured then open_frame object.ty else frame_of 
 -- the initialiser of what was declared; an extern declaration in a block is no statement
 abbrev pub TypesInitOf : World → Declares → Option InitTree → Outcome Made → Type 0
 TypesInitOf w NoObject init o = Is (Typed nothing_made w) o
-TypesInitOf w (AnObject object) None o = Is (Typed (made_of object None) w) o
+TypesInitOf w (AnObject object) None o = Is (Typed (made_of object [] false) w) o
 TypesInitOf w (AnObject object) (Some init) o =
     Then (TypesInit w object.is_static object.ty (frame_for w object) init) (λ by w1. Is (initialised w1 object by (measured w1 object by))) o
 

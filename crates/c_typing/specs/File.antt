@@ -1,5 +1,5 @@
 -- Functions with bodies, and the file.
-use Rattle.std.specs.Prelude.{◌≡◌, ℕ, ◌+◌, ◌==◌, nat_lt, Bool, true, false, if◌then◌else◌, Option, Some, None, option_map, unwrap_or, List, [], ◌∷◌, ◌++◌, map, length, find, slice_get, set, replicate, flat_map, ⊤}
+use Rattle.std.specs.Prelude.{◌≡◌, ℕ, ◌+◌, ◌==◌, true, false, if◌then◌else◌, Option, Some, None, option_map, unwrap_or, List, [], ◌∷◌, ◌++◌, map, length, find, slice_get, set, replicate, ⊤}
 use Rattle.c_written.specs.declared.place.Pos.{Pos}
 use Rattle.c_written.specs.declared.written.StorageWord.{StorageWord}
 use Rattle.c_written.specs.declared.written.StorageWord.TheVariants.{Typedef}
@@ -13,10 +13,10 @@ use Rattle.c_syntax.specs.Types.{CTypeTree, ObjectTree}
 use Rattle.c_syntax.specs.TypedStmt.{TStmtTree, Block}
 use Rattle.c_syntax.specs.Program.{TFunctionTree, TProgramTree}
 use Rattle.c_layout.specs.Layout.{size_in}
-use Rattle.c_typing.specs.World.{World, Form, Whole, Unsized, Callable, Meaning, Object, Parameter, Binding, TagBinding, Refusal, no_rule, Undeclared, Redeclared, TotalTooLarge, Outcome, Typed, Refused, Then, Is}
+use Rattle.c_typing.specs.World.{World, Form, Callable, Meaning, Object, Parameter, Binding, TagBinding, Refusal, no_rule, Undeclared, Redeclared, Outcome, Typed, Refused, Then, Is}
 use Rattle.c_typing.specs.Names.{opened, closed, within_limits}
 use Rattle.c_typing.specs.Specifiers.{no_specs_yet, OfDeclaration, type_told}
-use Rattle.c_typing.specs.Declarators.{DeclaredName, ParameterTree, Step, PointerTo, ArrayOf, OpenArray, FunctionOf, Shape, shown, laid}
+use Rattle.c_typing.specs.Declarators.{DeclaredName, ParameterTree, Step, FunctionOf, Shape, shown, laid}
 use Rattle.c_typing.specs.Typing.{first_of, TypesSpecs, TypesDeclarator}
 use Rattle.c_typing.specs.Context.{Context, file_context, in_function}
 use Rattle.c_typing.specs.Decls.{Made, nothing_made, is_word, numbers_from, parameter_object, with_total, function_declared, TypesDecl}
@@ -36,7 +36,7 @@ unfoldable pub with_counted : World → List ParameterTree → Outcome ⊤
 with_counted w [] = Typed tt w
 with_counted w (param ∷ rest) =
     within_limits param.pos (unwrap_or (size_in w.structs param.ty) 0) w
-      (with_counted (with_total (record w { objects = w.objects ++ parameter_object w param ∷ [] }) (unwrap_or (size_in w.structs param.ty) 0)) rest)
+    (with_counted (with_total (record w { objects = w.objects ++ parameter_object w param ∷ [] }) (unwrap_or (size_in w.structs param.ty) 0)) rest)
 
 -- the name of a parameter stands for its object
 abbrev pub as_object : ℕ → Meaning → Meaning
@@ -103,7 +103,7 @@ with_body body function = record function { body = Some body }
 abbrev pub definition_ends : Begun → Pos → Made → World → World
 definition_ends begun brace made w =
     with_function_at (record (closed begun.outside w) { labels = []; cases = []; default = None }) begun.number
-      (with_body (Block brace kinds.Written made.objects made.items))
+    (with_body (Block brace kinds.Written made.objects made.items))
 
 -- ---- the file
 

@@ -1,5 +1,5 @@
 -- Initialisers: what they store, and the bytes of static objects.
-use Rattle.std.specs.Prelude.{◌≡◌, ℕ, zero, suc, ◌+◌, ◌==◌, nat_lt, nat_le, ℤ, pos, Bool, true, false, not, ◌&&◌, ◌||◌, if◌then◌else◌, is_some, Option, Some, None, option_map, unwrap_or, List, [], ◌∷◌, ◌++◌, map, fold, length, take, drop, replicate}
+use Rattle.std.specs.Prelude.{ℕ, zero, suc, ◌+◌, ◌==◌, nat_lt, ℤ, pos, Bool, true, false, not, ◌&&◌, ◌||◌, if◌then◌else◌, is_some, Option, Some, None, unwrap_or, List, [], ◌∷◌, ◌++◌, map, fold, length, take, drop, replicate}
 use Rattle.c_written.specs.declared.place.Pos.{Pos}
 use Rattle.c_written.specs.declared.int_type.IntType.{IntType}
 use Rattle.c_written.specs.declared.int_type.IntType.TheVariants as ints
@@ -15,16 +15,14 @@ use Rattle.c_written.specs.WrittenDecl.{InitTree, InitTrees}
 use Rattle.c_syntax.specs.declared.op.Op.TheVariants as ops
 use Rattle.c_syntax.specs.declared.program.InitByte.{InitByte}
 use Rattle.c_syntax.specs.declared.program.InitByte.TheVariants.{Num, Piece}
-use Rattle.c_syntax.specs.Types.{CTypeTree, Void, Int, Pointer, Array, Struct, ObjectTree}
+use Rattle.c_syntax.specs.Types.{CTypeTree, Int, Array, ObjectTree}
 use Rattle.c_syntax.specs.TypedExpr.{TExprTree, Const}
 use Rattle.c_syntax.specs.TypedParts.{texpr_type}
 use Rattle.c_syntax.specs.TypedStmt.{TInitTree, Store, Copy}
-use Rattle.c_typing.specs.World.{World, Form, Whole, Unsized, Callable, no_rule, NotConstant, Refusal, Outcome, Typed, Refused, Then, Is, unless}
-use Rattle.c_typing.specs.Constants.{constant_value, Address, Nowhere, Inside, static_address}
+use Rattle.c_typing.specs.World.{World, no_rule, NotConstant, Refusal, Outcome, Typed, Refused, Then, Is, unless}
+use Rattle.c_typing.specs.Constants.{constant_value, Address, Inside, static_address}
 use Rattle.c_typing.specs.Rows.{Stored, Scalar, Copied, is_scalar, stored_row}
-use Rattle.c_typing.specs.Operands.{OperandTree}
-use Rattle.c_typing.specs.Declarators.{unknown_function}
-use Rattle.c_typing.specs.CurrentObject.{Part, Frame, frame_of, open_frame, is_full, Aggregates, in_braces, next_part, after_part, Fills, takes_value, takes_text, is_text, is_text_in_braces, is_scalar_in_braces}
+use Rattle.c_typing.specs.CurrentObject.{Part, Frame, frame_of, Aggregates, in_braces, next_part, after_part, Fills, takes_value, takes_text, is_text, is_text_in_braces, is_scalar_in_braces}
 use Rattle.c_typing.specs.Typing.{Types, Valued}
 
 -- ---- one value
@@ -121,16 +119,16 @@ TypedAndRefused w e refusal o = Then (Valued (Types w e)) (λ x w1. Is (Refused 
 abbrev pub excess : World → CTypeTree → Pos → Refusal
 excess w ty at = no_rule w at ops.Init ty None
 
+abbrev pub array_count : CTypeTree → ℕ
+array_count (Array of is_const n) = n
+array_count ty = 0
+
 -- a literal fills an array of characters, or is a pointer's value
 abbrev pub WithText : World → Bool → Part → Pos → List ℕ → Outcome (List TInitTree) → Type 0
 WithText w static part at text o =
     Either (is_text part.ty)
-      (Is (fill_text w part (array_count part.ty) at text))
-      (Then (Valued (Types w (written.Strings at text))) (λ x w1. Then (Is (fill w1 static part at x)) (λ item w2. Is (Typed (item ∷ []) w2)))) o
-  where
-    array_count : CTypeTree → ℕ
-    array_count (Array of is_const n) = n
-    array_count ty = 0
+    (Is (fill_text w part (array_count part.ty) at text))
+    (Then (Valued (Types w (written.Strings at text))) (λ x w1. Then (Is (fill w1 static part at x)) (λ item w2. Is (Typed (item ∷ []) w2)))) o
 
 unfoldable mutual
   -- the items of a list, behind those that stand before them; what is refused as one too many shows the type of the whole (C11 6.7.9)
@@ -139,15 +137,15 @@ unfoldable mutual
   TypesItems w static whole done (inits.more_inits (inits.Braces at inner) rest) o =
       AtPart (next_part w.structs done.aggregates) (Is (Refused (excess w whole at))) (λ part.
       Either (is_scalar_in_braces done.aggregates) (TypesInBraces w (λ v e. excess v whole (expr_pos e)) at inner)
-        (Then (TypesItems w static part.ty (filled_so [] (in_braces (frame_of w.structs part))) inner) (λ filled w1.
-        TypesItems w1 static whole (filled_so (done.items ++ filled.items) (after_part done.aggregates)) rest))) o
+      (Then (TypesItems w static part.ty (filled_so [] (in_braces (frame_of w.structs part))) inner) (λ filled w1.
+      TypesItems w1 static whole (filled_so (done.items ++ filled.items) (after_part done.aggregates)) rest))) o
   TypesItems w static whole done (inits.more_inits (inits.Value (written.Strings at text)) rest) o =
       Either (is_text_in_braces done.aggregates)
-        (Then (Is (fill_text w (record { ty = whole; offset = done.aggregates.inner.offset }) (room done.aggregates.inner.count text) at text)) (λ items w1.
-        TypesItems w1 static whole (filled_so items (full_of done.aggregates text)) rest))
-        (AtPart (next_part w.structs done.aggregates) (TypedAndRefused w (written.Strings at text) (λ v. excess v whole at)) (λ part.
-        Into w.structs takes_text part (after_part done.aggregates) (λ inner after.
-        Then (WithText w static inner at text) (λ items w1. TypesItems w1 static whole (filled_so (done.items ++ items) after) rest)))) o
+      (Then (Is (fill_text w (record { ty = whole; offset = done.aggregates.inner.offset }) (room done.aggregates.inner.count text) at text)) (λ items w1.
+      TypesItems w1 static whole (filled_so items (full_of done.aggregates text)) rest))
+      (AtPart (next_part w.structs done.aggregates) (TypedAndRefused w (written.Strings at text) (λ v. excess v whole at)) (λ part.
+      Into w.structs takes_text part (after_part done.aggregates) (λ inner after.
+      Then (WithText w static inner at text) (λ items w1. TypesItems w1 static whole (filled_so (done.items ++ items) after) rest)))) o
   TypesItems w static whole done (inits.more_inits (inits.Value e) rest) o =
       AtPart (next_part w.structs done.aggregates) (TypedAndRefused w e (λ v. excess v whole (expr_pos e))) (λ part.
       Then (Valued (Types w e)) (λ x w1.
@@ -181,12 +179,8 @@ abbrev pub by_value : TInitTree → Initialised
 by_value item = record { items = item ∷ []; zeroes_rest = false; count = 0 }
 
 -- a literal that initialises an array of characters, which has so many, or as many as the literal
-abbrev pub text_initialised : World → Part → Option ℕ → Pos → List ℕ → Outcome Initialised
-text_initialised w part count at text = made (fill_text w part (room count text) at text)
-  where
-    made : Outcome (List TInitTree) → Outcome Initialised
-    made (Typed items v) = Typed (by_text items (room count text)) v
-    made (Refused r) = Refused r
+abbrev pub ByText : World → Part → Option ℕ → Pos → List ℕ → Outcome Initialised → Type 0
+ByText w part count at text o = Then (Is (fill_text w part (room count text) at text)) (λ items w1. Is (Typed (by_text items (room count text)) w1)) o
 
 -- an expression that initialises a whole object
 abbrev pub ByValue : World → Bool → CTypeTree → written.ExprTree → Outcome Initialised → Type 0
@@ -198,7 +192,7 @@ abbrev pub TypesInit : World → Bool → CTypeTree → Frame → InitTree → O
 TypesInit w static ty frame (inits.Braces at items) o =
     Then (TypesItems w static ty (filled_so [] (in_braces frame)) items) (λ filled w1. Is (Typed (by_list filled) w1)) o
 TypesInit w static ty frame (inits.Value (written.Strings at text)) o =
-    Either (is_text ty) (Is (text_initialised w (whole_part ty) frame.count at text)) (ByValue w static ty (written.Strings at text)) o
+    Either (is_text ty) (ByText w (whole_part ty) frame.count at text) (ByValue w static ty (written.Strings at text)) o
 TypesInit w static ty frame (inits.Value e) o = ByValue w static ty e o
 
 -- ---- the bytes of a static object

@@ -1,7 +1,6 @@
 pub mod World
 pub mod SameTypes
 pub mod Names
-pub mod Stub
 pub mod Operands
 pub mod Constants
 pub mod Rows

@@ -1,17 +1,16 @@
 -- Names and tags in scope, and objects that are added to the program.
-use Rattle.std.specs.Prelude.{◌≡◌, ℕ, ◌+◌, ◌==◌, nat_lt, Bool, true, false, ◌||◌, if◌then◌else◌, is_some, Option, Some, None, option_map, List, [], ◌∷◌, ◌++◌, map, length, take, drop, find, reverse, slice_get, set, codes, unwrap_or, ⊤}
+use Rattle.std.specs.Prelude.{ℕ, ◌+◌, nat_lt, Bool, true, false, ◌||◌, if◌then◌else◌, is_some, Option, Some, None, option_map, List, [], ◌∷◌, ◌++◌, map, length, take, drop, find, reverse, slice_get, set, codes, unwrap_or, ⊤}
 use Rattle.std.specs.Str.{bytes_eq}
 use Rattle.c_written.specs.declared.place.Pos.{Pos}
 use Rattle.c_written.specs.declared.written.Tag.{Tag}
 use Rattle.c_written.specs.declared.int_type.IntType.{IntType}
 use Rattle.c_written.specs.declared.int_type.IntType.TheVariants as ints
-use Rattle.c_syntax.specs.declared.program.Initial.{Initial}
 use Rattle.c_syntax.specs.declared.program.InitByte.{InitByte}
 use Rattle.c_syntax.specs.declared.program.InitByte.TheVariants.{Num}
-use Rattle.c_syntax.specs.Types.{CTypeTree, Int, Array, Struct, ObjectTree}
+use Rattle.c_syntax.specs.Types.{CTypeTree, Int, Array, ObjectTree}
 use Rattle.c_syntax.specs.Program.{MemberTree, StructDefTree}
 use Rattle.c_layout.specs.Layout.{Space, struct_space, spaces_by, stored}
-use Rattle.c_typing.specs.World.{World, Binding, Meaning, Linked, TagBinding, TagMeaning, StructTag, EnumTag, OpenEnumTag, Outcome, Typed, Refused, Undeclared, Redeclared, ObjectTooLarge, TotalTooLarge, unless}
+use Rattle.c_typing.specs.World.{World, Meaning, Linked, TagBinding, TagMeaning, StructTag, EnumTag, OpenEnumTag, Outcome, Typed, Refused, Undeclared, Redeclared, ObjectTooLarge, TotalTooLarge, unless}
 
 -- the names by which an input is read, with their types (this profile)
 abbrev pub inputs : List (List ℕ × IntType)

@@ -18,9 +18,8 @@ use Rattle.c_syntax.specs.declared.op.Op.{Op}
 use Rattle.c_syntax.specs.declared.op.Op.TheVariants as ops
 use Rattle.c_syntax.specs.declared.operator.DerefKind.TheVariants as derefs
 use Rattle.c_syntax.specs.declared.operator.StepTime.{StepTime}
-use Rattle.c_syntax.specs.declared.operator.Stride.{Stride}
 use Rattle.c_syntax.specs.declared.operator.TUnaryOp.TheVariants as unaries
-use Rattle.c_syntax.specs.Types.{CTypeTree, Void, Int, Pointer, Array, Struct, Function, ObjectTree}
+use Rattle.c_syntax.specs.Types.{CTypeTree, Void, Int, Function, ObjectTree}
 use Rattle.c_syntax.specs.TypedExpr.{TExprTree, Const, AddressOf, Assign, AssignStruct, Compound, Step, Comma, Call, Any, Assume, Assert, TLvalueTree, Var, TExprTrees, none, more}
 use Rattle.c_syntax.specs.TypedParts.{texpr_type, tlvalue_type, tlvalue_is_const}
 use Rattle.c_layout.specs.Conversion.{literal_type_of}
@@ -30,7 +29,7 @@ use Rattle.c_typing.specs.World.{World, Form, Whole, Unsized, Callable, Meaning,
 use Rattle.c_typing.specs.World as world
 use Rattle.c_typing.specs.Names.{input_type, is_assume, is_assert, is_reserved, meaning_of, within_limits, with_literal, literal_type}
 use Rattle.c_typing.specs.Operands.{OperandTree, Place, Value, value_of, not_used, is_unsized, complete_size}
-use Rattle.c_typing.specs.Rows.{Stored, Scalar, Copied, CompoundTree, is_scalar, unary_row, not_row, star_row, binary_row, cond_row, cast_row, is_pointer_integer, member_row, arrow_row, index_row, stored_row, store_row, compound_row, step_row}
+use Rattle.c_typing.specs.Rows.{Stored, Scalar, Copied, is_scalar, unary_row, not_row, star_row, binary_row, cond_row, cast_row, is_pointer_integer, member_row, arrow_row, index_row, stored_row, store_row, compound_row, step_row}
 use Rattle.c_typing.specs.Declarators.{unknown_function}
 
 -- the node that a row gives, or the refusal where no row does
@@ -178,7 +177,7 @@ assigned w at x e = changed (no_rows w at ops.Assign (value_of x) e) at x (store
 abbrev pub compound : World → Pos → AssignOp → OperandTree → TExprTree → Outcome OperandTree
 compound w at op x e =
     changed (no_rows w at (assign_op op) (value_of x) e) at x (compound_row w.structs op (texpr_type (value_of x)) (texpr_type e) e)
-      (λ row place. Compound at row.op place row.value) w
+    (λ row place. Compound at row.op place row.value) w
 
 -- `++` and `--` (C11 6.5.2.4, 6.5.3.1)
 abbrev pub stepped : World → Pos → StepTime → StepWay → OperandTree → Outcome OperandTree

@@ -1,7 +1,7 @@
 -- What an expression names or gives, and its conversions.
 use Rattle.std.specs.Prelude.{ℕ, zero, Bool, true, false, if◌then◌else◌, Option, None, List}
 use Rattle.c_written.specs.declared.int_type.IntType.{IntType}
-use Rattle.c_syntax.specs.Types.{CTypeTree, Void, Int, Pointer, Array, Struct}
+use Rattle.c_syntax.specs.Types.{CTypeTree, Int, Array, Struct}
 use Rattle.c_syntax.specs.TypedExpr.{TExprTree, Null, Load, Decay, Whole, Convert, Call, TLvalueTree}
 use Rattle.c_syntax.specs.TypedParts.{texpr_pos, texpr_type, tlvalue_pos, tlvalue_type}
 use Rattle.c_syntax.specs.Program.{StructDefTree}

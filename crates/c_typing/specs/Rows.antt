@@ -22,7 +22,7 @@ use Rattle.c_syntax.specs.declared.operator.TUnaryOp.{TUnaryOp}
 use Rattle.c_syntax.specs.declared.operator.TUnaryOp.TheVariants as unaries
 use Rattle.c_syntax.specs.declared.operator.TBinaryOp.{TBinaryOp}
 use Rattle.c_syntax.specs.declared.operator.TBinaryOp.TheVariants as binaries
-use Rattle.c_syntax.specs.Types.{CTypeTree, Void, Int, Pointer, Array, Struct, Function}
+use Rattle.c_syntax.specs.Types.{CTypeTree, Void, Int, Pointer, Struct}
 use Rattle.c_syntax.specs.TypedExpr.{TExprTree, Null, Unary, Binary, Convert, And, Or, Cond, TLvalueTree, Deref, Member}
 use Rattle.c_syntax.specs.TypedParts.{texpr_type, tlvalue_type, tlvalue_is_const}
 use Rattle.c_syntax.specs.Program.{MemberTree, StructDefTree}

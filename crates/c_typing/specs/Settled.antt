@@ -1,5 +1,5 @@
 -- A typed program at the end of its file: an array whose size came later has its type wherever its name stands.
-use Rattle.std.specs.Prelude.{ℕ, Bool, Option, Some, None, option_map, unwrap_or, List, map, slice_get}
+use Rattle.std.specs.Prelude.{ℕ, option_map, unwrap_or, List, map, slice_get}
 use Rattle.c_syntax.specs.Types.{CTypeTree, ObjectTree}
 use Rattle.c_syntax.specs.TypedExpr.{TExprTree, Const, Null, Load, AddressOf, Decay, Whole, Unary, Binary, Convert, Assign, AssignStruct, Compound, Step, And, Or, Cond, Comma, Call, Any, Assume, Assert, TLvalueTree, Var, Deref, Member, TExprTrees}
 use Rattle.c_syntax.specs.TypedExpr as exprs

@@ -1,12 +1,11 @@
 -- Statements, with the labels and cases of a function.
-use Rattle.std.specs.Prelude.{◌≡◌, ℕ, ℤ, Bool, true, false, Option, Some, None, option_map, List, [], ◌∷◌, ◌++◌, length, find, position, bytes_eq}
+use Rattle.std.specs.Prelude.{ℕ, ℤ, Bool, true, false, Option, Some, None, option_map, List, [], ◌∷◌, ◌++◌, length, find, position, bytes_eq}
 use Rattle.std.specs.Ordering.{int_eq}
 use Rattle.c_written.specs.declared.place.Pos.{Pos}
 use Rattle.c_written.specs.declared.int_type.IntType.{IntType}
 use Rattle.c_written.specs.Integer.{wrapped}
 use Rattle.c_written.specs.Written as written
 use Rattle.c_written.specs.WrittenParts.{expr_pos, stmt_pos}
-use Rattle.c_written.specs.WrittenDecl.{DeclTree}
 use Rattle.c_written.specs.WrittenFile as files
 use Rattle.c_written.specs.WrittenFile.{ForStartTree, StmtTree, BlockItemTrees}
 use Rattle.c_syntax.specs.declared.op.Op.TheVariants as ops
@@ -16,11 +15,11 @@ use Rattle.c_syntax.specs.TypedExpr.{TExprTree}
 use Rattle.c_syntax.specs.TypedParts.{texpr_type}
 use Rattle.c_syntax.specs.TypedStmt.{TStmtTree, TStmtTrees, Empty, Expr, Block, If, While, DoWhile, For, Switch, Break, Continue, Goto, Return, Label, Case, Default, none, more}
 use Rattle.c_layout.specs.Conversion.{promoted}
-use Rattle.c_typing.specs.World.{World, no_rule, Undeclared, Redeclared, NotConstant, Outcome, Typed, Refused, Then, Is}
+use Rattle.c_typing.specs.World.{World, no_rule, Undeclared, NotConstant, Outcome, Typed, Refused, Then, Is}
 use Rattle.c_typing.specs.Names.{opened, closed, unless_declared}
 use Rattle.c_typing.specs.Constants.{constant_value}
 use Rattle.c_typing.specs.Operands.{not_used, as_int}
-use Rattle.c_typing.specs.Rows.{is_scalar, store_row}
+use Rattle.c_typing.specs.Rows.{store_row}
 use Rattle.c_typing.specs.Nodes.{tested}
 use Rattle.c_typing.specs.Typing.{Types, Valued}
 use Rattle.c_typing.specs.Context.{Context, inside_block, inside_loop, inside_switch}
@@ -38,7 +37,7 @@ label_before w name = option_map (λ l. l.pos) (find (λ l. bytes_eq l.label nam
 abbrev pub labelled : World → Pos → List ℕ → Outcome ℕ
 labelled w at name =
     unless_declared at (label_before w name)
-      (Typed (length w.labels) (record w { labels = w.labels ++ record { label = name; pos = at } ∷ [] }))
+    (Typed (length w.labels) (record w { labels = w.labels ++ record { label = name; pos = at } ∷ [] }))
 
 -- a goto to a label of the function (C11 6.8.6.1p1)
 abbrev pub jumped : World → Pos → Option ℕ → Outcome TStmtTrees

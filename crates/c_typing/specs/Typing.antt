@@ -1,6 +1,6 @@
 -- Which operand an expression is, and which type specs and declarators name. Each part is typed in the program that the part before it left,
 -- so the order of the text is that of the parts here.
-use Rattle.std.specs.Prelude.{◌≡◌, ℕ, ◌+◌, ◌<◌, ◌==◌, nat_lt, nat_le, ◌^◌, ℤ, pos, neg_ℤ, ◌+ℤ◌, int_le, Bool, true, false, ◌&&◌, ◌||◌, not, if◌then◌else◌, Option, Some, None, option_map, unwrap_or, List, [], ◌∷◌, ◌++◌, map, length, drop, find, bytes_eq, ⊤}
+use Rattle.std.specs.Prelude.{ℕ, ◌+◌, nat_lt, nat_le, ◌^◌, ℤ, pos, ◌+ℤ◌, int_le, Bool, false, ◌&&◌, ◌||◌, if◌then◌else◌, Option, Some, None, option_map, unwrap_or, List, [], ◌∷◌, ◌++◌, map, length, drop, find, bytes_eq}
 use Rattle.c_written.specs.declared.place.Pos.{Pos}
 use Rattle.c_written.specs.declared.construct.Construct.TheVariants as constructs
 use Rattle.c_written.specs.declared.int_type.IntType.TheVariants as ints
@@ -13,12 +13,12 @@ use Rattle.c_syntax.specs.declared.operator.StepTime.TheVariants as times
 use Rattle.c_syntax.specs.Types.{CTypeTree, Int, Struct}
 use Rattle.c_syntax.specs.TypedExpr.{TExprTree, TExprTrees, none, texprs_then}
 use Rattle.c_syntax.specs.Program.{MemberTree}
-use Rattle.c_layout.specs.Layout.{Space, padded, members_end, spaces_by, stored, align_in}
+use Rattle.c_layout.specs.Layout.{padded, members_end, spaces_by, stored, align_in}
 use Rattle.c_layout.specs.RowTypes.{has_const_elements}
-use Rattle.c_typing.specs.World.{World, Form, Whole, Unsized, Callable, Binding, TagBinding, Meaning, Parameter, TypeName, Enumeration, no_rule, Undeclared, Redeclared, NotConstant, ObjectTooLarge, Unsupported, Outcome, Typed, Refused, Then, Is, unless}
+use Rattle.c_typing.specs.World.{World, Form, Whole, Unsized, Callable, Meaning, Parameter, TypeName, Enumeration, no_rule, Undeclared, NotConstant, ObjectTooLarge, Unsupported, Outcome, Typed, Refused, Then, Is, unless}
 use Rattle.c_typing.specs.Names.{meaning_of, first_here, unless_declared, opened, closed, with_name, struct_named, struct_opened, with_members, enum_named, enum_opened, enum_closed}
 use Rattle.c_typing.specs.Constants.{constant_value}
-use Rattle.c_typing.specs.Operands.{OperandTree, Place, Value, value_of, operand_type}
+use Rattle.c_typing.specs.Operands.{OperandTree, value_of, operand_type}
 use Rattle.c_typing.specs.Specifiers.{SpecsTree, no_specs_yet, SpecPart, StoragePart, ConstPart, WordPart, TypePart, with_part, OfPlainType, type_told}
 use Rattle.c_typing.specs.Specifiers as places
 use Rattle.c_typing.specs.Declarators.{DeclaredName, ParameterTree, Step, PointerTo, ArrayOf, OpenArray, FunctionOf, Shape, place_of, unknown_function, unless_incomplete, laid, parameter_type}
@@ -36,12 +36,12 @@ abbrev pub sized_name : Pos → Outcome Form → Outcome Form
 sized_name first (Typed (Unsized of is_const) w) = Refused (NotConstant first)
 sized_name first outcome = outcome
 
+abbrev pub unnamed : Option DeclaredName → Outcome Form → Outcome Form
+unnamed None outcome = outcome
+unnamed (Some named) outcome = Refused (Undeclared named.pos)
+
 abbrev pub type_name : World → Pos → Form → Shape → Outcome Form
-type_name w first base shape = by_name shape.name
-  where
-    by_name : Option DeclaredName → Outcome Form
-    by_name None = sized_name first (laid w first shape.steps base)
-    by_name (Some named) = Refused (Undeclared named.pos)
+type_name w first base shape = unnamed shape.name (sized_name first (laid w first shape.steps base))
 
 -- a typedef name (C11 6.7.8p3)
 abbrev pub typedef_named : World → Pos → Option Meaning → Outcome SpecPart
@@ -99,8 +99,8 @@ with_member w named ty done =
 abbrev pub member_sized : World → DeclaredName → CTypeTree → Bool → List MemberMade → ℕ → Outcome (List MemberMade)
 member_sized w named ty is_const done size =
     unless_declared named.pos (member_named done named.name)
-      (unless (nat_lt (2 ^ 40) (next_offset w done ty + size)) (ObjectTooLarge named.pos (2 ^ 40))
-      (unless (is_const || has_const_elements ty) (Unsupported named.pos constructs.ConstMember) (Typed (with_member w named ty done) w)))
+    (unless (nat_lt (2 ^ 40) (next_offset w done ty + size)) (ObjectTooLarge named.pos (2 ^ 40))
+    (unless (is_const || has_const_elements ty) (Unsupported named.pos constructs.ConstMember) (Typed (with_member w named ty done) w)))
 
 abbrev pub member_of : World → DeclaredName → Form → List MemberMade → Outcome (List MemberMade)
 member_of w named (Whole ty is_const) done = unless_incomplete w named.pos ty (member_sized w named ty is_const done)
@@ -111,12 +111,12 @@ abbrev pub member_laid : DeclaredName → List MemberMade → Outcome Form → O
 member_laid named done (Typed form w) = member_of w named form done
 member_laid named done (Refused r) = Refused r
 
+abbrev pub with_its_name : {A : Type 0} → Pos → Option DeclaredName → (DeclaredName → Outcome A) → Outcome A
+with_its_name first None outcome = Refused (Undeclared first)
+with_its_name first (Some named) outcome = outcome named
+
 abbrev pub member_made : World → Pos → Form → List MemberMade → Shape → Outcome (List MemberMade)
-member_made w first base done shape = by_name shape.name
-  where
-    by_name : Option DeclaredName → Outcome (List MemberMade)
-    by_name None = Refused (Undeclared first)
-    by_name (Some named) = member_laid named done (laid w named.pos shape.steps base)
+member_made w first base done shape = with_its_name first shape.name (λ named. member_laid named done (laid w named.pos shape.steps base))
 
 -- ---- parameters
 
@@ -265,7 +265,7 @@ unfoldable mutual
   TypesParams w done written.no_params o = Is (Typed done w) o
   TypesParams w done (written.more_params (written.Named at specs declarator) rest) o =
       Then (OfParameter (length done) (first_of at specs) (TypesSpecs w false no_specs_yet specs) (λ v. TypesDeclarator v declarator))
-        (λ param w1. TypesParams w1 (done ++ param ∷ []) rest) o
+      (λ param w1. TypesParams w1 (done ++ param ∷ []) rest) o
   TypesParams w done (written.more_params (written.Abstract at specs declarator) rest) o =
       Then (OfParameter (length done) (first_of at specs) (TypesSpecs w false no_specs_yet specs) (λ v. TypesDeclarator v declarator))
-        (λ param w1. TypesParams w1 (done ++ param ∷ []) rest) o
+      (λ param w1. TypesParams w1 (done ++ param ∷ []) rest) o
