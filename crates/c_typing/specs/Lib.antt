@@ -16,3 +16,4 @@ pub mod Stmts
 pub mod Settled
 pub mod File
 pub mod Laws
+pub mod Samples
