@@ -12,9 +12,7 @@ use Rattle.c_typing.specs.Inits as lists
 use Rattle.c_typing.specs.Settled.{settled_expr, settled_place, settled_exprs, settled_stmt, settled_stmts}
 use Rattle.c_typing.specs.Context.{name_in, is_plain_name, is_function_declarator, has_storage, written_labels, written_labels_in}
 use Rattle.c_typing.specs.Stmts.{TypesStmt, TypesItems}
-use Rattle.c_typing.specs.File.{TypesFile, NoProgram, TypesOuters, with_counted, initials_from}
-use Rattle.c_typing.specs.World.{NoRule}
-use Rattle.c_typing.specs.Samples as samples
+use Rattle.c_typing.specs.File.{TypesOuters, with_counted, initials_from}
 use Rattle.c_typing.specs.Samples.{SamplesAreTyped}
 
 pub samples_are_typed : SamplesAreTyped

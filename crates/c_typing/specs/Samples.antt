@@ -1,5 +1,5 @@
 -- Small files as they are written, and what comes of them.
-use Rattle.std.specs.Prelude.{ℕ, ℤ, pos, true, false, None, Some, List, [], ◌∷◌, codes}
+use Rattle.std.specs.Prelude.{ℕ, pos, true, false, None, Some, [], ◌∷◌, codes}
 use Rattle.c_written.specs.declared.place.Pos.{Pos}
 use Rattle.c_written.specs.declared.int_type.IntType.TheVariants as ints
 use Rattle.c_written.specs.declared.token.Constant.{Constant}
