@@ -1,3 +1,6 @@
 pub mod One
+pub mod Reaches
+pub mod NodesGo
+pub mod TypesGo
 pub mod OneFile
 pub mod Samples
