@@ -6,7 +6,15 @@ use Rattle.c_written.specs.declared.written.Tag.{Tag}
 use Rattle.c_syntax.specs.Types.{CTypeTree}
 use Rattle.c_syntax.specs.Program.{MemberTree}
 use Rattle.c_typing.specs.World.{World, Meaning, TagMeaning, Outcome, Typed, Refused, Refusal, Then, goes_on, stops, Is, unless}
-use Rattle.c_typing.specs.Names.{opened, closed, with_name, with_struct, with_tag, with_tag_become, with_members, with_literal}
+use Rattle.c_typing.specs.Names.{opened, closed, with_name, with_struct, with_tag, with_tag_become, with_members, with_literal, with_initial}
+use Rattle.c_syntax.specs.declared.program.InitByte.{InitByte}
+use Rattle.c_syntax.specs.Types.{ObjectTree}
+use Rattle.c_syntax.specs.Program.{TFunctionTree}
+use Rattle.c_typing.specs.World.{Binding, TagBinding, Linked, Labelled, CaseAt}
+use Rattle.c_typing.specs.Declarators.{DeclaredName, ParameterTree}
+use Rattle.c_typing.specs.Decls as decls
+use Rattle.c_typing.specs.File as files
+use Rattle.c_typing.specs.Laws.{IsSameFunction}
 
 -- one world is had from another by the changes that typing makes
 pub data Reaches : World → World → Type 0 where
@@ -18,7 +26,21 @@ pub data Reaches : World → World → Type 0 where
   tagged : (w : World) (tag : Tag) (defined : Option Pos) (meaning : TagMeaning) → Reaches w (with_tag w tag defined meaning)
   tag_changed : (w : World) (tag : List ℕ) (defined : Option Pos) (meaning : TagMeaning) → Reaches w (with_tag_become w tag defined meaning)
   completed : (w : World) (n : ℕ) (members : List MemberTree) → Reaches w (with_members w n members)
+  opens : (w : World) → Reaches w (opened w)
   scoped : (u v : World) → Reaches (opened u) v → Reaches u (closed u v)
+  object : (w : World) (x : ObjectTree) → Reaches w (decls.with_object w x)
+  counted : (w : World) (size : ℕ) → Reaches w (decls.with_total w size)
+  sized : (w : World) (n : ℕ) (ty : CTypeTree) (size : ℕ) → Reaches w (decls.with_sized w n ty size)
+  initial : (w : World) (n : ℕ) (bytes : List InitByte) → Reaches w (with_initial w n bytes)
+  linked : (w : World) (named : DeclaredName) (meaning : Meaning) (defined : Bool) → Reaches w (decls.with_linked w named meaning defined)
+  defined : (w : World) (name : List ℕ) (now : Bool) → Reaches w (decls.with_defined w name now)
+  retyped : (w : World) (list : List Linked) → Reaches w (record w { linked = list })
+  parameters : (w : World) (params : List ParameterTree) → Reaches w (decls.with_parameters w params)
+  function : (w : World) (types : List CTypeTree) (f : TFunctionTree) → Reaches w (decls.with_function_entry w types f)
+  function_changed : (w : World) (n : ℕ) (change : TFunctionTree → TFunctionTree) → ((f : TFunctionTree) → IsSameFunction f (change f)) → Reaches w (files.with_function_at w n change)
+  labelled : (w : World) (labels : List Labelled) → Reaches w (record w { labels = labels })
+  cased : (w : World) (cases : List CaseAt) (default : Option Pos) → Reaches w (record w { cases = cases; default = default })
+  in_body : (u v : World) (first : ℕ) (names : List Binding) (tags : List TagBinding) → Reaches (files.in_body u first names tags) v → Reaches u (record (closed u v) { labels = []; cases = []; default = None })
 
 -- what is typed goes on from this world
 pub data Goes {A : Type 0} (w : World) : Outcome A → Type 0 where
