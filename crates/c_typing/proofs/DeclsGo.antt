@@ -1,6 +1,5 @@
 -- Initialisers and declarations only make the changes of Reaches.
-use Rattle.std.proofs.Common.{◌≡◌, refl}
-use Rattle.std.specs.Prelude.{ℕ, ◌+◌, nat_lt, Bool, true, false, not, ◌&&◌, is_some, if◌then◌else◌, Option, Some, None, List, [], ◌∷◌, length}
+use Rattle.std.specs.Prelude.{ℕ, nat_lt, Bool, true, false, not, ◌&&◌, is_some, if◌then◌else◌, Option, Some, None, List, [], ◌∷◌, length}
 use Rattle.c_written.specs.declared.place.Pos.{Pos}
 use Rattle.c_written.specs.declared.construct.Construct.TheVariants as constructs
 use Rattle.c_written.specs.declared.written.StorageWord.{StorageWord}
@@ -10,10 +9,8 @@ use Rattle.c_written.specs.WrittenParts.{expr_pos}
 use Rattle.c_written.specs.WrittenDecl as inits
 use Rattle.c_written.specs.WrittenDecl.{InitTree, InitTrees, DeclTree, InitDeclaratorTree}
 use Rattle.c_syntax.specs.declared.op.Op.TheVariants as ops
-use Rattle.c_syntax.specs.Types.{CTypeTree, Void, Array}
-use Rattle.c_syntax.specs.TypedExpr.{TExprTree}
-use Rattle.c_syntax.specs.TypedStmt.{TInitTree}
-use Rattle.c_typing.specs.World.{World, Form, Whole, Unsized, Callable, Meaning, Object, Missing, Parameter, Function, TypeName, Enumeration, Binding, Linked, Refusal, no_rule, Redeclared, NotConstant, ObjectTooLarge, Unsupported, Outcome, Typed, Refused, Then, Is}
+use Rattle.c_syntax.specs.Types.{CTypeTree, Array}
+use Rattle.c_typing.specs.World.{World, Form, Whole, Unsized, Callable, Meaning, Object, Missing, Parameter, Function, TypeName, Enumeration, Binding, Linked, Refusal, no_rule, NotConstant, ObjectTooLarge, Unsupported, Outcome, Typed, Refused}
 use Rattle.c_typing.specs.Names as names
 use Rattle.c_typing.specs.Operands.{is_unsized}
 use Rattle.c_typing.specs.Rows.{Stored}
@@ -57,7 +54,7 @@ into f o s = f s.part2 s.after o s.goes
 pub with_text : (w : World) (static : Bool) (part : Part) (at : Pos) (text : List ℕ) → AllGo w (WithText w static part at text)
 with_text w static part at text =
     either _ (is_goes (fill_text w part _ at text))
-      (then_goes (valued (go w (written.Strings at text))) (λ x v r. then_goes (is_goes (filled_by v static part at _ _)) (λ item v2 r2. is_goes goes_same)))
+    (then_goes (valued (go w (written.Strings at text))) (λ x v r. then_goes (is_goes (filled_by v static part at _ _)) (λ item v2 r2. is_goes goes_same)))
 
 pub typed_and_refused : {A : Type 0} (w : World) (e : written.ExprTree) (refusal : World → Refusal) → AllGo w (TypedAndRefused {A = A} w e refusal)
 typed_and_refused w e refusal = then_goes (valued (go w e)) (λ x v r. is_goes refused)
@@ -69,13 +66,13 @@ mutual
   go_inits w static all done inits.no_inits = is_goes goes_same
   go_inits w static all done (inits.more_inits (inits.Braces at inner) rest) =
       at_part _ (is_goes refused) (λ part. either _ (go_in_braces w _ at inner)
-        (then_goes (go_inits w static _ _ inner) (λ filled v r. go_inits v static all _ rest)))
+      (then_goes (go_inits w static _ _ inner) (λ filled v r. go_inits v static all _ rest)))
   go_inits w static all done (inits.more_inits (inits.Value (written.Strings at text)) rest) =
       either _ (then_goes (is_goes (fill_text w _ _ at text)) (λ items v r. go_inits v static all _ rest))
-        (at_part _ (typed_and_refused w _ _) (λ part. into (λ inner after. then_goes (with_text w static inner at text) (λ items v r. go_inits v static all _ rest))))
+      (at_part _ (typed_and_refused w _ _) (λ part. into (λ inner after. then_goes (with_text w static inner at text) (λ items v r. go_inits v static all _ rest))))
   go_inits w static all done (inits.more_inits (inits.Value e) rest) =
       at_part _ (typed_and_refused w e _) (λ part. then_goes (valued (go w e)) (λ x v r. into (λ inner after.
-        then_goes (is_goes (filled_by v static inner (expr_pos e) _ _)) (λ item v2 r2. go_inits v2 static all _ rest))))
+      then_goes (is_goes (filled_by v static inner (expr_pos e) _ _)) (λ item v2 r2. go_inits v2 static all _ rest))))
 
   pub go_in_braces : (w : World) (refusal : _) (at : Pos) (items : InitTrees) → AllGo w (TypesInBraces w refusal at items)
   go_in_braces w refusal at inits.no_inits = is_goes refused
@@ -118,9 +115,9 @@ function_again w around named params types result (Some l) = typed (reaches.name
 pub function_declared : (w : World) (around : Context) (named : DeclaredName) (params : List ParameterTree) (types : List CTypeTree) (result : CTypeTree) (has_body : Bool) → Goes w (decls.function_declared w around named params types result has_body)
 function_declared w around named params types result has_body =
     goes_if (names.is_reserved named.name)
-      (goes_if (decls.is_input_type types result (names.input_type named.name) && not has_body) goes_same refused)
-      (unless_other named.pos (decls.binding_here w named.name) (names.linked_as w named.name) (decls.is_function_so w types result has_body) _
-        (λ l. unless_main_shape named (decls.is_main_shape types result) (function_again w around named params types result l)))
+    (goes_if (decls.is_input_type types result (names.input_type named.name) && not has_body) goes_same refused)
+    (unless_other named.pos (decls.binding_here w named.name) (names.linked_as w named.name) (decls.is_function_so w types result has_body) _
+    (λ l. unless_main_shape named (decls.is_main_shape types result) (function_again w around named params types result l)))
 
 pub local_object : (w : World) (named : DeclaredName) (ty : CTypeTree) (c is_static : Bool) (size : ℕ) → Reaches w (decls.local_object w named ty c is_static size)
 local_object w named ty c is_static size =
@@ -156,7 +153,7 @@ object_world w named ty c size how (Some l) =
 pub counted_once : {A : Type 0} (w : World) (at : Pos) (size : ℕ) (how : FileObject) (l : Option Linked) (outcome : World → Outcome A) → ((v : World) → Goes v (outcome v)) → Goes w (decls.counted_once w at size how l outcome)
 counted_once w at size how l outcome f =
     goes_if (how.defines && not (decls.is_defined l)) (within_limits at size w (goes_after (reaches.counted w size) (f _)))
-      (goes_unless (how.is_there && nat_lt names.object_limit size) (ObjectTooLarge at size) (f w))
+    (goes_unless (how.is_there && nat_lt names.object_limit size) (ObjectTooLarge at size) (f w))
 
 pub file_sized : (w : World) (named : DeclaredName) (ty : CTypeTree) (c : Bool) (how : FileObject) (l : Option Linked) → Goes w (decls.file_sized w named ty c how l)
 file_sized w named ty c how l =
@@ -172,9 +169,9 @@ file_object w named ty c how l = goes_if (is_unsized ty) (file_unsized w named t
 pub file_declared : (w : World) (named : DeclaredName) (ty : CTypeTree) (c : Bool) (how : FileObject) → Goes w (decls.file_declared w named ty c how)
 file_declared w named ty c how =
     goes_unless (how.in_block && how.has_init) (no_rule w named.pos ops.Init ty None)
-      (goes_if (names.is_reserved named.name) refused
-        (unless_other named.pos (decls.binding_here w named.name) (names.linked_as w named.name) (decls.is_object_again w ty c how.has_init) _
-          (λ l. file_object w named (decls.composite_type w ty l) c how l)))
+    (goes_if (names.is_reserved named.name) refused
+    (unless_other named.pos (decls.binding_here w named.name) (names.linked_as w named.name) (decls.is_object_again w ty c how.has_init) _
+    (λ l. file_object w named (decls.composite_type w ty l) c how l)))
 
 pub file_form : (w : World) (named : DeclaredName) (form : Form) (how : FileObject) → Goes w (decls.file_form w named form how)
 file_form w named (Whole ty c) how = if_sized_in named.pos ty _ (λ size. file_declared w named ty c how)

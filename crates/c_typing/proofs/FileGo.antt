@@ -1,5 +1,5 @@
 -- Statements, functions and files only make the changes of Reaches.
-use Rattle.std.proofs.Common.{◌≡◌, sym, subst, refl}
+use Rattle.std.proofs.Common.{sym, subst, refl}
 use Rattle.std.specs.Prelude.{ℕ, ℤ, Bool, true, false, if◌then◌else◌, Option, Some, None, List, [], ◌∷◌, length, ⊤}
 use Rattle.c_written.specs.declared.place.Pos.{Pos}
 use Rattle.c_written.specs.declared.int_type.IntType.{IntType}
@@ -16,9 +16,9 @@ use Rattle.c_typing.specs.World.{World, Form, Whole, Unsized, Callable, Binding,
 use Rattle.c_typing.specs.Names.{opened, closed}
 use Rattle.c_typing.specs.Constants.{constant_value}
 use Rattle.c_typing.specs.Specifiers as specifiers
-use Rattle.c_typing.specs.Declarators.{DeclaredName, ParameterTree, Step, PointerTo, ArrayOf, OpenArray, FunctionOf, Shape}
+use Rattle.c_typing.specs.Declarators.{DeclaredName, ParameterTree, Step, PointerTo, ArrayOf, OpenArray, FunctionOf}
 use Rattle.c_typing.specs.Typing as typing
-use Rattle.c_typing.specs.Context.{Context, file_context, in_function, inside_block, inside_loop, inside_switch}
+use Rattle.c_typing.specs.Context.{Context, in_function, inside_block, inside_loop, inside_switch}
 use Rattle.c_typing.specs.Decls.{Made, nothing_made, is_word}
 use Rattle.c_typing.specs.Stmts as stmts
 use Rattle.c_typing.specs.Stmts.{TypesStmt, without_cases}
@@ -131,10 +131,10 @@ mutual
       inside r2 (substatement v2 _ (λ u. go_stmt u (inside_block around) second)) (λ b v3 r3. is_goes (in_scope r3))))
   go_stmt w around (files.Switch at value (files.Block block_at items)) =
       scope_goes (switch_value (opened w) at value) (λ s v r. inside (reaches.after _ _ _ r (reaches.cased v [] None))
-        (block (without_cases v) _ (λ u. go_items u (inside_switch s.ty around) nothing_made items)) (λ made v2 r2. is_goes (with_cases r2)))
+      (block (without_cases v) _ (λ u. go_items u (inside_switch s.ty around) nothing_made items)) (λ made v2 r2. is_goes (with_cases r2)))
   go_stmt w around (files.Switch at value body) =
       scope_goes (switch_value (opened w) at value) (λ s v r. scope_goes (go_stmt (opened (without_cases v)) (inside_switch s.ty around) body) (λ items v2 r2.
-        is_goes (with_cases (reaches.after _ _ _ r (reaches.after _ _ _ (reaches.cased v [] None) (reaches.after _ _ _ (reaches.opens _) r2))))))
+      is_goes (with_cases (reaches.after _ _ _ r (reaches.after _ _ _ (reaches.cased v [] None) (reaches.after _ _ _ (reaches.opens _) r2))))))
   go_stmt w around (files.While at c body) =
       scope_goes (condition (opened w) at c) (λ x v r. inside r (substatement v _ (λ u. go_stmt u (inside_loop around) body)) (λ b v2 r2. is_goes (in_scope r2)))
   go_stmt w around (files.DoWhile at body c) =

@@ -4,5 +4,6 @@ pub mod NodesGo
 pub mod TypesGo
 pub mod DeclsGo
 pub mod FileGo
+pub mod Adds
 pub mod OneFile
 pub mod Samples

@@ -1,5 +1,5 @@
 -- Nodes of expressions leave the world as it is, but for literals.
-use Rattle.std.specs.Prelude.{ℕ, ◌+◌, nat_lt, length, Bool, true, false, Option, Some, None, List, [], ◌∷◌}
+use Rattle.std.specs.Prelude.{ℕ, ◌+◌, nat_lt, length, Option, Some, None, List}
 use Rattle.c_written.specs.declared.place.Pos.{Pos}
 use Rattle.c_written.specs.declared.int_type.IntType.{IntType}
 use Rattle.c_written.specs.declared.written.UnaryOp.{UnaryOp}
@@ -37,7 +37,7 @@ word w at name = goes_if _ refused (named w at _)
 pub within_limits : {A : Type 0} {v : World} (at : Pos) (size : ℕ) (w : World) {o : Outcome A} → Goes v o → Goes v (names.within_limits at size w o)
 within_limits at size w p =
     goes_unless (nat_lt names.object_limit size) (ObjectTooLarge at size)
-      (goes_unless (nat_lt names.total_limit (w.total + size)) (TotalTooLarge at (w.total + size)) p)
+    (goes_unless (nat_lt names.total_limit (w.total + size)) (TotalTooLarge at (w.total + size)) p)
 
 pub literal_node : (w : World) (at : Pos) (bytes : List ℕ) → Goes w (nodes.literal w at bytes)
 literal_node w at bytes = within_limits at (length bytes + 1) w (typed (literal w at bytes))

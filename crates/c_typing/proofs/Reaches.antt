@@ -1,6 +1,6 @@
 -- How a world goes on: each change that typing makes, and what parts of the text it makes it for.
-use Rattle.std.proofs.Common.{◌≡◌, sym, ◌∙◌, subst, ap, refl}
-use Rattle.std.specs.Prelude.{ℕ, ℤ, Bool, true, false, if◌then◌else◌, Option, Some, None, List, [], ◌∷◌, length}
+use Rattle.std.proofs.Common.{sym, subst}
+use Rattle.std.specs.Prelude.{ℕ, Bool, true, false, if◌then◌else◌, Option, None, List, []}
 use Rattle.c_written.specs.declared.place.Pos.{Pos}
 use Rattle.c_written.specs.declared.written.Tag.{Tag}
 use Rattle.c_syntax.specs.Types.{CTypeTree}

@@ -1,5 +1,5 @@
 -- Types of expressions, specs and declarators only make the changes of Reaches.
-use Rattle.std.specs.Prelude.{ℕ, ◌+◌, ◌^◌, nat_lt, ◌||◌, ℤ, pos, negsuc, Bool, true, false, Option, Some, None, List, [], ◌∷◌, ⊤}
+use Rattle.std.specs.Prelude.{ℕ, ◌+◌, ◌^◌, nat_lt, ◌||◌, ℤ, pos, negsuc, Bool, Option, Some, None, List, [], ◌∷◌}
 use Rattle.c_written.specs.declared.place.Pos.{Pos}
 use Rattle.c_written.specs.declared.written.Tag.{Tag}
 use Rattle.c_written.specs.Written as written
@@ -186,8 +186,8 @@ array_sized w size_at shape (Some (negsuc n)) = refused
 pub member_sized : (w : World) (named : DeclaredName) (ty : CTypeTree) (is_const : Bool) (done : List MemberMade) (size : ℕ) → Goes w (typing.member_sized w named ty is_const done size)
 member_sized w named ty is_const done size =
     unless_declared named.pos _
-      (goes_unless (nat_lt (2 ^ 40) (typing.next_offset w done ty + size)) (ObjectTooLarge named.pos (2 ^ 40))
-        (goes_unless (is_const || has_const_elements ty) (Unsupported named.pos constructs.ConstMember) goes_same))
+    (goes_unless (nat_lt (2 ^ 40) (typing.next_offset w done ty + size)) (ObjectTooLarge named.pos (2 ^ 40))
+    (goes_unless (is_const || has_const_elements ty) (Unsupported named.pos constructs.ConstMember) goes_same))
 
 pub member_of : (w : World) (named : DeclaredName) (form : Form) (done : List MemberMade) → Goes w (typing.member_of w named form done)
 member_of w named (Whole ty c) done = if_sized _ _ _ (member_sized w named ty c done)
@@ -267,7 +267,7 @@ mutual
       then_goes (of_type_name _ (go_specs w _ _ specs) (λ v. go_declarator v declarator)) (λ form v r. is_goes (nodes_go.size_of_form v at form))
   go w (written.Cast at specs declarator a) =
       then_goes (of_type_name _ (go_specs w _ _ specs) (λ v. go_declarator v declarator))
-        (λ form v r. then_goes (valued (go v a)) (λ x v2 r2. is_goes (nodes_go.cast v2 at form x)))
+      (λ form v r. then_goes (valued (go v a)) (λ x v2 r2. is_goes (nodes_go.cast v2 at form x)))
   go w (written.Binary at op a b) = then_goes (valued (go w a)) (λ x v r. then_goes (valued (go v b)) (λ y v2 r2. is_goes (nodes_go.given _ _ v2)))
   go w (written.Cond at c a b) =
       then_goes (valued (go w c)) (λ z v r. then_goes (valued (go v a)) (λ x v2 r2. then_goes (valued (go v2 b)) (λ y v3 r3. is_goes (nodes_go.conditional v3 at z x y))))

@@ -20,10 +20,10 @@
 //! | initialisers and the bytes of static objects | `CurrentObject`, `Inits` |
 //! | declarations, statements, functions, the file | `Context`, `Decls`, `Stmts`, `Settled`, `File` |
 //!
-//! That a file has one outcome at most is promised by `files_have_one`, and what small files come to by
-//! `samples_are_typed` (`Samples`).
+//! That a file has one outcome at most is promised by `files_have_one`, that typing only adds to a program
+//! by `typing_adds`, and what small files come to by `samples_are_typed` (`Samples`).
 #![tactic(auto)]
 
 mod laws;
 
-pub use laws::{files_have_one, samples_are_typed};
+pub use laws::{files_have_one, samples_are_typed, typing_adds};
