@@ -1,7 +1,7 @@
 // The shapes of initialisers, declarations, statements and files, as text.
 
 use crate::exprs::{Written, declarator_shape, expr, name, spec_list};
-use c_written::{BlockItem, Decl, Expr, File, ForStart, Init, Outer, Stmt};
+use c_written::{BlockItem, Decl, Expr, File, ForHead, ForStart, Init, Outer, Stmt};
 
 pub fn file(out: &mut String, file: &File) -> Written {
     for item in file.outers.as_slice() {
@@ -143,26 +143,8 @@ fn stmt(out: &mut String, depth: u32, s: &Stmt) -> Written {
             stmt(out, depth - 1, body)?;
             out.push(')')
         }
-        Stmt::For {
-            start,
-            condition,
-            step,
-            body,
-            ..
-        } => {
-            out.push_str("(for ")?;
-            match start {
-                ForStart::Nothing => out.push(';')?,
-                ForStart::Value(value) => {
-                    expr(out, depth, value)?;
-                    out.push(';')?;
-                }
-                ForStart::Declares(found) => decl(out, depth, found)?,
-            }
-            maybe(out, condition)?;
-            out.push(';')?;
-            maybe(out, step)?;
-            out.push(' ')?;
+        Stmt::For { head, body, .. } => {
+            for_head(out, depth, head)?;
             stmt(out, depth - 1, body)?;
             out.push(')')
         }
@@ -187,7 +169,23 @@ fn head(out: &mut String, word: &str, condition: &Expr) -> Written {
     out.push(' ')
 }
 
-fn maybe(out: &mut String, value: &Option<Expr>) -> Written {
+fn for_head(out: &mut String, depth: u32, head: &ForHead) -> Written {
+    out.push_str("(for ")?;
+    match &head.start {
+        ForStart::Nothing => out.push(';')?,
+        ForStart::Value(value) => {
+            expr(out, depth, value)?;
+            out.push(';')?;
+        }
+        ForStart::Declares(found) => decl(out, depth, found)?,
+    }
+    maybe(out, &head.condition)?;
+    out.push(';')?;
+    maybe(out, &head.step)?;
+    out.push(' ')
+}
+
+fn maybe(out: &mut String, value: &Option<Box<Expr>>) -> Written {
     match value {
         Some(found) => expr(out, 400, found),
         None => Ok(()),
