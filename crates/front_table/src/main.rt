@@ -12,11 +12,14 @@
 #![tactic(auto)]
 
 mod case;
+mod decls;
 mod exprs;
 mod layouts;
 mod stmts;
+mod text;
 mod tokens;
 mod trees;
+mod types;
 
 use case::Case;
 use std::alloc::Global;
