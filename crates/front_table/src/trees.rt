@@ -8,14 +8,15 @@ use c_parser::{ParseError, parse};
 use c_written::{Construct, File, Pos};
 use std::alloc::{AllocError, Global};
 
-// What a text is.
-enum Reading {
+/// What a text is.
+pub enum Reading {
     Tree(File),
     Uncut(LexError),
     Refused(ParseError),
 }
 
-fn read(alloc: Global, text: &[u8]) -> Reading {
+/// Cuts the text into tokens and parses these.
+pub fn read(alloc: Global, text: &[u8]) -> Reading {
     match cut(alloc, text) {
         Err(error) => Reading::Uncut(error),
         Ok(tokens) => match parse(alloc, &tokens) {
@@ -25,8 +26,8 @@ fn read(alloc: Global, text: &[u8]) -> Reading {
     }
 }
 
-// The line of a refusal by the parser, as `syntax 1:4`.
-fn refused(alloc: Global, error: ParseError) -> Result<String, AllocError> {
+/// The line of a refusal by the parser, as `syntax 1:4`.
+pub fn refused(alloc: Global, error: ParseError) -> Result<String, AllocError> {
     let mut line = String::new(alloc);
     match error {
         ParseError::Syntax(pos) => refusal(&mut line, "syntax", pos)?,
