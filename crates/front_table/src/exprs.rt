@@ -1,7 +1,7 @@
 // Expressions in the short notation: a form stands between parentheses, with its operator in front.
 #![tactic(auto, using(c_written::proofs::Trees::the_written_trees, c_written::proofs::Sizes::the_written_sizes))]
 
-use crate::text::{Written, shown, word};
+use crate::text::{Written, number, shown, word};
 use crate::types::type_name;
 use c_written::{
     AssignOp, BinaryOp, Bytes, Declarator, Expr, Exprs, Name, Specs, StepWay, UnaryOp,
@@ -49,7 +49,7 @@ pub fn expr(out: &mut String, e: &Expr) -> Written {
 fn small(out: &mut String, e: &Expr) -> Written {
     match e {
         Expr::Word { name, .. } => word(out, name),
-        Expr::Number { constant, .. } => shown(out, &constant.value),
+        Expr::Number { constant, .. } => number(out, u128::from(constant.value)),
         Expr::Character { byte, .. } => character(out, *byte),
         Expr::Strings { bytes, .. } => strings(out, bytes),
         Expr::Enclosed { inner, .. } => enclosed(out, inner),
@@ -88,14 +88,14 @@ fn before(way: StepWay) -> &'static str {
 
 fn character(out: &mut String, byte: u8) -> Written {
     out.push('\'')?;
-    shown(out, &byte)?;
+    number(out, u128::from(byte))?;
     out.push('\'')
 }
 
 // How many bytes a text has.
 fn strings(out: &mut String, bytes: &Bytes) -> Written {
     out.push('"')?;
-    shown(out, &bytes.as_slice().len())?;
+    number(out, bytes.as_slice().len() as u128)?;
     out.push('"')
 }
 

@@ -1,6 +1,6 @@
 // The answer of `alarms` as a line.
 
-use crate::text::{Written, place, shown};
+use crate::text::{Written, place, shown, signed};
 use crate::tokens;
 use crate::trees::{self, Reading, read};
 use c_syntax::{Alarm, Example};
@@ -48,7 +48,7 @@ fn alarm_words(out: &mut String, alarm: &Alarm) -> Written {
     place(out, alarm.pos)?;
     out.push(' ')?;
     match &alarm.example {
-        Example::Number(number) => shown(out, number),
+        Example::Number(n) => signed(out, *n),
         _ => out.push_str("no number"),
     }
 }

@@ -3,7 +3,7 @@
 // Types are written from the outside in: `array 3 pointer char` is an array of three pointers to char, `struct 0` the first
 // struct of the case, and `uint`, `llong` and the like are the integer types.
 
-use crate::text::{Written, shown};
+use crate::text::{Written, number, shown, signed};
 use c_layout::{Sized, align_of, balance, literal_type, next_member, promote, size_of, wrap};
 use c_syntax::{CType, Member, Members, StructDef, StructDefs, Target};
 use c_written::{IntType, Name};
@@ -74,7 +74,7 @@ impl Making {
         let own = align_of(&ty, structs);
         let place = next_member(self.end, bytes_of(size_of(&ty, structs)), own);
         told.push(' ')?;
-        shown(told, &place.offset)?;
+        number(told, u128::from(place.offset))?;
         self.end = place.end;
         self.align = self.align.max(own);
         self.members.push(Member {
@@ -112,9 +112,21 @@ fn sized(alloc: Global, structs: &StructDefs, words: &str, told: &mut String) ->
     let Some(ty) = type_of(alloc, words)? else {
         return told.push_str("no type");
     };
-    shown(told, &size_of(&ty, structs))?;
+    size_words(told, size_of(&ty, structs))?;
     told.push(' ')?;
-    shown(told, &align_of(&ty, structs))
+    number(told, u128::from(align_of(&ty, structs)))
+}
+
+fn size_words(told: &mut String, size: Sized) -> Written {
+    match size {
+        Sized::Fits(bytes) => {
+            told.push_str("Fits(")?;
+            number(told, u128::from(bytes))?;
+            told.push(')')
+        }
+        Sized::Oversize => told.push_str("Oversize"),
+        Sized::Incomplete => told.push_str("Incomplete"),
+    }
 }
 
 // Tells what a conversion answers.
@@ -124,7 +136,7 @@ fn converted(word: &str, rest: &str, told: &mut String) -> Written {
         ("promote", Some(t), _) => shown(told, &promote(t)),
         ("balance", Some(a), Some(b)) => shown(told, &balance(a, b)),
         ("wrap", Some(t), _) => match second.parse::<i128>() {
-            Ok(n) => shown(told, &wrap(t, n)),
+            Ok(n) => signed(told, wrap(t, n)),
             Err(_) => told.push_str("no number"),
         },
         ("literal", _, _) => literal(first, second, told),

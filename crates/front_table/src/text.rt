@@ -14,16 +14,32 @@ pub fn word(out: &mut String, name: &Name) -> Written {
     Ok(())
 }
 
-/// A number, or the name of a variant.
+/// A number, in decimal.
+pub fn number(out: &mut String, n: u128) -> Written {
+    if n >= 10 {
+        number(out, n / 10)?;
+    }
+    out.push(char::from(b'0' + (n % 10) as u8))
+}
+
+/// A number with its sign.
+pub fn signed(out: &mut String, n: i128) -> Written {
+    if n < 0 {
+        out.push('-')?;
+    }
+    number(out, n.unsigned_abs())
+}
+
+/// The name of a variant.
 pub fn shown(out: &mut String, value: &impl Debug) -> Written {
     write!(out, "{value:?}")
 }
 
 /// A line and a column, as in `1:7`.
 pub fn place(out: &mut String, pos: Pos) -> Written {
-    shown(out, &pos.line)?;
+    number(out, u128::from(pos.line))?;
     out.push(':')?;
-    shown(out, &pos.col)
+    number(out, u128::from(pos.col))
 }
 
 /// What is refused and where, as in `syntax 1:7`.

@@ -1,7 +1,7 @@
 // The answer of `parse` as a line.
 
 use crate::stmts;
-use crate::text::{Written, refusal, shown};
+use crate::text::{Written, number, refusal, shown};
 use crate::tokens::{self, cut};
 use c_lexer::LexError;
 use c_parser::{ParseError, parse};
@@ -74,7 +74,7 @@ pub fn fronts(alloc: Global, text: &[u8]) -> Result<String, AllocError> {
     for length in 0..text.len() {
         if is_file(alloc, &text[..length])? {
             line.push(' ')?;
-            shown(&mut line, &length)?;
+            number(&mut line, length as u128)?;
         }
     }
     Ok(line)

@@ -1,6 +1,8 @@
 use Rattle.std.proofs.Common.{◌+◌, ◌*◌}
-use Rattle.c_written.specs.Written.{declarator_tree, declarators_tree, enumerator_tree, enumerators_tree, expr_tree, exprs_tree, memberdecl_tree, memberdecls_tree, param_tree, params_tree, spec_tree, specs_tree}
-use Rattle.c_written.specs.Sizes.{declarator_size, declarators_size, enumerator_size, enumerators_size, expr_size, exprs_size, memberdecl_size, memberdecls_size, param_size, params_size, spec_size, specs_size}
+use Rattle.c_written.specs.Written.{declarator_tree, declarators_tree, expr_tree, exprs_tree, param_tree, params_tree, spec_tree, specs_tree}
+use Rattle.c_written.specs.Written.{enumerator_tree, enumerators_tree, memberdecl_tree, memberdecls_tree}
+use Rattle.c_written.specs.Sizes.{declarator_size, declarators_size, expr_size, exprs_size, param_size, params_size, spec_size, specs_size}
+use Rattle.c_written.specs.Sizes.{enumerator_size, enumerators_size, memberdecl_size, memberdecls_size}
 use Rattle.front_table.proofs.+shape.Given as goal
 
 abbrev pub decreases-exprs::expr : goal.decreases-exprs::expr
@@ -34,13 +36,15 @@ abbrev pub decreases-exprs::compound : goal.decreases-exprs::compound
 decreases-exprs::compound l = 4 * (expr_size (expr_tree l.left.now) + expr_size (expr_tree l.right.now)) + 4
 
 abbrev pub decreases-exprs::choice : goal.decreases-exprs::choice
-decreases-exprs::choice l = 4 * (expr_size (expr_tree l.condition.now) + expr_size (expr_tree l.then.now) + expr_size (expr_tree l.otherwise.now)) + 4
+decreases-exprs::choice l =
+    4 * (expr_size (expr_tree l.condition.now) + expr_size (expr_tree l.then.now) + expr_size (expr_tree l.otherwise.now)) + 4
 
 abbrev pub decreases-exprs::sizeof_type : goal.decreases-exprs::sizeof_type
 decreases-exprs::sizeof_type l = 4 * (specs_size (specs_tree l.specs.now) + declarator_size (declarator_tree l.declarator.now)) + 3
 
 abbrev pub decreases-exprs::cast : goal.decreases-exprs::cast
-decreases-exprs::cast l = 4 * (specs_size (specs_tree l.specs.now) + declarator_size (declarator_tree l.declarator.now) + expr_size (expr_tree l.operand.now)) + 3
+decreases-exprs::cast l =
+    4 * (specs_size (specs_tree l.specs.now) + declarator_size (declarator_tree l.declarator.now) + expr_size (expr_tree l.operand.now)) + 3
 
 abbrev pub decreases-types::type_name : goal.decreases-types::type_name
 decreases-types::type_name l = 4 * (specs_size (specs_tree l.specs.now) + declarator_size (declarator_tree l.declarator.now)) + 2
