@@ -37,7 +37,8 @@ pub no_use : (e : TExpr) → IsUseOfPlace (texpr_tree e)
     → ((at : Pos) (place : Box TLvalue Global) → e ≡ exprs.AddressOf at place → ⊥)
     → ((at : Pos) (place : Box TLvalue Global) → e ≡ exprs.Decay at place → ⊥)
     → ((at : Pos) (place : Box TLvalue Global) → e ≡ exprs.Whole at place → ⊥)
-    → ((at : Pos) (time : StepTime) (way : StepWay) (stride : Stride) (place : Box TLvalue Global) → e ≡ exprs.Step at time way stride place → ⊥) → ⊥
+    → ((at : Pos) (time : StepTime) (way : StepWay) (stride : Stride) (place : Box TLvalue Global)
+    → e ≡ exprs.Step at time way stride place → ⊥) → ⊥
 unfolding texpr_tree
 no_use (exprs.Load' at place_box place) h load address decay whole step = load at _ refl
 no_use (exprs.AddressOf' at place_box place) h load address decay whole step = address at _ refl

@@ -1,341 +1,185 @@
-// The shapes of expressions, types and declarators, as text. Each call counts its depth down, so that it ends.
+// Expressions in the short notation: a form stands between parentheses, with its operator in front.
+#![tactic(auto, using(c_written::proofs::Trees::the_written_trees, c_written::proofs::Sizes::the_written_sizes))]
 
-use c_written::{Declarator, Enumerator, Expr, MemberDecl, Name, Param, Spec, StepWay, Tag};
-use std::alloc::AllocError;
+use crate::text::{Written, number, shown, word};
+use crate::types::type_name;
+use c_written::{
+    AssignOp, BinaryOp, Bytes, Declarator, Expr, Exprs, Name, Specs, StepWay, UnaryOp,
+};
 
-pub type Written = Result<(), AllocError>;
-
-pub fn name(out: &mut String, name: &Name) -> Written {
-    for byte in name.as_slice() {
-        out.push(char::from(*byte))?;
-    }
-    Ok(())
-}
-
-fn step(way: StepWay) -> &'static str {
-    match way {
-        StepWay::Up => "++",
-        StepWay::Down => "--",
-    }
-}
-
+/// An expression, as `(Plus a 1)`.
 #[cycle(shape)]
-pub fn expr(out: &mut String, depth: u32, e: &Expr) -> Written {
-    if depth == 0 {
-        return out.push('!');
-    }
-    let depth = depth - 1;
+pub fn expr(out: &mut String, e: &Expr) -> Written {
     match e {
-        Expr::Word { name: word, .. } => name(out, word),
-        Expr::Number { constant, .. } => write!(out, "{}", constant.value),
-        Expr::Character { byte, .. } => write!(out, "'{byte}'"),
-        Expr::Strings { bytes, .. } => {
-            let count = bytes.as_slice().len();
-            write!(out, "\"{count}\"")
-        }
-        Expr::Enclosed { inner, .. } => {
-            out.push('[')?;
-            expr(out, depth, inner)?;
-            out.push(']')
-        }
-        Expr::Index { base, index, .. } => pair(out, depth, "at", base, index),
-        Expr::Call {
-            name: word,
-            args,
-            ..
-        } => {
-            out.push_str("(call ")?;
-            name(out, word)?;
-            for arg in args.as_slice() {
-                out.push(' ')?;
-                expr(out, depth, arg)?;
-            }
-            out.push(')')
-        }
-        Expr::Dot { base, member, .. } => member_of(out, depth, ".", base, member),
-        Expr::Arrow { base, member, .. } => member_of(out, depth, "->", base, member),
-        Expr::PostStep { way, operand, .. } => {
-            out.push_str("(post")?;
-            one(out, depth, step(*way), operand)
-        }
-        Expr::PreStep { way, operand, .. } => {
-            out.push_str("(pre")?;
-            one(out, depth, step(*way), operand)
-        }
-        Expr::Unary { op, operand, .. } => {
-            write!(out, "({op:?}")?;
-            one(out, depth, "", operand)
-        }
-        Expr::SizeofExpr { operand, .. } => {
-            out.push_str("(sizeof")?;
-            one(out, depth, "", operand)
-        }
         Expr::SizeofType {
             specs,
             declarator,
             ..
-        } => {
-            out.push_str("(sizeof ")?;
-            type_name(out, depth, specs.as_slice(), declarator)?;
-            out.push(')')
-        }
+        } => sizeof_type(out, specs, declarator),
         Expr::Cast {
             specs,
             declarator,
             operand,
             ..
-        } => {
-            out.push_str("(cast ")?;
-            type_name(out, depth, specs.as_slice(), declarator)?;
-            one(out, depth, "", operand)
-        }
+        } => cast(out, specs, declarator, operand),
         Expr::Binary {
             op,
             left,
             right,
             ..
-        } => {
-            write!(out, "({op:?}")?;
-            two(out, depth, left, right)
-        }
+        } => binary(out, *op, left, right),
         Expr::Cond {
             condition,
             then,
             otherwise,
             ..
-        } => {
-            out.push_str("(? ")?;
-            expr(out, depth, condition)?;
-            two(out, depth, then, otherwise)
-        }
-        Expr::Assign { left, right, .. } => pair(out, depth, "=", left, right),
+        } => choice(out, condition, then, otherwise),
         Expr::Compound {
             op,
             left,
             right,
             ..
-        } => {
-            write!(out, "({op:?}=")?;
-            two(out, depth, left, right)
-        }
-        Expr::Comma { left, right, .. } => pair(out, depth, ",", left, right),
+        } => compound(out, *op, left, right),
+        _ => small(out, e),
     }
 }
 
+// The expressions of few parts.
 #[cycle(shape)]
-fn pair(out: &mut String, depth: u32, word: &str, left: &Expr, right: &Expr) -> Written {
-    if depth == 0 {
-        return out.push('!');
+fn small(out: &mut String, e: &Expr) -> Written {
+    match e {
+        Expr::Word { name, .. } => word(out, name),
+        Expr::Number { constant, .. } => number(out, u128::from(constant.value)),
+        Expr::Character { byte, .. } => character(out, *byte),
+        Expr::Strings { bytes, .. } => strings(out, bytes),
+        Expr::Enclosed { inner, .. } => enclosed(out, inner),
+        Expr::Index { base, index, .. } => form(out, "(at ", base, index),
+        Expr::Call { name, args, .. } => call(out, name, args),
+        Expr::Dot { base, member, .. } => member_of(out, "(. ", base, member),
+        Expr::Arrow { base, member, .. } => member_of(out, "(-> ", base, member),
+        Expr::PostStep { way, operand, .. } => operation(out, after(*way), operand),
+        Expr::PreStep { way, operand, .. } => operation(out, before(*way), operand),
+        Expr::Unary { op, operand, .. } => unary(out, *op, operand),
+        Expr::SizeofExpr { operand, .. } => operation(out, "(sizeof ", operand),
+        Expr::Assign { left, right, .. } => form(out, "(= ", left, right),
+        Expr::Comma { left, right, .. } => form(out, "(, ", left, right),
+        // `expr` writes these.
+        Expr::SizeofType { .. } => Ok(()),
+        Expr::Cast { .. } => Ok(()),
+        Expr::Binary { .. } => Ok(()),
+        Expr::Cond { .. } => Ok(()),
+        Expr::Compound { .. } => Ok(()),
     }
-    write!(out, "({word}")?;
-    two(out, depth - 1, left, right)
+}
+
+fn after(way: StepWay) -> &'static str {
+    match way {
+        StepWay::Up => "(post++ ",
+        StepWay::Down => "(post-- ",
+    }
+}
+
+fn before(way: StepWay) -> &'static str {
+    match way {
+        StepWay::Up => "(pre++ ",
+        StepWay::Down => "(pre-- ",
+    }
+}
+
+fn character(out: &mut String, byte: u8) -> Written {
+    out.push('\'')?;
+    number(out, u128::from(byte))?;
+    out.push('\'')
+}
+
+// How many bytes a text has.
+fn strings(out: &mut String, bytes: &Bytes) -> Written {
+    out.push('"')?;
+    number(out, bytes.as_slice().len() as u128)?;
+    out.push('"')
 }
 
 #[cycle(shape)]
-fn two(out: &mut String, depth: u32, left: &Expr, right: &Expr) -> Written {
-    if depth == 0 {
-        return out.push('!');
-    }
-    out.push(' ')?;
-    expr(out, depth - 1, left)?;
-    one(out, depth - 1, "", right)
+fn enclosed(out: &mut String, inner: &Expr) -> Written {
+    out.push('[')?;
+    expr(out, inner)?;
+    out.push(']')
 }
 
 #[cycle(shape)]
-fn one(out: &mut String, depth: u32, word: &str, operand: &Expr) -> Written {
-    if depth == 0 {
-        return out.push('!');
+fn call(out: &mut String, name: &Name, args: &Exprs) -> Written {
+    out.push_str("(call ")?;
+    word(out, name)?;
+    for arg in args.as_slice() {
+        out.push(' ')?;
+        expr(out, arg)?;
     }
-    write!(out, "{word} ")?;
-    expr(out, depth - 1, operand)?;
     out.push(')')
 }
 
 #[cycle(shape)]
-fn member_of(out: &mut String, depth: u32, word: &str, base: &Expr, member: &Name) -> Written {
-    if depth == 0 {
-        return out.push('!');
-    }
-    write!(out, "({word} ")?;
-    expr(out, depth - 1, base)?;
+fn member_of(out: &mut String, head: &str, base: &Expr, member: &Name) -> Written {
+    out.push_str(head)?;
+    expr(out, base)?;
     out.push(' ')?;
-    name(out, member)?;
+    word(out, member)?;
+    out.push(')')
+}
+
+// A head, an operand and the parenthesis that closes.
+#[cycle(shape)]
+pub fn operation(out: &mut String, head: &str, operand: &Expr) -> Written {
+    out.push_str(head)?;
+    expr(out, operand)?;
     out.push(')')
 }
 
 #[cycle(shape)]
-fn type_name(out: &mut String, depth: u32, specs: &[Spec], declarator: &Declarator) -> Written {
-    if depth == 0 {
-        return out.push('!');
-    }
-    spec_list(out, depth - 1, specs)?;
-    out.push(' ')?;
-    declarator_shape(out, depth - 1, declarator)
+fn unary(out: &mut String, op: UnaryOp, operand: &Expr) -> Written {
+    out.push('(')?;
+    shown(out, &op)?;
+    operation(out, " ", operand)
+}
+
+// Two operands behind a head.
+#[cycle(shape)]
+fn form(out: &mut String, head: &str, left: &Expr, right: &Expr) -> Written {
+    out.push_str(head)?;
+    expr(out, left)?;
+    operation(out, " ", right)
 }
 
 #[cycle(shape)]
-pub fn spec_list(out: &mut String, depth: u32, specs: &[Spec]) -> Written {
-    if depth == 0 {
-        return out.push('!');
-    }
-    let mut first = true;
-    for item in specs {
-        if !first {
-            out.push(' ')?;
-        }
-        first = false;
-        spec(out, depth - 1, item)?;
-    }
-    Ok(())
-}
-
-fn tag_name(out: &mut String, tag: &Option<Tag>) -> Written {
-    match tag {
-        Some(tag) => name(out, &tag.name),
-        None => Ok(()),
-    }
+fn binary(out: &mut String, op: BinaryOp, left: &Expr, right: &Expr) -> Written {
+    out.push('(')?;
+    shown(out, &op)?;
+    form(out, " ", left, right)
 }
 
 #[cycle(shape)]
-fn spec(out: &mut String, depth: u32, spec: &Spec) -> Written {
-    if depth == 0 {
-        return out.push('!');
-    }
-    match spec {
-        Spec::Storage { word, .. } => write!(out, "{word:?}"),
-        Spec::Const { .. } => out.push_str("const"),
-        Spec::Basic { word, .. } => write!(out, "{word:?}"),
-        Spec::TypedefName { name: word, .. } => {
-            out.push('\'')?;
-            name(out, word)
-        }
-        Spec::Struct { tag, .. } => {
-            out.push_str("struct ")?;
-            name(out, &tag.name)
-        }
-        Spec::StructBody { tag, members, .. } => {
-            out.push_str("struct ")?;
-            tag_name(out, tag)?;
-            out.push('{')?;
-            for MemberDecl::Members {
-                specs,
-                declarators,
-                ..
-            } in members.as_slice() {
-                spec_list(out, depth - 1, specs.as_slice())?;
-                for item in declarators.as_slice() {
-                    out.push(' ')?;
-                    declarator_shape(out, depth - 1, item)?;
-                }
-                out.push(';')?;
-            }
-            out.push('}')
-        }
-        Spec::Enum { tag, .. } => {
-            out.push_str("enum ")?;
-            name(out, &tag.name)
-        }
-        Spec::EnumBody {
-            tag,
-            enumerators,
-            ..
-        } => {
-            out.push_str("enum ")?;
-            tag_name(out, tag)?;
-            out.push('{')?;
-            for item in enumerators.as_slice() {
-                match item {
-                    Enumerator::Plain { name: word, .. } => name(out, word)?,
-                    Enumerator::Valued {
-                        name: word,
-                        value,
-                        ..
-                    } => {
-                        name(out, word)?;
-                        out.push('=')?;
-                        expr(out, depth - 1, value)?;
-                    }
-                }
-                out.push(',')?;
-            }
-            out.push('}')
-        }
-    }
+fn compound(out: &mut String, op: AssignOp, left: &Expr, right: &Expr) -> Written {
+    out.push('(')?;
+    shown(out, &op)?;
+    form(out, "= ", left, right)
 }
 
 #[cycle(shape)]
-pub fn declarator_shape(out: &mut String, depth: u32, declarator: &Declarator) -> Written {
-    if depth == 0 {
-        return out.push('!');
-    }
-    let depth = depth - 1;
-    match declarator {
-        Declarator::Absent => out.push('_'),
-        Declarator::Name { name: word, .. } => name(out, word),
-        Declarator::Grouped { inner, .. } => {
-            out.push('[')?;
-            declarator_shape(out, depth, inner)?;
-            out.push(']')
-        }
-        Declarator::Pointer {
-            is_const,
-            inner,
-            ..
-        } => {
-            out.push_str(if *is_const { "(*const " } else { "(* " })?;
-            declarator_shape(out, depth, inner)?;
-            out.push(')')
-        }
-        Declarator::Array { inner, size, .. } => {
-            out.push_str("(array ")?;
-            declarator_shape(out, depth, inner)?;
-            one(out, depth, "", size)
-        }
-        Declarator::OpenArray { inner, .. } => {
-            out.push_str("(array ")?;
-            declarator_shape(out, depth, inner)?;
-            out.push(')')
-        }
-        Declarator::Function { inner, params, .. } => {
-            out.push_str("(fn ")?;
-            declarator_shape(out, depth, inner)?;
-            for item in params.as_slice() {
-                out.push(' ')?;
-                param(out, depth, item)?;
-            }
-            out.push(')')
-        }
-        Declarator::VoidFunction { inner, .. } => {
-            out.push_str("(fn ")?;
-            declarator_shape(out, depth, inner)?;
-            out.push_str(" void)")
-        }
-    }
+fn choice(out: &mut String, condition: &Expr, then: &Expr, otherwise: &Expr) -> Written {
+    out.push_str("(? ")?;
+    expr(out, condition)?;
+    form(out, " ", then, otherwise)
 }
 
 #[cycle(shape)]
-fn param(out: &mut String, depth: u32, param: &Param) -> Written {
-    if depth == 0 {
-        return out.push('!');
-    }
-    match param {
-        Param::Named {
-            specs,
-            declarator,
-            ..
-        } => {
-            out.push('{')?;
-            type_name(out, depth - 1, specs.as_slice(), declarator)?;
-            out.push('}')
-        }
-        Param::Abstract {
-            specs,
-            declarator,
-            ..
-        } => {
-            out.push('<')?;
-            type_name(out, depth - 1, specs.as_slice(), declarator)?;
-            out.push('>')
-        }
-    }
+fn sizeof_type(out: &mut String, specs: &Specs, declarator: &Declarator) -> Written {
+    out.push_str("(sizeof ")?;
+    type_name(out, specs, declarator)?;
+    out.push(')')
+}
+
+#[cycle(shape)]
+fn cast(out: &mut String, specs: &Specs, declarator: &Declarator, operand: &Expr) -> Written {
+    out.push_str("(cast ")?;
+    type_name(out, specs, declarator)?;
+    operation(out, " ", operand)
 }

@@ -3,9 +3,8 @@
 // Types are written from the outside in: `array 3 pointer char` is an array of three pointers to char, `struct 0` the first
 // struct of the case, and `uint`, `llong` and the like are the integer types.
 
-use c_layout::{
-    Placement, Sized, align_of, balance, literal_type, next_member, promote, size_of, wrap,
-};
+use crate::text::{Written, number, shown, signed};
+use c_layout::{Sized, align_of, balance, literal_type, next_member, promote, size_of, wrap};
 use c_syntax::{CType, Member, Members, StructDef, StructDefs, Target};
 use c_written::{IntType, Name};
 use std::alloc::{AllocError, Global};
@@ -31,40 +30,74 @@ pub fn line(alloc: Global, text: &str) -> Result<String, AllocError> {
 }
 
 // Adds a struct of members of these types, parted by commas, and tells their offsets.
-fn define(
-    alloc: Global,
-    structs: &mut StructDefs,
-    members: &str,
-    told: &mut String,
-) -> Result<(), AllocError> {
-    let mut made = Vec::new(alloc);
-    let (mut end, mut align) = (0, 1);
+fn define(alloc: Global, structs: &mut StructDefs, members: &str, told: &mut String) -> Written {
+    let mut making = Making::new(alloc);
     told.push_str("offsets")?;
     for words in members.split(',').filter(|words| !words.is_empty()) {
-        let Some(ty) = type_of(alloc, words)? else {
-            return told.push_str(" no type");
-        };
+        match type_of(alloc, words)? {
+            Some(ty) => making.push(alloc, ty, structs, told)?,
+            None => return told.push_str(" no type"),
+        }
+    }
+    let mut defs = mem::replace(structs, StructDefs::new(alloc)).into_vec();
+    defs.push(making.finish(alloc))?;
+    *structs = StructDefs::from_vec(defs);
+    Ok(())
+}
+
+// A struct in the making: its members so far, where the last of them ends, and their strictest
+// alignment.
+#[derive(Drop)]
+struct Making {
+    members: Vec<Member>,
+    end: u64,
+    align: u64,
+}
+
+impl Making {
+    fn new(alloc: Global) -> Making {
+        Making {
+            members: Vec::new(alloc),
+            end: 0,
+            align: 1,
+        }
+    }
+
+    // Adds a member of this type, and tells its offset.
+    fn push(
+        &mut self,
+        alloc: Global,
+        ty: CType,
+        structs: &StructDefs,
+        told: &mut String,
+    ) -> Written {
         let own = align_of(&ty, structs);
-        let place = next_member(end, bytes_of(size_of(&ty, structs)), own);
-        write!(told, " {}", place.offset)?;
-        made.push(Member {
+        let place = next_member(self.end, bytes_of(size_of(&ty, structs)), own);
+        told.push(' ')?;
+        number(told, u128::from(place.offset))?;
+        self.end = place.end;
+        self.align = self.align.max(own);
+        self.members.push(Member {
             name: Name::new(alloc),
             ty,
             offset: place.offset,
         })?;
-        end = place.end;
-        align = align.max(own);
+        Ok(())
     }
-    let def = StructDef {
-        tag: Name::new(alloc),
-        members: Members::from_vec(made),
-        size: next_member(end, 0, align).offset,
-        align,
-    };
-    let mut defs = mem::replace(structs, StructDefs::new(alloc)).into_vec();
-    defs.push(def)?;
-    *structs = StructDefs::from_vec(defs);
-    Ok(())
+
+    fn finish(self, alloc: Global) -> StructDef {
+        let Making {
+            members,
+            end,
+            align,
+        } = self;
+        StructDef {
+            tag: Name::new(alloc),
+            members: Members::from_vec(members),
+            size: next_member(end, 0, align).offset,
+            align,
+        }
+    }
 }
 
 fn bytes_of(size: Sized) -> u64 {
@@ -75,31 +108,35 @@ fn bytes_of(size: Sized) -> u64 {
 }
 
 // Tells the size and the alignment of a type.
-fn sized(
-    alloc: Global,
-    structs: &StructDefs,
-    words: &str,
-    told: &mut String,
-) -> Result<(), AllocError> {
+fn sized(alloc: Global, structs: &StructDefs, words: &str, told: &mut String) -> Written {
     let Some(ty) = type_of(alloc, words)? else {
         return told.push_str("no type");
     };
-    write!(
-        told,
-        "{:?} {}",
-        size_of(&ty, structs),
-        align_of(&ty, structs)
-    )
+    size_words(told, size_of(&ty, structs))?;
+    told.push(' ')?;
+    number(told, u128::from(align_of(&ty, structs)))
+}
+
+fn size_words(told: &mut String, size: Sized) -> Written {
+    match size {
+        Sized::Fits(bytes) => {
+            told.push_str("Fits(")?;
+            number(told, u128::from(bytes))?;
+            told.push(')')
+        }
+        Sized::Oversize => told.push_str("Oversize"),
+        Sized::Incomplete => told.push_str("Incomplete"),
+    }
 }
 
 // Tells what a conversion answers.
-fn converted(word: &str, rest: &str, told: &mut String) -> Result<(), AllocError> {
+fn converted(word: &str, rest: &str, told: &mut String) -> Written {
     let (first, second) = rest.split_once(' ').unwrap_or((rest, ""));
     match (word, integer(first), integer(second)) {
-        ("promote", Some(t), _) => write!(told, "{:?}", promote(t)),
-        ("balance", Some(a), Some(b)) => write!(told, "{:?}", balance(a, b)),
+        ("promote", Some(t), _) => shown(told, &promote(t)),
+        ("balance", Some(a), Some(b)) => shown(told, &balance(a, b)),
         ("wrap", Some(t), _) => match second.parse::<i128>() {
-            Ok(n) => write!(told, "{}", wrap(t, n)),
+            Ok(n) => signed(told, wrap(t, n)),
             Err(_) => told.push_str("no number"),
         },
         ("literal", _, _) => literal(first, second, told),
@@ -108,14 +145,14 @@ fn converted(word: &str, rest: &str, told: &mut String) -> Result<(), AllocError
 }
 
 // Tells the type of a constant of this value and suffix, as `u`, `l` or `ull`, with an `x` before it where it is not decimal.
-fn literal(value: &str, suffix: &str, told: &mut String) -> Result<(), AllocError> {
+fn literal(value: &str, suffix: &str, told: &mut String) -> Written {
     let Ok(value) = value.parse::<u64>() else {
         return told.push_str("no number");
     };
     let longs = suffix.bytes().filter(|byte| *byte == b'l').count().min(2) as u8;
     let decimal = !suffix.starts_with('x');
     match literal_type(value, decimal, suffix.contains('u'), longs) {
-        Some(ty) => write!(told, "{ty:?}"),
+        Some(ty) => shown(told, &ty),
         None => told.push_str("none"),
     }
 }
@@ -125,20 +162,30 @@ fn type_of(alloc: Global, words: &str) -> Result<Option<CType>, AllocError> {
     let mut ty = None;
     let mut number = None;
     for word in words.split_whitespace().rev() {
-        ty = match (word, ty, number) {
-            ("array", Some(of), Some(n)) => Some(CType::Array(target(alloc, of)?, n)),
-            ("pointer", Some(to), _) => Some(CType::Pointer(target(alloc, to)?)),
-            ("struct", None, Some(n)) => Some(CType::Struct(n)),
-            ("void", None, _) => Some(CType::Void),
-            ("function", None, _) => Some(CType::Function(0)),
-            (_, found, _) => match integer(word) {
-                Some(t) => Some(CType::Int(t)),
-                None => found,
-            },
-        };
+        ty = extended(alloc, word, number, ty)?;
         number = word.parse::<u64>().ok();
     }
     Ok(ty)
+}
+
+// The type with one word more in front of it, behind which this number stands.
+fn extended(
+    alloc: Global,
+    word: &str,
+    number: Option<u64>,
+    ty: Option<CType>,
+) -> Result<Option<CType>, AllocError> {
+    match (word, ty, number) {
+        ("array", Some(of), Some(n)) => Ok(Some(CType::Array(target(alloc, of)?, n))),
+        ("pointer", Some(to), _) => Ok(Some(CType::Pointer(target(alloc, to)?))),
+        ("struct", None, Some(n)) => Ok(Some(CType::Struct(n))),
+        ("void", None, _) => Ok(Some(CType::Void)),
+        ("function", None, _) => Ok(Some(CType::Function(0))),
+        (_, found, _) => match integer(word) {
+            Some(t) => Ok(Some(CType::Int(t))),
+            None => Ok(found),
+        },
+    }
 }
 
 fn target(alloc: Global, ty: CType) -> Result<Rc<Target>, AllocError> {

@@ -9,14 +9,19 @@
 //! | `accepts` | `a file`, or the refusal |
 //! | `layout` | what each line of the text is answered, joined by `; `: `struct char, int` adds a struct and tells its offsets, `size array 3 struct 0` its size and alignment, and `promote`, `balance`, `wrap` and `literal` what these calls answer |
 //! | `fronts` | the lengths of the fronts of the text that are files |
+//! | `alarms` | what may go wrong, as `Overflow 1:36 2147483648`, or `no alarm`, or `not built`, or the refusal |
 #![tactic(auto)]
 
 mod case;
+mod decls;
 mod exprs;
+mod forms;
 mod layouts;
 mod stmts;
+mod text;
 mod tokens;
 mod trees;
+mod types;
 
 use case::Case;
 use std::alloc::Global;
@@ -51,6 +56,7 @@ fn answer(alloc: Global, case: &Case) -> io::Result<String> {
             Err(_) => String::from_str(alloc, "no text")?,
         },
         b"fronts" => trees::fronts(alloc, text)?,
+        b"alarms" => forms::line(alloc, text)?,
         _ => String::from_str(alloc, "no such word")?,
     };
     Ok(told)

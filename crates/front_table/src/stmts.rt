@@ -1,193 +1,171 @@
-// The shapes of initialisers, declarations, statements and files, as text.
+// Statements and files in the short notation.
+#![tactic(auto, using(c_written::proofs::Trees::the_written_trees, c_written::proofs::Sizes::the_written_sizes))]
 
-use crate::exprs::{Written, declarator_shape, expr, name, spec_list};
-use c_written::{BlockItem, Decl, Expr, File, ForHead, ForStart, Init, Outer, Stmt};
+use crate::decls::decl;
+use crate::exprs::expr;
+use crate::text::{Written, word};
+use crate::types::type_name;
+use c_written::{BlockItem, BlockItems, Expr, File, ForHead, ForStart, Name, Outer, Stmt};
 
+/// A file, as `Int (fn f void){return (Plus a b);}`.
 pub fn file(out: &mut String, file: &File) -> Written {
     for item in file.outers.as_slice() {
-        match item {
-            Outer::Declared(found) => decl(out, 400, found)?,
-            Outer::Function {
-                specs,
-                declarator,
-                body,
-                ..
-            } => {
-                spec_list(out, 400, specs.as_slice())?;
-                out.push(' ')?;
-                declarator_shape(out, 400, declarator)?;
-                block(out, 400, body.as_slice())?;
-            }
-        }
+        outer(out, item)?;
     }
     Ok(())
 }
 
-fn init(out: &mut String, depth: u32, init_shape: &Init) -> Written {
-    if depth == 0 {
-        return out.push('!');
-    }
-    match init_shape {
-        Init::Value { value } => expr(out, depth, value),
-        Init::Braces { items, .. } => {
-            out.push('{')?;
-            for item in items.as_slice() {
-                init(out, depth - 1, item)?;
-                out.push(',')?;
-            }
-            out.push('}')
+fn outer(out: &mut String, item: &Outer) -> Written {
+    match item {
+        Outer::Declared(found) => decl(out, found),
+        Outer::Function {
+            specs,
+            declarator,
+            body,
+            ..
+        } => {
+            type_name(out, specs, declarator)?;
+            block(out, body)
         }
     }
-}
-
-fn decl(out: &mut String, depth: u32, decl: &Decl) -> Written {
-    spec_list(out, depth, decl.specs.as_slice())?;
-    for item in decl.inits.as_slice() {
-        out.push(' ')?;
-        declarator_shape(out, depth, &item.declarator)?;
-        if let Some(found) = &item.init {
-            out.push('=')?;
-            init(out, depth, found)?;
-        }
-    }
-    out.push(';')
 }
 
 #[cycle(statements)]
-fn block(out: &mut String, depth: u32, items: &[BlockItem]) -> Written {
-    if depth == 0 {
-        return out.push('!');
-    }
+fn block(out: &mut String, items: &BlockItems) -> Written {
     out.push('{')?;
-    for item in items {
-        match item {
-            BlockItem::Declaration(found) => decl(out, depth, found)?,
-            BlockItem::Statement(found) => stmt(out, depth - 1, found)?,
-        }
+    for item in items.as_slice() {
+        block_item(out, item)?;
     }
     out.push('}')
 }
 
 #[cycle(statements)]
-fn stmt(out: &mut String, depth: u32, s: &Stmt) -> Written {
-    if depth == 0 {
-        return out.push('!');
+fn block_item(out: &mut String, item: &BlockItem) -> Written {
+    match item {
+        BlockItem::Declaration(found) => decl(out, found),
+        BlockItem::Statement(found) => stmt(out, found),
     }
+}
+
+#[cycle(statements)]
+fn stmt(out: &mut String, s: &Stmt) -> Written {
     match s {
-        Stmt::Label {
-            name: word,
-            body,
-            ..
-        } => {
-            name(out, word)?;
-            out.push(':')?;
-            stmt(out, depth - 1, body)
-        }
-        Stmt::Case { value, body, .. } => {
-            out.push_str("case ")?;
-            expr(out, depth, value)?;
-            out.push(':')?;
-            stmt(out, depth - 1, body)
-        }
-        Stmt::Default { body, .. } => {
-            out.push_str("default:")?;
-            stmt(out, depth - 1, body)
-        }
-        Stmt::Block { items, .. } => block(out, depth - 1, items.as_slice()),
+        Stmt::Label { name, body, .. } => label(out, name, body),
+        Stmt::Case { value, body, .. } => case(out, value, body),
+        Stmt::Default { body, .. } => behind(out, "default:", body),
+        Stmt::Block { items, .. } => block(out, items),
         Stmt::Empty { .. } => out.push(';'),
-        Stmt::Expression { value, .. } => {
-            expr(out, depth, value)?;
-            out.push(';')
-        }
+        Stmt::Expression { value, .. } => ended(out, value),
         Stmt::If {
             condition,
             then,
             ..
-        } => {
-            head(out, "if", condition)?;
-            stmt(out, depth - 1, then)?;
-            out.push(')')
-        }
+        } => headed(out, "(if ", condition, then),
         Stmt::IfElse {
             condition,
             then,
             otherwise,
             ..
-        } => {
-            head(out, "if", condition)?;
-            stmt(out, depth - 1, then)?;
-            out.push_str(" else ")?;
-            stmt(out, depth - 1, otherwise)?;
-            out.push(')')
-        }
-        Stmt::Switch { value, body, .. } => {
-            head(out, "switch", value)?;
-            stmt(out, depth - 1, body)?;
-            out.push(')')
-        }
+        } => if_else(out, condition, then, otherwise),
+        Stmt::Switch { value, body, .. } => headed(out, "(switch ", value, body),
         Stmt::While {
             condition,
             body,
             ..
-        } => {
-            head(out, "while", condition)?;
-            stmt(out, depth - 1, body)?;
-            out.push(')')
-        }
+        } => headed(out, "(while ", condition, body),
         Stmt::DoWhile {
             body,
             condition,
             ..
-        } => {
-            head(out, "do", condition)?;
-            stmt(out, depth - 1, body)?;
-            out.push(')')
-        }
-        Stmt::For { head, body, .. } => {
-            for_head(out, depth, head)?;
-            stmt(out, depth - 1, body)?;
-            out.push(')')
-        }
-        Stmt::Goto { label, .. } => {
-            out.push_str("goto ")?;
-            name(out, label)?;
-            out.push(';')
-        }
+        } => headed(out, "(do ", condition, body),
+        Stmt::For { head, body, .. } => for_loop(out, head, body),
+        Stmt::Goto { label, .. } => goto(out, label),
         Stmt::Continue { .. } => out.push_str("continue;"),
         Stmt::Break { .. } => out.push_str("break;"),
-        Stmt::Return { value, .. } => {
-            out.push_str("return ")?;
-            maybe(out, value)?;
-            out.push(';')
-        }
+        Stmt::Return { value, .. } => returned(out, value),
     }
 }
 
-fn head(out: &mut String, word: &str, condition: &Expr) -> Written {
-    write!(out, "({word} ")?;
-    expr(out, 400, condition)?;
-    out.push(' ')
+#[cycle(statements)]
+fn label(out: &mut String, name: &Name, body: &Stmt) -> Written {
+    word(out, name)?;
+    behind(out, ":", body)
 }
 
-fn for_head(out: &mut String, depth: u32, head: &ForHead) -> Written {
+#[cycle(statements)]
+fn case(out: &mut String, value: &Expr, body: &Stmt) -> Written {
+    out.push_str("case ")?;
+    expr(out, value)?;
+    behind(out, ":", body)
+}
+
+#[cycle(statements)]
+fn behind(out: &mut String, head: &str, body: &Stmt) -> Written {
+    out.push_str(head)?;
+    stmt(out, body)
+}
+
+// A statement behind a head and its condition.
+#[cycle(statements)]
+fn headed(out: &mut String, head: &str, condition: &Expr, body: &Stmt) -> Written {
+    out.push_str(head)?;
+    expr(out, condition)?;
+    behind(out, " ", body)?;
+    out.push(')')
+}
+
+#[cycle(statements)]
+fn if_else(out: &mut String, condition: &Expr, then: &Stmt, otherwise: &Stmt) -> Written {
+    out.push_str("(if ")?;
+    expr(out, condition)?;
+    behind(out, " ", then)?;
+    behind(out, " else ", otherwise)?;
+    out.push(')')
+}
+
+#[cycle(statements)]
+fn for_loop(out: &mut String, head: &ForHead, body: &Stmt) -> Written {
     out.push_str("(for ")?;
-    match &head.start {
-        ForStart::Nothing => out.push(';')?,
-        ForStart::Value(value) => {
-            expr(out, depth, value)?;
-            out.push(';')?;
-        }
-        ForStart::Declares(found) => decl(out, depth, found)?,
-    }
-    maybe(out, &head.condition)?;
-    out.push(';')?;
-    maybe(out, &head.step)?;
-    out.push(' ')
+    for_head(out, head)?;
+    behind(out, " ", body)?;
+    out.push(')')
 }
 
-fn maybe(out: &mut String, value: &Option<Box<Expr>>) -> Written {
+fn for_head(out: &mut String, head: &ForHead) -> Written {
+    for_start(out, &head.start)?;
+    optional(out, &head.condition)?;
+    out.push(';')?;
+    optional(out, &head.step)
+}
+
+fn for_start(out: &mut String, start: &ForStart) -> Written {
+    match start {
+        ForStart::Nothing => out.push(';'),
+        ForStart::Value(value) => ended(out, value),
+        ForStart::Declares(found) => decl(out, found),
+    }
+}
+
+fn ended(out: &mut String, value: &Expr) -> Written {
+    expr(out, value)?;
+    out.push(';')
+}
+
+fn goto(out: &mut String, label: &Name) -> Written {
+    out.push_str("goto ")?;
+    word(out, label)?;
+    out.push(';')
+}
+
+fn returned(out: &mut String, value: &Option<Box<Expr>>) -> Written {
+    out.push_str("return ")?;
+    optional(out, value)?;
+    out.push(';')
+}
+
+fn optional(out: &mut String, value: &Option<Box<Expr>>) -> Written {
     match value {
-        Some(found) => expr(out, 400, found),
+        Some(found) => expr(out, found),
         None => Ok(()),
     }
 }

@@ -1,7 +1,8 @@
 // The answer of `lex` as a line.
 
+use crate::text::{place, refusal};
 use c_lexer::{LexError, lex};
-use c_written::{Pos, Token, Tokens};
+use c_written::{Token, Tokens};
 use std::alloc::{AllocError, Global};
 
 const MOST: usize = 4_194_304;
@@ -14,9 +15,9 @@ pub fn cut(alloc: Global, text: &[u8]) -> Result<Tokens, LexError> {
     lex(alloc, 0, text)
 }
 
-/// The line of a refusal.
-pub fn refusal(alloc: Global, error: LexError) -> Result<String, AllocError> {
-    let (name, pos) = match error {
+/// The line of a refusal, as `TooWide 1:4`.
+pub fn refused(alloc: Global, error: LexError) -> Result<String, AllocError> {
+    let (reason, pos) = match error {
         LexError::BadByte(pos) => ("BadByte", pos),
         LexError::Unterminated(pos) => ("Unterminated", pos),
         LexError::BadNumber(pos) => ("BadNumber", pos),
@@ -25,22 +26,27 @@ pub fn refusal(alloc: Global, error: LexError) -> Result<String, AllocError> {
         LexError::Directive(pos) => ("Directive", pos),
         LexError::NoMemory => return Err(AllocError),
     };
-    let Pos { line, col, .. } = pos;
-    format!(in alloc; "{name} {line}:{col}")
+    let mut line = String::new(alloc);
+    refusal(&mut line, reason, pos)?;
+    Ok(line)
 }
 
 /// The kinds and places of the tokens and the place of the end, or the refusal.
 pub fn line(alloc: Global, text: &[u8]) -> Result<String, AllocError> {
-    let tokens = match cut(alloc, text) {
-        Ok(tokens) => tokens,
-        Err(error) => return refusal(alloc, error),
-    };
+    match cut(alloc, text) {
+        Ok(tokens) => tokens_line(alloc, &tokens),
+        Err(error) => refused(alloc, error),
+    }
+}
+
+fn tokens_line(alloc: Global, tokens: &Tokens) -> Result<String, AllocError> {
     let mut line = String::new(alloc);
     for placed in tokens.list.as_slice() {
-        let Pos { line: row, col, .. } = placed.pos;
-        write!(line, "{}{row}:{col} ", kind(&placed.token))?;
+        line.push(kind(&placed.token))?;
+        place(&mut line, placed.pos)?;
+        line.push(' ')?;
     }
-    write!(line, "{}:{}", tokens.end.line, tokens.end.col)?;
+    place(&mut line, tokens.end)?;
     Ok(line)
 }
 

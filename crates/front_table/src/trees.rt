@@ -1,20 +1,22 @@
 // The answer of `parse` as a line.
 
 use crate::stmts;
-use crate::tokens::{cut, refusal};
+use crate::text::{Written, number, refusal, shown};
+use crate::tokens::{self, cut};
 use c_lexer::LexError;
 use c_parser::{ParseError, parse};
-use c_written::{File, Pos};
+use c_written::{Construct, File, Pos};
 use std::alloc::{AllocError, Global};
 
-// What a text is.
-enum Reading {
+/// What a text is.
+pub enum Reading {
     Tree(File),
     Uncut(LexError),
     Refused(ParseError),
 }
 
-fn read(alloc: Global, text: &[u8]) -> Reading {
+/// Cuts the text into tokens and parses these.
+pub fn read(alloc: Global, text: &[u8]) -> Reading {
     match cut(alloc, text) {
         Err(error) => Reading::Uncut(error),
         Ok(tokens) => match parse(alloc, &tokens) {
@@ -24,35 +26,43 @@ fn read(alloc: Global, text: &[u8]) -> Reading {
     }
 }
 
-// The line of a refusal by the parser.
-fn refused(alloc: Global, error: ParseError) -> Result<String, AllocError> {
+/// The line of a refusal by the parser, as `syntax 1:4`.
+pub fn refused(alloc: Global, error: ParseError) -> Result<String, AllocError> {
+    let mut line = String::new(alloc);
     match error {
-        ParseError::Syntax(Pos { line, col, .. }) => format!(in alloc; "syntax {line}:{col}"),
-        ParseError::TooDeep(Pos { line, col, .. }) => format!(in alloc; "nesting {line}:{col}"),
-        ParseError::Unsupported(Pos { line, col, .. }, construct) => {
-            format!(in alloc; "unsupported {construct:?} {line}:{col}")
-        }
-        ParseError::NoMemory => Err(AllocError),
+        ParseError::Syntax(pos) => refusal(&mut line, "syntax", pos)?,
+        ParseError::TooDeep(pos) => refusal(&mut line, "nesting", pos)?,
+        ParseError::Unsupported(pos, construct) => unsupported(&mut line, construct, pos)?,
+        ParseError::NoMemory => return Err(AllocError),
     }
+    Ok(line)
+}
+
+fn unsupported(out: &mut String, construct: Construct, pos: Pos) -> Written {
+    out.push_str("unsupported ")?;
+    shown(out, &construct)?;
+    refusal(out, "", pos)
 }
 
 /// The tree in the short notation, or the refusal.
 pub fn line(alloc: Global, text: &[u8]) -> Result<String, AllocError> {
     match read(alloc, text) {
-        Reading::Uncut(error) => refusal(alloc, error),
+        Reading::Uncut(error) => tokens::refused(alloc, error),
         Reading::Refused(error) => refused(alloc, error),
-        Reading::Tree(file) => {
-            let mut line = String::new(alloc);
-            stmts::file(&mut line, &file)?;
-            Ok(line)
-        }
+        Reading::Tree(file) => tree_line(alloc, &file),
     }
+}
+
+fn tree_line(alloc: Global, file: &File) -> Result<String, AllocError> {
+    let mut line = String::new(alloc);
+    stmts::file(&mut line, file)?;
+    Ok(line)
 }
 
 /// Whether the text is a file, or the refusal.
 pub fn verdict(alloc: Global, text: &[u8]) -> Result<String, AllocError> {
     match read(alloc, text) {
-        Reading::Uncut(error) => refusal(alloc, error),
+        Reading::Uncut(error) => tokens::refused(alloc, error),
         Reading::Refused(error) => refused(alloc, error),
         Reading::Tree(_) => String::from_str(alloc, "a file"),
     }
@@ -62,13 +72,20 @@ pub fn verdict(alloc: Global, text: &[u8]) -> Result<String, AllocError> {
 pub fn fronts(alloc: Global, text: &[u8]) -> Result<String, AllocError> {
     let mut line = String::from_str(alloc, "files:")?;
     for length in 0..text.len() {
-        match read(alloc, &text[..length]) {
-            Reading::Tree(_) => write!(line, " {length}")?,
-            Reading::Uncut(LexError::NoMemory) | Reading::Refused(ParseError::NoMemory) => {
-                return Err(AllocError);
-            }
-            Reading::Uncut(_) | Reading::Refused(_) => {}
+        if is_file(alloc, &text[..length])? {
+            line.push(' ')?;
+            number(&mut line, length as u128)?;
         }
     }
     Ok(line)
+}
+
+fn is_file(alloc: Global, text: &[u8]) -> Result<bool, AllocError> {
+    match read(alloc, text) {
+        Reading::Tree(_) => Ok(true),
+        Reading::Uncut(LexError::NoMemory) | Reading::Refused(ParseError::NoMemory) => {
+            Err(AllocError)
+        }
+        Reading::Uncut(_) | Reading::Refused(_) => Ok(false),
+    }
 }

@@ -7,7 +7,8 @@ use Rattle.c_copies.proofs.exprs.+copies.Goals as goal
 pub copy_exprs-loop-item-preserved : goal.copy_exprs-loop-item-preserved
 copy_exprs-loop-item-preserved t c =
     ap texprs_from c.in_ok-push.ensures.items
-    ∙ one_more_expr c.loop-item.items.items c.as_slice-item-items.result.now c.loop-item.item-index c.in_ok-copy_expr.field-0 c.item-item.result (omega arith) c.loop-item.invariant c.item-item.is c.in_ok-copy_expr.ensures
+    ∙ one_more_expr c.loop-item.items.items c.as_slice-item-items.result.now c.loop-item.item-index c.in_ok-copy_expr.field-0 c.item-item.result
+    (omega arith) c.loop-item.invariant c.item-item.is c.in_ok-copy_expr.ensures
 
 pub copy_use-unreachable-requires : goal.copy_use-unreachable-requires
 copy_use-unreachable-requires t c =

@@ -1,0 +1,54 @@
+// The answer of `alarms` as a line.
+
+use crate::text::{Written, place, shown, signed};
+use crate::tokens;
+use crate::trees::{self, Reading, read};
+use c_syntax::{Alarm, Example};
+use c_written::File;
+use constant_form::{alarms_of, form_of};
+use std::alloc::{AllocError, Global};
+
+/// What may go wrong in the program of the text, as `Overflow 1:36 2147483648`, or `no alarm`, `not
+/// built`, or the refusal.
+pub fn line(alloc: Global, text: &[u8]) -> Result<String, AllocError> {
+    match read(alloc, text) {
+        Reading::Uncut(error) => tokens::refused(alloc, error),
+        Reading::Refused(error) => trees::refused(alloc, error),
+        Reading::Tree(file) => file_line(alloc, &file),
+    }
+}
+
+fn file_line(alloc: Global, file: &File) -> Result<String, AllocError> {
+    match form_of(alloc, file)? {
+        None => String::from_str(alloc, "not built"),
+        Some(returned) => {
+            let alarms = alarms_of(alloc, &returned)?;
+            alarms_line(alloc, alarms.as_slice())
+        }
+    }
+}
+
+fn alarms_line(alloc: Global, alarms: &[Alarm]) -> Result<String, AllocError> {
+    let mut line = String::new(alloc);
+    for alarm in alarms {
+        if !line.is_empty() {
+            line.push_str("; ")?;
+        }
+        alarm_words(&mut line, alarm)?;
+    }
+    if line.is_empty() {
+        line.push_str("no alarm")?;
+    }
+    Ok(line)
+}
+
+fn alarm_words(out: &mut String, alarm: &Alarm) -> Written {
+    shown(out, &alarm.kind)?;
+    out.push(' ')?;
+    place(out, alarm.pos)?;
+    out.push(' ')?;
+    match &alarm.example {
+        Example::Number(n) => signed(out, *n),
+        _ => out.push_str("no number"),
+    }
+}
