@@ -1,9 +1,7 @@
 // The tables of these calls are those of the program `values_table`.
 use crate::*;
 use block_mem::{Pointer, Scalar, Value};
-use c_syntax::{
-    Arithmetic, CType, Comparison, IntType, Name, Object, Pos, Shift, Spot, WrongKind,
-};
+use c_syntax::{Arithmetic, CType, Comparison, IntType, Name, Object, Pos, Shift, Spot, WrongKind};
 use std::test::Fail;
 
 #[test]
