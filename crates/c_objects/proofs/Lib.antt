@@ -1,2 +1,5 @@
 pub mod Found
+pub mod Keeping
+pub mod Shutting
 pub mod Zeroed
+pub mod Writes

@@ -26,7 +26,7 @@ opened objects m x = record {
   places = slice_set m.places x (Some (length m.blocks));
 }
 
-abbrev ended_at : List BlockView → Option ℕ → List BlockView
+abbrev pub ended_at : List BlockView → Option ℕ → List BlockView
 ended_at blocks None = blocks
 ended_at blocks (Some b) = with_ended blocks b
 

@@ -16,7 +16,7 @@ use Rattle.c_values.specs.Places.{ObjectMemory, place_of}
 abbrev pub with_blocks : ObjectMemory → List BlockView → ObjectMemory
 with_blocks m blocks = record m { blocks = blocks }
 
-abbrev unless_wrong : Option WrongKind → Option ObjectMemory → Option ObjectMemory
+abbrev pub unless_wrong : Option WrongKind → Option ObjectMemory → Option ObjectMemory
 unless_wrong None m = m
 unless_wrong (Some kind) m = None
 

@@ -15,12 +15,15 @@
 //! | operators | `c_values`, `Operators` | `binary`, `unary`, `member`, `check_test`, `check_assertion` |
 //! | accesses | `c_values`, `Accesses`; `Writing` | `check_read`, `check_write`, `load`, `store`, `copy` |
 //! | initialisers | `Writing` | `initialise`, `fill_rest` |
+//! | what every memory keeps | `Kept` | `memory_keeps` |
 #![tactic(auto)]
 
 mod accesses;
 mod initial;
+mod laws;
 mod memory;
 mod operators;
 mod writing;
 
+pub use laws::memory_keeps;
 pub use memory::ObjectMemory;
