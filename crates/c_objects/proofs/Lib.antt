@@ -3,3 +3,4 @@ pub mod Keeping
 pub mod Shutting
 pub mod Zeroed
 pub mod Writes
+pub mod Initials

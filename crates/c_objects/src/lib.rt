@@ -15,6 +15,7 @@
 //! | operators | `c_values`, `Operators` | `binary`, `unary`, `member`, `check_test`, `check_assertion` |
 //! | accesses | `c_values`, `Accesses`; `Writing` | `check_read`, `check_write`, `load`, `store`, `copy` |
 //! | initialisers | `Writing` | `initialise`, `fill_rest` |
+//! | the start of a run | `Statics` | `start` |
 //! | what every memory keeps | `Kept` | `memory_keeps` |
 #![tactic(auto)]
 
@@ -23,6 +24,7 @@ mod initial;
 mod laws;
 mod memory;
 mod operators;
+mod statics;
 mod writing;
 
 pub use laws::memory_keeps;
