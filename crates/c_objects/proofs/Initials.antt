@@ -1,5 +1,6 @@
 -- Initial values that are put in one after the other.
-use Rattle.std.proofs.Common.{◌≡◌, ℕ, suc, ◌+◌, ◌<◌, ◌≤◌, pos, refl, sym, subst, ap, ◌∙◌, arith, List, [], ◌∷◌, length, length-set, drop, drop-cons, Option, Some, None, inl, inr, ◌⊎◌}
+use Rattle.std.proofs.Common.{◌≡◌, ℕ, suc, ◌+◌, ◌<◌, ◌≤◌, pos, refl, sym, subst, ap, ◌∙◌, arith, List, [], ◌∷◌, length, length-set, drop, drop-cons, Option}
+use Rattle.std.proofs.Common.{Some, None, inl, inr, ◌⊎◌}
 use Rattle.std.specs.Prelude.{All, IfSome, slice_set, slice_index_or}
 use Rattle.std.proofs.lemmas.Bool.{cases_eq, cases_lt}
 use Rattle.std.proofs.lemmas.List.{get_or_past}
@@ -15,19 +16,24 @@ use Rattle.c_objects.specs.Statics.{put_from, initial_byte, initial_at, with_ini
 
 past_end : (m : List BlockView) (n : ℕ) (bs : List Byte) → length m ≤ n → block_at (with_bytes m n bs) n ≡ block_at m n
 past_end m n bs h =
-    get_or_past (slice_set m n (record (block_at m n) { bytes = bs })) n no_block (subst (λ l. l ≤ n) (sym (length-set m n (record (block_at m n) { bytes = bs }))) h)
+    get_or_past (slice_set m n (record (block_at m n) { bytes = bs })) n no_block
+    (subst (λ l. l ≤ n) (sym (length-set m n (record (block_at m n) { bytes = bs }))) h)
     ∙ sym (get_or_past m n no_block h)
 
-size_here : (m : List BlockView) (n : ℕ) (bs : List Byte) → length bs ≡ length (block_at m n).bytes → (n < length m) ⊎ (length m ≤ n) → length (block_at (with_bytes m n bs) n).bytes ≡ length (block_at m n).bytes
+size_here : (m : List BlockView) (n : ℕ) (bs : List Byte) → length bs ≡ length (block_at m n).bytes → (n < length m) ⊎ (length m ≤ n)
+    → length (block_at (with_bytes m n bs) n).bytes ≡ length (block_at m n).bytes
 size_here m n bs e (inl h) = ap (λ (l : List Byte). length l) (bytes-same m n bs h) ∙ e
 size_here m n bs e (inr h) = ap (λ (v : BlockView). length v.bytes) (past_end m n bs h)
 
-size_kept : (m : List BlockView) (n : ℕ) (bs : List Byte) (c : ℕ) → length bs ≡ length (block_at m n).bytes → (c ≡ n) ⊎ (c ≡ n → ⊥) → length (block_at (with_bytes m n bs) c).bytes ≡ length (block_at m c).bytes
-size_kept m n bs c e (inl same) = subst (λ k. length (block_at (with_bytes m n bs) k).bytes ≡ length (block_at m k).bytes) (sym same) (size_here m n bs e (cases_lt n (length m)))
+size_kept : (m : List BlockView) (n : ℕ) (bs : List Byte) (c : ℕ) → length bs ≡ length (block_at m n).bytes → (c ≡ n) ⊎ (c ≡ n → ⊥)
+    → length (block_at (with_bytes m n bs) c).bytes ≡ length (block_at m c).bytes
+size_kept m n bs c e (inl same) = subst (λ k. length (block_at (with_bytes m n bs) k).bytes
+    ≡ length (block_at m k).bytes) (sym same) (size_here m n bs e (cases_lt n (length m)))
 size_kept m n bs c e (inr other) = ap (λ (v : BlockView). length v.bytes) (block-other m n c bs other)
 
 -- bytes that are put in change no size
-put_size : (m : ObjectMemory) (b k : ℕ) (bs : List InitByte) (blocks : List BlockView) (c : ℕ) → length (block_at (put_from m b k bs blocks) c).bytes ≡ length (block_at blocks c).bytes
+put_size : (m : ObjectMemory) (b k : ℕ) (bs : List InitByte) (blocks : List BlockView) (c : ℕ) → length (block_at (put_from m b k bs blocks) c).bytes
+    ≡ length (block_at blocks c).bytes
 put_size m b k [] blocks c = refl
 put_size m b k (y ∷ ys) blocks c =
     put_size m b (suc k) ys (set_byte blocks (record { block = b; offset = pos k }) (initial_byte m y)) c
@@ -39,8 +45,11 @@ if_more (Some b) n f g e h = subst (λ x. n ≤ x) (sym (e b)) h
 
 fits_at : (m : ObjectMemory) (i j : Initial) (o : Option ℕ) → FitsInitial m j → FitsInitial (initial_at m o i.bytes) j
 fits_at m i j None h = h
-fits_at m i j (Some b) h =
-    (if_more (place_of m j.object) (length j.bytes) (λ c. length (block_at m.blocks c).bytes) (λ c. length (block_at (put_from m b 0 i.bytes m.blocks) c).bytes) (λ c. put_size m b 0 i.bytes m.blocks c) h.0, h.1)
+fits_at m i j (Some b) h = (
+  if_more (place_of m j.object) (length j.bytes) (λ c. length (block_at m.blocks c).bytes)
+      (λ c. length (block_at (put_from m b 0 i.bytes m.blocks) c).bytes) (λ c. put_size m b 0 i.bytes m.blocks c) h.0,
+  h.1,
+)
 
 -- an initial value that fits still does once another was put in
 pub fit_after : (m : ObjectMemory) (i : Initial) (is : List Initial) → FitInitials m is → FitInitials (with_initial m i) is

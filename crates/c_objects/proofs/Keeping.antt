@@ -1,5 +1,6 @@
 -- What every memory of objects keeps.
-use Rattle.std.proofs.Common.{◌≡◌, ℕ, zero, suc, ◌+◌, ◌<◌, ◌≤◌, Bool, true, false, refl, sym, subst, ap, ◌∙◌, arith, List, [], ◌∷◌, ◌++◌, length, length-append, length-set, replicate, Option, Some, None, inl, inr, ◌⊎◌}
+use Rattle.std.proofs.Common.{◌≡◌, ℕ, zero, suc, ◌+◌, ◌<◌, ◌≤◌, Bool, true, false, refl, sym, subst, ap, ◌∙◌, arith, List, [], ◌∷◌, ◌++◌, length, length-append}
+use Rattle.std.proofs.Common.{length-set, replicate, Option, Some, None, inl, inr, ◌⊎◌}
 use Rattle.std.specs.Prelude.{option_map, unwrap_or, slice_get, slice_set, slice_index_or}
 use Rattle.std.proofs.lemmas.Bool.{cases_eq, cases_lt}
 use Rattle.std.proofs.lemmas.List.{get_or_append_left, get_or-set_same, get_or-set_other, get_or_past, length-replicate}
@@ -64,7 +65,8 @@ module _ (objects : List ObjectTree) (m : ObjectMemory) (x : ℕ) (k : IsKept ob
   fits_new =
       let o = some_object objects x there in
       let size : o.0.size ≡ size_of objects x = ap (λ (p : Option ObjectTree). unwrap_or (option_map (λ object. object.size) p) 0) (sym o.1) in
-      let mark : o.0.read_only ≡ is_read_only objects x = ap (λ (p : Option ObjectTree). unwrap_or (option_map (λ object. object.read_only) p) false) (sym o.1) in
+      let mark : o.0.read_only ≡ is_read_only objects x = ap (λ (p : Option ObjectTree). unwrap_or (option_map (λ object. object.read_only) p) false) (sym o.1)
+      in
       record {
         object = o.0;
         is = ap (slice_get objects) owner_new ∙ o.1;
@@ -102,7 +104,8 @@ module _ (objects : List ObjectTree) (m : ObjectMemory) (x : ℕ) (k : IsKept ob
       ap (λ n. place_of (opened objects m x) n) (owner_old b old) ∙ place_old (owner_of m b) other ∙ was
   lives_case b h live (inr here) =
       let same : length m.blocks ≡ b = omega arith in
-      subst (λ n. place_of (opened objects m x) (owner_of (opened objects m x) n) ≡ Some n) same (ap (λ n. place_of (opened objects m x) n) owner_new ∙ place_new)
+      subst (λ n. place_of (opened objects m x) (owner_of (opened objects m x) n) ≡ Some n) same (ap (λ n. place_of (opened objects m x) n) owner_new
+      ∙ place_new)
 
   pub kept_opened : IsKept objects (opened objects m x)
   kept_opened = record {
@@ -141,11 +144,18 @@ pub record SameShape (old new : List BlockView) : Type 0 where
   pub mark : (b : ℕ) → (block_at new b).read_only ≡ (block_at old b).read_only
   pub size : (b : ℕ) → length (block_at new b).bytes ≡ length (block_at old b).bytes
 
-pub kept_blocks : (objects : List ObjectTree) (m : ObjectMemory) (bs : List BlockView) → IsKept objects m → SameShape m.blocks bs → AreProper bs → AreWhole bs → IsKept objects (with_blocks m bs)
+pub kept_blocks : (objects : List ObjectTree) (m : ObjectMemory) (bs : List BlockView) → IsKept objects m → SameShape m.blocks bs → AreProper bs
+    → AreWhole bs → IsKept objects (with_blocks m bs)
 kept_blocks objects m bs k s proper whole = record {
   owned = k.owned ∙ sym s.count;
   counted = k.counted;
-  fits = λ b h. let f = k.fits b (subst (λ n. b < n) s.count h) in record { object = f.object; is = f.is; size = f.size ∙ sym (s.size b); mark = f.mark ∙ sym (s.mark b) };
+  fits = λ b h. let f = k.fits b (subst (λ n. b < n) s.count h) in record {
+    object = f.object;
+    is = f.is;
+    size = f.size ∙ sym (s.size b);
+    mark = f.mark
+        ∙ sym (s.mark b);
+  };
   placed = λ y b h. let p = k.placed y b h in record { made = subst (λ n. b < n) (sym s.count) p.made; live = s.live b ∙ p.live; owner = p.owner };
   lives = λ b h live. k.lives b (subst (λ n. b < n) s.count h) (sym (s.live b) ∙ live);
   proper = proper;
@@ -153,8 +163,10 @@ kept_blocks objects m bs k s proper whole = record {
 }
 
 module _ (m : List BlockView) (n : ℕ) (bs : List Byte) (made : n < length m) (size : length bs ≡ length (block_at m n).bytes) where
-  at_block : (P : BlockView → BlockView → Type 0) → ((v : BlockView) → P v v) → P (record (block_at m n) { bytes = bs }) (block_at m n) → (b : ℕ) → (b ≡ n) ⊎ (b ≡ n → ⊥) → P (block_at (with_bytes m n bs) b) (block_at m b)
-  at_block P same here b (inl e) = subst (λ k. P (block_at (with_bytes m n bs) k) (block_at m k)) (sym e) (subst (λ (v : BlockView). P v (block_at m n)) (sym (block-same m n bs made)) here)
+  at_block : (P : BlockView → BlockView → Type 0) → ((v : BlockView) → P v v) → P (record (block_at m n) { bytes = bs }) (block_at m n) → (b : ℕ) → (b
+      ≡ n) ⊎ (b ≡ n → ⊥) → P (block_at (with_bytes m n bs) b) (block_at m b)
+  at_block P same here b (inl e) = subst (λ k. P (block_at (with_bytes m n bs) k) (block_at m k)) (sym e)
+      (subst (λ (v : BlockView). P v (block_at m n)) (sym (block-same m n bs made)) here)
   at_block P same here b (inr other) = subst (λ (v : BlockView). P v (block_at m b)) (sym (block-other m n b bs other)) (same (block_at m b))
 
   pub same_shape : SameShape m (with_bytes m n bs)

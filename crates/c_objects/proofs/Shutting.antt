@@ -1,5 +1,6 @@
 -- What is kept where an object ends.
-use Rattle.std.proofs.Common.{◌≡◌, ℕ, ◌<◌, ◌≤◌, Bool, true, false, refl, sym, subst, ap, ◌∙◌, arith, List, length, length-set, Option, Some, None, inl, inr, ◌⊎◌}
+use Rattle.std.proofs.Common.{◌≡◌, ℕ, ◌<◌, ◌≤◌, Bool, true, false, refl, sym, subst, ap, ◌∙◌, arith, List, length, length-set, Option, Some, None, inl, inr}
+use Rattle.std.proofs.Common.{◌⊎◌}
 use Rattle.std.specs.Prelude.{slice_index_or, slice_set}
 use Rattle.std.proofs.lemmas.Bool.{cases_eq, cases_lt}
 use Rattle.std.proofs.lemmas.List.{get_or-set_same, get_or-set_other, get_or_past}
@@ -57,11 +58,13 @@ module _ (objects : List ObjectTree) (m : ObjectMemory) (x : ℕ) (k : IsKept ob
     ended_other c h = get_or-set_other m.blocks b c (record (block_at m.blocks b) { live = false }) no_block h
 
     size_kept : (c : ℕ) → (c ≡ b) ⊎ (c ≡ b → ⊥) → length (block_at (with_ended m.blocks b) c).bytes ≡ length (block_at m.blocks c).bytes
-    size_kept c (inl e) = subst (λ n. length (block_at (with_ended m.blocks b) n).bytes ≡ length (block_at m.blocks n).bytes) (sym e) (ap (λ (v : BlockView). length v.bytes) ended_same)
+    size_kept c (inl e) = subst (λ n. length (block_at (with_ended m.blocks b) n).bytes
+        ≡ length (block_at m.blocks n).bytes) (sym e) (ap (λ (v : BlockView). length v.bytes) ended_same)
     size_kept c (inr h) = ap (λ (v : BlockView). length v.bytes) (ended_other c h)
 
     mark_kept : (c : ℕ) → (c ≡ b) ⊎ (c ≡ b → ⊥) → (block_at (with_ended m.blocks b) c).read_only ≡ (block_at m.blocks c).read_only
-    mark_kept c (inl e) = subst (λ n. (block_at (with_ended m.blocks b) n).read_only ≡ (block_at m.blocks n).read_only) (sym e) (ap (λ (v : BlockView). v.read_only) ended_same)
+    mark_kept c (inl e) = subst (λ n. (block_at (with_ended m.blocks b) n).read_only
+        ≡ (block_at m.blocks n).read_only) (sym e) (ap (λ (v : BlockView). v.read_only) ended_same)
     mark_kept c (inr h) = ap (λ (v : BlockView). v.read_only) (ended_other c h)
 
     ended : ObjectMemory
@@ -76,7 +79,8 @@ module _ (objects : List ObjectTree) (m : ObjectMemory) (x : ℕ) (k : IsKept ob
 
     -- a block that lives still is another, of another object
     lives_other : (c : ℕ) → (block_at (with_ended m.blocks b) c).live ≡ true → c ≡ b → ⊥
-    lives_other c h e = let no : false ≡ true = sym (ap (λ n. (block_at (with_ended m.blocks b) n).live) e ∙ ap (λ (v : BlockView). v.live) ended_same) ∙ h in absurd (cc)
+    lives_other c h e = let no : false ≡ true = sym (ap (λ n. (block_at (with_ended m.blocks b) n).live) e ∙ ap (λ (v : BlockView). v.live) ended_same)
+        ∙ h in absurd (cc)
 
     owner_other : (c : ℕ) → (c ≡ b → ⊥) → place_of m (owner_of m c) ≡ Some c → owner_of m c ≡ x → ⊥
     owner_other c h e f = let same : Some c ≡ Some b = sym e ∙ ap (λ n. place_of m n) f ∙ here in let eq : c ≡ b = cc in h eq

@@ -15,7 +15,8 @@ use Rattle.c_values.specs.Places.{ObjectMemory}
 use Rattle.c_objects.specs.Writing.{with_blocks, zero_at, zero_byte, zeroed}
 
 -- a byte of a block that lives may be written
-pub byte_inside : (m : List BlockView) (b k : ℕ) → (block_at m b).live ≡ true → k < length (block_at m b).bytes → wrong_access m (record { block = b; offset = pos k }) 1 1 false ≡ None
+pub byte_inside : (m : List BlockView) (b k : ℕ) → (block_at m b).live ≡ true → k < length (block_at m b).bytes
+    → wrong_access m (record { block = b; offset = pos k }) 1 1 false ≡ None
 byte_inside m b k e h =
     let one : k % 1 ≡ 0 = omega arith in
     let fits : nat_le (k + 1) (length (block_at m b).bytes) ≡ true = le-leb (k + 1) (length (block_at m b).bytes) (omega arith) in
@@ -60,5 +61,6 @@ one_more named b k first at new made h e =
     )
 
 -- the code's pointer
-pub zero_stored : (m new : List BlockView) (b k : ℕ) → k < 2 ^ 63 → new ≡ store m (record { block = b; offset = to_z w64 k }) (values.Int ints.UChar (pos 0)) → new ≡ zero_at b k m
+pub zero_stored : (m new : List BlockView) (b k : ℕ) → k < 2 ^ 63 → new ≡ store m (record { block = b; offset = to_z w64 k }) (values.Int ints.UChar (pos 0)) →
+    new ≡ zero_at b k m
 zero_stored m new b k h e = e ∙ ap (λ x. store m (record { block = b; offset = x }) (values.Int ints.UChar (pos 0))) (to_z_pos w64 k h)

@@ -1,5 +1,6 @@
 -- Stores, copies, and what is left of an initialiser.
-use Rattle.std.specs.Prelude.{ℕ, zero, suc, pos, ◌+◌, nat_le, nat_lt, Bool, false, ◌&&◌, ◌||◌, if◌then◌else◌, List, [], ◌∷◌, length, Option, Some, None, option_map}
+use Rattle.std.specs.Prelude.{ℕ, zero, suc, pos, ◌+◌, nat_le, nat_lt, Bool, false, ◌&&◌, ◌||◌, if◌then◌else◌, List, [], ◌∷◌, length, Option, Some, None}
+use Rattle.std.specs.Prelude.{option_map}
 use Rattle.c_written.specs.declared.int_type.IntType.TheVariants as ints
 use Rattle.c_syntax.specs.declared.alarm.WrongKind.{WrongKind}
 use Rattle.c_syntax.specs.TypedStmt.{TInitTree, Store, Copy}
@@ -20,7 +21,8 @@ abbrev pub unless_wrong : Option WrongKind → Option ObjectMemory → Option Ob
 unless_wrong None m = m
 unless_wrong (Some kind) m = None
 
--- memory after a value of a type was stored. What memory refuses for another reason than the read-only mark gives nothing; an initialiser may write what is read-only
+-- memory after a value of a type was stored. What memory refuses for another reason than the read-only mark gives nothing; an initialiser may write what is
+-- read-only
 abbrev pub stored_at : ObjectMemory → Scalar → Value → Value → Option ObjectMemory
 stored_at m ty (values.Ptr p) v = unless_wrong (wrong_access m.blocks p (size_of ty) (size_of ty) false) (Some (with_blocks m (store m.blocks p v)))
 stored_at m ty place v = None

@@ -25,6 +25,8 @@ mod laws;
 mod memory;
 mod operators;
 mod statics;
+#[cfg(test)]
+mod tests;
 mod writing;
 
 pub use laws::memory_keeps;

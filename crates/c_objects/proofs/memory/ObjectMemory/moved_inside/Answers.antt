@@ -16,7 +16,8 @@ pub overflow_cast-result : goal.overflow_cast-result
 overflow_cast-result c =
     let x : ℤ = to_z w128 (of_z w128 (to_z w128 (of_z w128 c.from-offset.result) +ℤ to_z w128 (of_z w128 c.args.distance))) in
     let offset : ℤ = to_z w128 (of_z w128 c.from-offset.result) in
-    fits_pointer (map object_tree c.args.objects.now) c.args.self.now c.args.p c.args.object offset x c.requires.made c.requires.fits c.requires.small c.requires.lives c.in-Ok.ensures
+    fits_pointer (map object_tree c.args.objects.now) c.args.self.now c.args.p c.args.object offset x c.requires.made c.requires.fits c.requires.small
+    c.requires.lives c.in-Ok.ensures
 
 pub returns-in-Ok-clause-answer : goal.returns-in-Ok-clause-answer
 returns-in-Ok-clause-answer c =
@@ -25,13 +26,17 @@ returns-in-Ok-clause-answer c =
     let short : FitsSigned w64 offset = search rules in
     let from : c.from-offset.result ≡ offset = c.from-offset.ensures ∙ to_z-of_z w64 offset short in
     let exact = exact_is c.from-offset.result offset c.args.distance short from c.requires.distance in
-    let found : judge objects (looks (move_operand (Some (spots.At c.args.object offset)) (Some (spots.At c.args.object (offset +ℤ c.args.distance)))) move_checks) ≡ Passes =
-    subst (λ x. judge objects (looks (move_operand (Some (spots.At c.args.object offset)) (Some (spots.At c.args.object x))) move_checks) ≡ Passes) exact c.in-Ok.ensures in
+    let found : judge objects (looks (move_operand (Some (spots.At c.args.object offset)) (Some (spots.At c.args.object (offset +ℤ c.args.distance))))
+    move_checks) ≡ Passes =
+    subst (λ x. judge objects (looks (move_operand (Some (spots.At c.args.object offset)) (Some (spots.At c.args.object x))) move_checks)
+    ≡ Passes) exact c.in-Ok.ensures in
     let new : Value = values.Ptr (record { block = c.args.p.block; offset = offset +ℤ c.args.distance }) in
     let fits : FitsSigned w64 (offset +ℤ c.args.distance) =
-    fits_pointer objects c.args.self.now c.args.p c.args.object offset (offset +ℤ c.args.distance) c.requires.made c.requires.fits c.requires.small c.requires.lives found in
+    fits_pointer objects c.args.self.now c.args.p c.args.object offset (offset +ℤ c.args.distance) c.requires.made c.requires.fits c.requires.small
+    c.requires.lives found in
     inside_answers (Ok new) objects c.args.self.now c.args.p c.args.object c.args.distance c.requires.lives (found_ok _ new found)
-    ∙ ap (λ x. Gives (values.Ptr (record { block = c.args.p.block; offset = x }))) (sym (ap (λ x. to_z w64 (of_z w64 x)) exact ∙ to_z-of_z w64 (offset +ℤ c.args.distance) fits))
+    ∙ ap (λ x. Gives (values.Ptr (record { block = c.args.p.block; offset = x }))) (sym (ap (λ x. to_z w64 (of_z w64 x)) exact
+    ∙ to_z-of_z w64 (offset +ℤ c.args.distance) fits))
 
 pub returns-in-Err-clause-answer : goal.returns-in-Err-clause-answer
 returns-in-Err-clause-answer c =
@@ -41,7 +46,9 @@ returns-in-Err-clause-answer c =
     let from : c.from-offset.result ≡ offset = c.from-offset.ensures ∙ to_z-of_z w64 offset short in
     let exact = exact_is c.from-offset.result offset c.args.distance short from c.requires.distance in
     let kind = c.in-Err.wrong.kind in let operand = operand_of c.in-Err.wrong.operand in
-    let found : judge objects (looks (move_operand (Some (spots.At c.args.object offset)) (Some (spots.At c.args.object (offset +ℤ c.args.distance)))) move_checks) ≡ FailsAs kind operand =
-    subst (λ x. judge objects (looks (move_operand (Some (spots.At c.args.object offset)) (Some (spots.At c.args.object x))) move_checks) ≡ FailsAs kind operand) exact c.in-Err.ensures in
+    let found : judge objects (looks (move_operand (Some (spots.At c.args.object offset)) (Some (spots.At c.args.object (offset +ℤ c.args.distance))))
+    move_checks) ≡ FailsAs kind operand =
+    subst (λ x. judge objects (looks (move_operand (Some (spots.At c.args.object offset)) (Some (spots.At c.args.object x))) move_checks)
+    ≡ FailsAs kind operand) exact c.in-Err.ensures in
     inside_answers (Err c.in-Err.wrong) objects c.args.self.now c.args.p c.args.object c.args.distance c.requires.lives
     (found_err _ kind operand (moved (values.Ptr c.args.p) c.args.distance) found)
