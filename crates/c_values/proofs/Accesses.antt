@@ -43,13 +43,15 @@ access_at (negsuc k) n size = refl
 -- an access at a spot of a live object of this size: outside, then not aligned, then what comes behind
 module _ (x : Operand) where
   choose : (za zb : Bool) (j : Judged) (k : Option WrongKind) → j ≡ found x k
-      → (if za then FailsAs kinds.Access x else (if zb then FailsAs kinds.Alignment x else j)) ≡ found x (if za then Some kinds.Access else (if zb then Some kinds.Alignment else k))
+      → (if za then FailsAs kinds.Access x else (if zb then FailsAs kinds.Alignment x else j))
+      ≡ found x (if za then Some kinds.Access else (if zb then Some kinds.Alignment else k))
   choose true zb j k e = refl
   choose false true j k e = refl
   choose false false j k e = e
 
   placed : (d : ℤ) (n align size : ℕ) (j : Judged) (k : Option WrongKind) → j ≡ found x k
-      → (if int_lt d (pos 0) || int_lt (pos size) (d +ℤ pos n) then FailsAs kinds.Access x else (if not (is_multiple align d) then FailsAs kinds.Alignment x else j))
+      → (if int_lt d (pos 0) || int_lt (pos size) (d +ℤ pos n) then FailsAs kinds.Access x else
+      (if not (is_multiple align d) then FailsAs kinds.Alignment x else j))
       ≡ found x (if not (is_inside (place_of d) n size) then Some kinds.Access else (if not (is_aligned (place_of d) align) then Some kinds.Alignment else k))
   placed (pos i) n align size j k e = rw (access_at (pos i) n size) (choose _ _ j k e)
   placed (negsuc i) n align size j k e = refl
@@ -59,17 +61,21 @@ module _ (x : Operand) where
   last false = refl
 
 module _ (objects : List ObjectTree) (m : ObjectMemory) (p : pointers.Pointer) (n align : ℕ) (f : Fits objects m p.block) where
-  reads_at : (live : Bool) → (block_at m.blocks p.block).live ≡ live → judge objects (read_looks m (values.Ptr p) n align) ≡ found (Point (spot_at m p)) (wrong_access m.blocks p n align false)
+  reads_at : (live : Bool) → (block_at m.blocks p.block).live ≡ live → judge objects (read_looks m (values.Ptr p) n align)
+      ≡ found (Point (spot_at m p)) (wrong_access m.blocks p n align false)
   reads_at false e = rw e refl
-  reads_at true e = rw e (rw (f.is) (rw (f.size) (placed (Point (spots.At (owner_of m p.block) p.offset)) p.offset n align (length (block_at m.blocks p.block).bytes) Passes None refl)))
+  reads_at true e = rw e (rw (f.is) (rw (f.size) (placed (Point (spots.At (owner_of m p.block) p.offset)) p.offset n align
+      (length (block_at m.blocks p.block).bytes) Passes None refl)))
 
   pub reads : judge objects (read_looks m (values.Ptr p) n align) ≡ found (Point (spot_at m p)) (wrong_access m.blocks p n align false)
   reads = reads_at (block_at m.blocks p.block).live refl
 
-  writes_at : (live : Bool) → (block_at m.blocks p.block).live ≡ live → judge objects (write_looks m (values.Ptr p) n align) ≡ found (Point (spot_at m p)) (wrong_access m.blocks p n align true)
+  writes_at : (live : Bool) → (block_at m.blocks p.block).live ≡ live → judge objects (write_looks m (values.Ptr p) n align)
+      ≡ found (Point (spot_at m p)) (wrong_access m.blocks p n align true)
   writes_at false e = rw e refl
   writes_at true e = rw e (rw (f.is) (rw (f.size) (rw (f.mark)
-      (placed (Point (spots.At (owner_of m p.block) p.offset)) p.offset n align (length (block_at m.blocks p.block).bytes) _ _ (last (Point (spots.At (owner_of m p.block) p.offset)) (block_at m.blocks p.block).read_only)))))
+      (placed (Point (spots.At (owner_of m p.block) p.offset)) p.offset n align (length (block_at m.blocks p.block).bytes) _ _
+      (last (Point (spots.At (owner_of m p.block) p.offset)) (block_at m.blocks p.block).read_only)))))
 
   pub writes : judge objects (write_looks m (values.Ptr p) n align) ≡ found (Point (spot_at m p)) (wrong_access m.blocks p n align true)
   writes = writes_at (block_at m.blocks p.block).live refl
@@ -94,7 +100,8 @@ stores objects m p ty f = rw (bytes_of_type ty) (writes objects m p (size_of ty)
 
 -- the marks of bytes that a load may read
 marks_at : (objects : List ObjectTree) (s : Spot) (ty : Scalar) (bs : List Byte) (u : Bool) (r : Option Value) → has_undef bs ≡ u → value_of ty bs ≡ r
-    → outcome (judge objects (record { check = plain_check kinds.Indeterminate; operand = Some (Mark (mark_of ty bs)) } ∷ record { check = plain_check kinds.Fragment; operand = Some (Mark (mark_of ty bs)) } ∷ [])) (ok_of (loaded ty bs))
+    → outcome (judge objects (record { check = plain_check kinds.Indeterminate; operand = Some (Mark (mark_of ty bs)) } ∷ record
+    { check = plain_check kinds.Fragment; operand = Some (Mark (mark_of ty bs)) } ∷ [])) (ok_of (loaded ty bs))
     ≡ load_outcome s (loaded ty bs)
 marks_at objects s ty bs true r e f = rw e refl
 marks_at objects s ty bs false None e f = rw e (rw f refl)
@@ -110,19 +117,24 @@ module _ (objects : List ObjectTree) (s : Spot) (ty : Scalar) (bs : List Byte) w
   after marks e false false = e
 
   load_placed : (marks : Judged) → outcome marks (ok_of (loaded ty bs)) ≡ load_outcome s (loaded ty bs) → (d : ℤ) (n align size : ℕ)
-      → outcome (if int_lt d (pos 0) || int_lt (pos size) (d +ℤ pos n) then FailsAs kinds.Access (Point s) else (if not (is_multiple align d) then FailsAs kinds.Alignment (Point s) else marks)) (ok_of (loaded ty bs))
-      ≡ load_outcome s (after_access (if not (is_inside (place_of d) n size) then Some kinds.Access else (if not (is_aligned (place_of d) align) then Some kinds.Alignment else None)) (loaded ty bs))
+      → outcome (if int_lt d (pos 0) || int_lt (pos size) (d +ℤ pos n) then FailsAs kinds.Access (Point s) else
+      (if not (is_multiple align d) then FailsAs kinds.Alignment (Point s) else marks)) (ok_of (loaded ty bs))
+      ≡ load_outcome s (after_access (if not (is_inside (place_of d) n size) then Some kinds.Access else
+      (if not (is_aligned (place_of d) align) then Some kinds.Alignment else None)) (loaded ty bs))
   load_placed marks e (pos i) n align size = rw (access_at (pos i) n size) (after marks e _ _)
   load_placed marks e (negsuc i) n align size = refl
 
-loads_at : (objects : List ObjectTree) (m : ObjectMemory) (p : pointers.Pointer) (ty : Scalar) → Fits objects m p.block → (live : Bool) → (block_at m.blocks p.block).live ≡ live
+loads_at : (objects : List ObjectTree) (m : ObjectMemory) (p : pointers.Pointer) (ty : Scalar) → Fits objects m p.block → (live : Bool)
+    → (block_at m.blocks p.block).live ≡ live
     → load_at objects m (Some ty) (values.Ptr p) ≡ load_outcome (spot_at m p) (load m.blocks p ty)
 loads_at objects m p ty f false e = rw e refl
 loads_at objects m p ty f true e =
     let bs = bytes_at m.blocks p (size_of ty) in
     rw (bytes_of_type ty) (rw e (rw (f.is) (rw (f.size)
-    (load_placed objects (spots.At (owner_of m p.block) p.offset) ty bs _ (marks_at objects (spots.At (owner_of m p.block) p.offset) ty bs (has_undef bs) (value_of ty bs) refl refl)
+    (load_placed objects (spots.At (owner_of m p.block) p.offset) ty bs _ (marks_at objects (spots.At (owner_of m p.block) p.offset) ty bs (has_undef bs)
+    (value_of ty bs) refl refl)
     p.offset (size_of ty) (size_of ty) (length (block_at m.blocks p.block).bytes)))))
 
-pub loads : (objects : List ObjectTree) (m : ObjectMemory) (p : pointers.Pointer) (ty : Scalar) → Fits objects m p.block → load_at objects m (Some ty) (values.Ptr p) ≡ load_outcome (spot_at m p) (load m.blocks p ty)
+pub loads : (objects : List ObjectTree) (m : ObjectMemory) (p : pointers.Pointer) (ty : Scalar) → Fits objects m p.block
+    → load_at objects m (Some ty) (values.Ptr p) ≡ load_outcome (spot_at m p) (load m.blocks p ty)
 loads objects m p ty f = loads_at objects m p ty f (block_at m.blocks p.block).live refl

@@ -21,11 +21,14 @@ when_false : (b : Bool) (x y : Judged) → (b ≡ true → ⊥) → (if b then x
 when_false true x y h = absurd (h refl)
 when_false false x y h = refl
 
-pub look_fails : (objects : List ObjectTree) (check : Check) (x : Operand) (rest : List Look) → Fails objects check x → judge objects (record { check = check; operand = Some x } ∷ rest) ≡ FailsAs check.kind x
+pub look_fails : (objects : List ObjectTree) (check : Check) (x : Operand) (rest : List Look) → Fails objects check x
+    → judge objects (record { check = check; operand = Some x } ∷ rest) ≡ FailsAs check.kind x
 look_fails objects check x rest h = when_true (fails objects check x) (FailsAs check.kind x) (judge objects rest) ((failing objects check check.kind x).1 h)
 
-pub look_passes : (objects : List ObjectTree) (check : Check) (x : Operand) (rest : List Look) → (Fails objects check x → ⊥) → judge objects (record { check = check; operand = Some x } ∷ rest) ≡ judge objects rest
-look_passes objects check x rest h = when_false (fails objects check x) (FailsAs check.kind x) (judge objects rest) (λ e. h ((failing objects check check.kind x).0 e))
+pub look_passes : (objects : List ObjectTree) (check : Check) (x : Operand) (rest : List Look) → (Fails objects check x → ⊥)
+    → judge objects (record { check = check; operand = Some x } ∷ rest) ≡ judge objects rest
+look_passes objects check x rest h = when_false (fails objects check x) (FailsAs check.kind x) (judge objects rest)
+    (λ e. h ((failing objects check check.kind x).0 e))
 
 pub load_plain : (ty : CTypeTree) → load_checks ty ≡ load_checks (plain_type (scalar_of ty))
 load_plain Void = refl

@@ -85,10 +85,12 @@ pub signed_product : (t : IntType) (a b : ℤ) → is_signed t ≡ true → HasN
 signed_product t a b s h k = fits_signed_mul w128 a b (2 ^ 63) (2 ^ 63) (size_of_signed t a s h) (size_of_signed t b s k) (lit< tt)
 
 pub shifted_product : (t : IntType) (a : ℤ) (k : ℕ) → HasNumber t a → k < 64 → FitsSigned w128 (a *ℤ pos (2 ^ k))
-shifted_product t a k h l = fits_signed_mul w128 a (pos (2 ^ k)) (2 ^ 64 - 1) (2 ^ 63) (size_of_number t a h) (let below : k ≤ 63 = omega arith in let g : 2 ^ k ≤ 2 ^ 63 = pow-le-pow_right {n = 2} (lit< tt) {i = k} {j = 63} below in g) (lit< tt)
+shifted_product t a k h l = fits_signed_mul w128 a (pos (2 ^ k)) (2 ^ 64 - 1) (2 ^ 63) (size_of_number t a h)
+    (let below : k ≤ 63 = omega arith in let g : 2 ^ k ≤ 2 ^ 63 = pow-le-pow_right {n = 2} (lit< tt) {i = k} {j = 63} below in g) (lit< tt)
 
 -- what the code's product is
-pub product_is : (w : Width) (a b : ℤ) → FitsSigned w a → FitsSigned w b → FitsSigned w (a *ℤ b) → to_z w (of_z w (to_z w (of_z w a) *ℤ to_z w (of_z w b))) ≡ a *ℤ b
+pub product_is : (w : Width) (a b : ℤ) → FitsSigned w a → FitsSigned w b → FitsSigned w (a *ℤ b) → to_z w (of_z w (to_z w (of_z w a) *ℤ to_z w (of_z w b)))
+    ≡ a *ℤ b
 product_is w a b f g h = rw (to_z-of_z w a f) (rw (to_z-of_z w b g) (to_z-of_z w (a *ℤ b) h))
 
 -- a quotient is no further from 0 than the dividend
@@ -174,7 +176,8 @@ code_bits t n l h low fn fl e =
 
 -- what the code's quotient of a difference is
 pub code_difference : (p q f g h : ℤ) (e : ℕ) → FitsSigned w64 p → FitsSigned w64 q → e < 2 ^ 64 → f ≡ p → g ≡ q → h ≡ pos e
-    → to_z w128 (of_z w128 (int_div (to_z w128 (of_z w128 (to_z w128 (of_z w128 f) -ℤ to_z w128 (of_z w128 g)))) (to_z w128 (of_z w128 h)))) ≡ int_div (p -ℤ q) (pos e)
+    → to_z w128 (of_z w128 (int_div (to_z w128 (of_z w128 (to_z w128 (of_z w128 f) -ℤ to_z w128 (of_z w128 g)))) (to_z w128 (of_z w128 h))))
+    ≡ int_div (p -ℤ q) (pos e)
 code_difference p q f g h e fp fq fe is same of =
     let bytes : to_z w128 (of_z w128 p) -ℤ to_z w128 (of_z w128 q) ≡ p -ℤ q = omega (arith, ints) in
     let few : FitsSigned w128 (p -ℤ q) = omega (arith, ints) in

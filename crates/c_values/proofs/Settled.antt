@@ -56,7 +56,8 @@ wrapped_is_of ULong n = remainder_fits w64 n (2 ^ width ULong) (omega arith)
 wrapped_is_of LLong n = SFits-int_wrap w64 n
 wrapped_is_of ULLong n = remainder_fits w64 n (2 ^ width ULLong) (omega arith)
 
-quotient_size : (a : ℤ) (d : ℕ) → (pos 0 ≤ℤ a → (pos 0 ≤ℤ int_div_euclid a (pos d)) × (int_div_euclid a (pos d) ≤ℤ a)) × (a <ℤ pos 0 → (a ≤ℤ int_div_euclid a (pos d)) × (int_div_euclid a (pos d) <ℤ pos 0))
+quotient_size : (a : ℤ) (d : ℕ) → (pos 0 ≤ℤ a → (pos 0 ≤ℤ int_div_euclid a (pos d)) × (int_div_euclid a (pos d) ≤ℤ a)) × (a <ℤ pos 0
+    → (a ≤ℤ int_div_euclid a (pos d)) × (int_div_euclid a (pos d) <ℤ pos 0))
 quotient_size (pos a) d = (λ h. (omega (arith, ints), omega (arith, ints, div-le_self a d)), λ h. absurd (omega (arith, ints, h)))
 quotient_size (negsuc a) d = (λ h. absurd (omega (arith, ints, h)), λ h. (omega (arith, ints, div-le_self a d), omega (arith, ints)))
 
@@ -94,11 +95,13 @@ abbrev HaveOperands : List Look → Type 0
 HaveOperands [] = Unit {0}
 HaveOperands (look ∷ rest) = IsSomeAnd look.operand (λ x. Unit {0}) × HaveOperands rest
 
-found_one : (objects : List ObjectTree) (check : Check) (x : Operand) (rest : Judged) (b : Bool) → (rest ≡ NoOperand → ⊥) → (if b then FailsAs check.kind x else rest) ≡ NoOperand → ⊥
+found_one : (objects : List ObjectTree) (check : Check) (x : Operand) (rest : Judged) (b : Bool) → (rest ≡ NoOperand → ⊥)
+    → (if b then FailsAs check.kind x else rest) ≡ NoOperand → ⊥
 found_one objects check x rest true h e = absurd (cc)
 found_one objects check x rest false h e = h e
 
-look_found : (objects : List ObjectTree) (check : Check) (o : Option Operand) (rest : Judged) → IsSomeAnd o (λ x. Unit {0}) → (rest ≡ NoOperand → ⊥) → judge_one objects check o rest ≡ NoOperand → ⊥
+look_found : (objects : List ObjectTree) (check : Check) (o : Option Operand) (rest : Judged) → IsSomeAnd o (λ x. Unit {0}) → (rest ≡ NoOperand → ⊥)
+    → judge_one objects check o rest ≡ NoOperand → ⊥
 look_found objects check None rest h k e = absurd h
 look_found objects check (Some x) rest h k e = found_one objects check x rest (fails objects check x) k e
 
@@ -112,11 +115,13 @@ settles_at ty Passes (Some v) h k = k
 settles_at ty (FailsAs kind x) r h k = tt
 settles_at ty NoOperand r h k = absurd (h refl)
 
-settles : (ty : Scalar) (objects : List ObjectTree) (ls : List Look) (r : Option Value) → HaveOperands ls → IsSomeAnd r (IsOf ty) → IsSettled ty (outcome (judge objects ls) r)
+settles : (ty : Scalar) (objects : List ObjectTree) (ls : List Look) (r : Option Value) → HaveOperands ls → IsSomeAnd r (IsOf ty)
+    → IsSettled ty (outcome (judge objects ls) r)
 settles ty objects ls r h k = settles_at ty (judge objects ls) r (found_some objects ls h) k
 
 -- a check that only a signed type has
-signed_has : (f : WrongKind → Option Operand) (check : Check) (s : Bool) → IsSomeAnd (f check.kind) (λ x. Unit {0}) → HaveOperands (looks f (if s then check ∷ [] else []))
+signed_has : (f : WrongKind → Option Operand) (check : Check) (s : Bool) → IsSomeAnd (f check.kind) (λ x. Unit {0})
+    → HaveOperands (looks f (if s then check ∷ [] else []))
 signed_has f check true h = (h, tt)
 signed_has f check false h = tt
 
@@ -133,7 +138,8 @@ module _ (t ta tb : IntType) (a b : ℤ) where
   results BitXor = wrapped_is_of t _
   results BitOr = wrapped_is_of t _
 
-  arithmetic_has : (op : Arithmetic) → HaveOperands (looks (number_operand (binaries.Arithmetic op t) (values.Int ta a) (values.Int tb b)) (arithmetic_checks op t))
+  arithmetic_has : (op : Arithmetic) → HaveOperands (looks (number_operand (binaries.Arithmetic op t) (values.Int ta a) (values.Int tb b))
+      (arithmetic_checks op t))
   arithmetic_has Multiply = signed_has _ (range_check kinds.Overflow (least t) (pos (greatest t))) (is_signed t) tt
   arithmetic_has Divide = (tt, signed_has _ (range_check kinds.Quotient (least t) (pos (greatest t))) (is_signed t) tt)
   arithmetic_has Remainder = (tt, signed_has _ (range_check kinds.Quotient (least t) (pos (greatest t))) (is_signed t) tt)
@@ -147,7 +153,8 @@ module _ (t ta tb : IntType) (a b : ℤ) where
   shift_is_of shifts.Left h = wrapped_is_of t _
   shift_is_of shifts.Right h = right_is_of t a (2 ^ nat_abs b) h
 
-shift_has : (way : Shift) (t v u : IntType) (a b : ℤ) → HaveOperands (looks (number_operand (binaries.Shift way t) (values.Int v a) (values.Int u b)) (shift_checks way t))
+shift_has : (way : Shift) (t v u : IntType) (a b : ℤ) → HaveOperands (looks (number_operand (binaries.Shift way t) (values.Int v a) (values.Int u b))
+    (shift_checks way t))
 shift_has shifts.Left t v u a b = (tt, signed_has _ (range_check kinds.ShiftResult (pos 0) (pos (greatest t))) (is_signed t) tt)
 shift_has shifts.Right t v u a b = (tt, tt)
 
@@ -165,7 +172,8 @@ compared_is_of : (c : Comparison) (a b x y : ℤ) (same : Bool) → IsSomeAnd (i
 compared_is_of c a b x y true = bit_is_of _
 compared_is_of c a b x y false = bit_is_of _
 
-pointers_settle : (objects : List ObjectTree) (m : ObjectMemory) (c : Comparison) (v u : Value) → IsOf scalars.Pointer v → IsOf scalars.Pointer u → IsSettled (scalars.Int Int) (binary objects m (binaries.ComparePointers c) v u)
+pointers_settle : (objects : List ObjectTree) (m : ObjectMemory) (c : Comparison) (v u : Value) → IsOf scalars.Pointer v → IsOf scalars.Pointer u
+    → IsSettled (scalars.Int Int) (binary objects m (binaries.ComparePointers c) v u)
 pointers_settle objects m c (values.Ptr p) (values.Ptr q) h k =
     settles (scalars.Int Int) objects _ _ (pair_has _ _ c) (compared_is_of c p.offset q.offset (pos 0) (pos 1) (p.block == q.block))
 pointers_settle objects m c (values.Ptr p) values.Null h k = settles (scalars.Int Int) objects _ _ (pair_has _ _ c) (bit_is_of _)
@@ -176,19 +184,25 @@ pointers_settle objects m c (values.Ptr p) (values.Int t n) h k = absurd k
 pointers_settle objects m c values.Null (values.Int t n) h k = absurd k
 
 -- a pointer that is moved
-move_settles : (objects : List ObjectTree) (m : ObjectMemory) (v : Value) (d : ℤ) → IsOf scalars.Pointer v → IsSettled scalars.Pointer (outcome (judge objects (looks (moving_operand m v (moved v d)) move_checks)) (moved v d))
-move_settles objects m (values.Ptr p) d h = settles scalars.Pointer objects (looks (moving_operand m (values.Ptr p) (moved (values.Ptr p) d)) move_checks) (moved (values.Ptr p) d) (tt, (tt, (tt, tt))) tt
-move_settles objects m values.Null d h = settles scalars.Pointer objects (looks (moving_operand m values.Null (moved values.Null d)) move_checks) (moved values.Null d) (tt, (tt, (tt, tt))) tt
+move_settles : (objects : List ObjectTree) (m : ObjectMemory) (v : Value) (d : ℤ) → IsOf scalars.Pointer v
+    → IsSettled scalars.Pointer (outcome (judge objects (looks (moving_operand m v (moved v d)) move_checks)) (moved v d))
+move_settles objects m (values.Ptr p) d h = settles scalars.Pointer objects (looks (moving_operand m (values.Ptr p) (moved (values.Ptr p) d)) move_checks)
+    (moved (values.Ptr p) d) (tt, (tt, (tt, tt))) tt
+move_settles objects m values.Null d h = settles scalars.Pointer objects (looks (moving_operand m values.Null (moved values.Null d)) move_checks)
+    (moved values.Null d) (tt, (tt, (tt, tt))) tt
 move_settles objects m (values.Int t n) d h = absurd h
 
-null_settles : (ty : Scalar) (objects : List ObjectTree) (element : ℕ) (s : Spot) → IsSettled ty (outcome (judge objects (looks (pair_operand (Some s) (Some spots.Null)) (binary_checks (binaries.PointerMinusPointer element)))) None)
+null_settles : (ty : Scalar) (objects : List ObjectTree) (element : ℕ) (s : Spot)
+    → IsSettled ty (outcome (judge objects (looks (pair_operand (Some s) (Some spots.Null)) (binary_checks (binaries.PointerMinusPointer element)))) None)
 null_settles ty objects element spots.Null = tt
 null_settles ty objects element spots.Dead = tt
 null_settles ty objects element (spots.At o d) = tt
 
-difference_settles : (objects : List ObjectTree) (m : ObjectMemory) (element : ℕ) (v u : Value) → IsOf scalars.Pointer v → IsOf scalars.Pointer u → IsSettled (scalars.Int Long) (binary objects m (binaries.PointerMinusPointer element) v u)
+difference_settles : (objects : List ObjectTree) (m : ObjectMemory) (element : ℕ) (v u : Value) → IsOf scalars.Pointer v → IsOf scalars.Pointer u
+    → IsSettled (scalars.Int Long) (binary objects m (binaries.PointerMinusPointer element) v u)
 difference_settles objects m element (values.Ptr p) (values.Ptr q) h k =
-    settles (scalars.Int Long) objects (binary_looks m (binaries.PointerMinusPointer element) (values.Ptr p) (values.Ptr q)) (Some (difference element p q)) (tt, (tt, (tt, tt))) (refl, wrapped_is_of Long _)
+    settles (scalars.Int Long) objects (binary_looks m (binaries.PointerMinusPointer element) (values.Ptr p) (values.Ptr q)) (Some (difference element p q))
+    (tt, (tt, (tt, tt))) (refl, wrapped_is_of Long _)
 difference_settles objects m element (values.Ptr p) values.Null h k = null_settles (scalars.Int Long) objects element (spot_at m p)
 difference_settles objects m element values.Null (values.Ptr q) h k = tt
 difference_settles objects m element values.Null values.Null h k = tt
@@ -196,18 +210,22 @@ difference_settles objects m element (values.Int t n) u h k = absurd h
 difference_settles objects m element (values.Ptr p) (values.Int t n) h k = absurd k
 difference_settles objects m element values.Null (values.Int t n) h k = absurd k
 
-pub binary_settles : (objects : List ObjectTree) (m : ObjectMemory) (op : TBinaryOp) (v u : Value) → TakesBoth op v u → IsSettled (binary_type op) (binary objects m op v u)
-binary_settles objects m (binaries.Arithmetic op t) (values.Int ta a) (values.Int tb b) h = settles (scalars.Int t) objects _ _ (arithmetic_has t ta tb a b op) (refl, results t ta tb a b op)
+pub binary_settles : (objects : List ObjectTree) (m : ObjectMemory) (op : TBinaryOp) (v u : Value) → TakesBoth op v u
+    → IsSettled (binary_type op) (binary objects m op v u)
+binary_settles objects m (binaries.Arithmetic op t) (values.Int ta a) (values.Int tb b) h = settles (scalars.Int t) objects _ _ (arithmetic_has t ta tb a b op)
+    (refl, results t ta tb a b op)
 binary_settles objects m (binaries.Arithmetic op t) (values.Int ta a) (values.Ptr p) h = absurd h.1
 binary_settles objects m (binaries.Arithmetic op t) (values.Ptr p) u h = absurd h.0
 binary_settles objects m (binaries.Arithmetic op t) (values.Int ta a) values.Null h = absurd h.1
 binary_settles objects m (binaries.Arithmetic op t) values.Null u h = absurd h.0
-binary_settles objects m (binaries.Shift way t) (values.Int ta a) (values.Int tb b) h = settles (scalars.Int t) objects _ _ (shift_has way t ta tb a b) (refl, shift_is_of t ta tb a b way h.0.1)
+binary_settles objects m (binaries.Shift way t) (values.Int ta a) (values.Int tb b) h = settles (scalars.Int t) objects _ _ (shift_has way t ta tb a b)
+    (refl, shift_is_of t ta tb a b way h.0.1)
 binary_settles objects m (binaries.Shift way t) (values.Int ta a) (values.Ptr p) h = absurd h.1
 binary_settles objects m (binaries.Shift way t) (values.Ptr p) u h = absurd h.0
 binary_settles objects m (binaries.Shift way t) (values.Int ta a) values.Null h = absurd h.1
 binary_settles objects m (binaries.Shift way t) values.Null u h = absurd h.0
-binary_settles objects m (binaries.CompareInts c t) (values.Int ta a) (values.Int tb b) h = settles (scalars.Int Int) objects [] (compared c a b) tt (bit_is_of (compares c a b))
+binary_settles objects m (binaries.CompareInts c t) (values.Int ta a) (values.Int tb b) h = settles (scalars.Int Int) objects [] (compared c a b) tt
+    (bit_is_of (compares c a b))
 binary_settles objects m (binaries.CompareInts c t) (values.Int ta a) (values.Ptr p) h = absurd h.1
 binary_settles objects m (binaries.CompareInts c t) (values.Ptr p) u h = absurd h.0
 binary_settles objects m (binaries.CompareInts c t) (values.Int ta a) values.Null h = absurd h.1

@@ -38,6 +38,13 @@ TakesBoth (binaries.IntPlusPointer element) v u = IsOf scalars.Pointer u × IsIn
 TakesBoth (binaries.PointerMinusInt element) v u = IsOf scalars.Pointer v × IsInteger u × IsElement element
 TakesBoth (binaries.PointerMinusPointer element) v u = IsOf scalars.Pointer v × IsOf scalars.Pointer u × IsElement element
 
+-- an operator takes two numbers
+abbrev pub TakesNumbers : TBinaryOp → Type 0
+TakesNumbers (binaries.Arithmetic op t) = Unit {0}
+TakesNumbers (binaries.Shift way t) = Unit {0}
+TakesNumbers (binaries.CompareInts c t) = Unit {0}
+TakesNumbers op = ⊥
+
 -- C11 6.5.3.3p1
 abbrev pub TakesOne : TUnaryOp → Scalar → Value → Type 0
 TakesOne (unaries.Plus t) ty v = (ty ≡ scalars.Int t) × IsOf ty v

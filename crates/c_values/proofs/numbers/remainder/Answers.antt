@@ -15,5 +15,6 @@ returns-in-Ok c =
     let fa : FitsSigned w128 a = c.ranges.a in let fb : FitsSigned w128 b = c.ranges.b in
     let passes : divided t a b ≡ Passes = simp to_z-of_z at c.in-Ok.ensures.checked in
     let fits : FitsSigned w128 c.wrap.result = search rules in
-    let rest : to_z w128 (of_z w128 c.wrap.result) ≡ wrapped t (remainder a b) = to_z-of_z w128 c.wrap.result fits ∙ c.wrap.ensures ∙ ap (wrapped t) (rem_is w128 a b fa fb ∙ remainder_is a b) in
+    let rest : to_z w128 (of_z w128 c.wrap.result) ≡ wrapped t (remainder a b) = to_z-of_z w128 c.wrap.result fits ∙ c.wrap.ensures
+    ∙ ap (wrapped t) (rem_is w128 a b fa fb ∙ remainder_is a b) in
     rw passes (ap (λ n. Gives (values.Int t n)) (sym rest))

@@ -13,5 +13,6 @@ returns c =
     let fp : FitsSigned w64 p = search rules in let fq : FitsSigned w64 q = search rules in
     let fits : FitsSigned w128 c.wrap.result = search rules in
     let few : c.args.element < 2 ^ 64 = search rules in
-    let e = code_difference p q c.from.result c.from-2.result c.from-3.result c.args.element fp fq few (c.from.ensures ∙ to_z-of_z w64 p fp) (c.from-2.ensures ∙ to_z-of_z w64 q fq) c.from-3.ensures in
+    let e = code_difference p q c.from.result c.from-2.result c.from-3.result c.args.element fp fq few (c.from.ensures
+    ∙ to_z-of_z w64 p fp) (c.from-2.ensures ∙ to_z-of_z w64 q fq) c.from-3.ensures in
     ap (λ n. values.Int Long n) (to_z-of_z w128 c.wrap.result fits ∙ c.wrap.ensures ∙ ap (wrapped Long) e)

@@ -1,0 +1,6 @@
+pub mod Found
+pub mod Keeping
+pub mod Shutting
+pub mod Zeroed
+pub mod Writes
+pub mod Initials

@@ -1,0 +1,6 @@
+use Rattle.c_objects.proofs.Found.{read_answers}
+use Rattle.c_objects.proofs.memory.ObjectMemory.check_read.Goals as goal
+
+pub returns-in-Ptr : goal.returns-in-Ptr
+returns-in-Ptr c = λ objects fits. read_answers c.access.result objects c.args.self.now c.args.place c.in-Ptr.at c.in-Ptr.is fits c.args.size c.args.align
+    c.access.ensures

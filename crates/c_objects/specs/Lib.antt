@@ -1,0 +1,4 @@
+pub mod Opening
+pub mod Writing
+pub mod Statics
+pub mod Kept

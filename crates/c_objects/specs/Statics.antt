@@ -1,0 +1,68 @@
+-- Memory at the start of a run: objects of static duration live and have their initial bytes (C11 5.1.2, 6.2.4p3, 6.7.9p10).
+use Rattle.std.specs.Prelude.{ℕ, suc, pos, ◌≤◌, if◌then◌else◌, List, [], ◌∷◌, length, All, Option, None, Some, IfSome, IsSome, unwrap_or, slice_index_or}
+use Rattle.c_syntax.specs.declared.program.InitByte.{InitByte}
+use Rattle.c_syntax.specs.declared.program.InitByte.TheVariants as inits
+use Rattle.c_syntax.specs.declared.program.Initial.{Initial}
+use Rattle.c_syntax.specs.Types.{ObjectTree}
+use Rattle.block_mem.specs.declared.types.Byte.{Byte}
+use Rattle.block_mem.specs.declared.types.Byte.TheVariants.{Num, Frag}
+use Rattle.block_mem.specs.Block.{BlockView}
+use Rattle.block_mem.specs.Blocks.{block_at, set_byte}
+use Rattle.c_values.specs.Places.{ObjectMemory, place_of}
+use Rattle.c_objects.specs.Opening.{no_objects, opened}
+use Rattle.c_objects.specs.Writing.{with_blocks}
+
+-- the static ones among objects from number x on live, in their order
+abbrev pub open_statics : List ObjectTree → List ObjectTree → ℕ → ObjectMemory → ObjectMemory
+open_statics objects [] x m = m
+open_statics objects (o ∷ os) x m = open_statics objects os (suc x) (if o.is_static then opened objects m x else m)
+
+-- the block of an object that lives
+abbrev pub block_of : ObjectMemory → ℕ → ℕ
+block_of m x = unwrap_or (place_of m x) 0
+
+-- a byte of an initial value; the block of each static object is there before any byte is put in
+abbrev pub initial_byte : ObjectMemory → InitByte → Byte
+initial_byte m (inits.Num n) = Num n
+initial_byte m (inits.Piece object offset k) = Frag (record { block = block_of m object; offset = offset }) k
+
+-- initial bytes that are put into a block one by one, from an offset on
+abbrev pub put_from : ObjectMemory → ℕ → ℕ → List InitByte → List BlockView → List BlockView
+put_from m b k [] blocks = blocks
+put_from m b k (y ∷ ys) blocks = put_from m b (suc k) ys (set_byte blocks (record { block = b; offset = pos k }) (initial_byte m y))
+
+-- the first bytes of a block are initial ones
+abbrev pub with_initial_bytes : ObjectMemory → ℕ → List InitByte → ObjectMemory
+with_initial_bytes m b bs = with_blocks m (put_from m b 0 bs m.blocks)
+
+abbrev pub initial_at : ObjectMemory → Option ℕ → List InitByte → ObjectMemory
+initial_at m None bs = m
+initial_at m (Some b) bs = with_initial_bytes m b bs
+
+-- the initial bytes of an object that lives
+abbrev pub with_initial : ObjectMemory → Initial → ObjectMemory
+with_initial m i = initial_at m (place_of m i.object) i.bytes
+
+abbrev pub with_initials : ObjectMemory → List Initial → ObjectMemory
+with_initials m [] = m
+with_initials m (i ∷ is) = with_initials (with_initial m i) is
+
+-- memory where all objects of static duration live, with no value yet
+abbrev pub opened_statics : List ObjectTree → ObjectMemory
+opened_statics objects = open_statics objects objects 0 (no_objects (length objects))
+
+-- memory at the start of a run
+abbrev pub start : List ObjectTree → List Initial → ObjectMemory
+start objects initials = with_initials (opened_statics objects) initials
+
+-- the object that a piece points to has a block, and a number has eight bits
+abbrev pub HasBlock : List (Option ℕ) → InitByte → Type 0
+HasBlock places (inits.Num n) = Unit {0}
+HasBlock places (inits.Piece object offset k) = IsSome (slice_index_or places object None)
+
+-- an initial value is no longer than its object, and names objects that live
+abbrev pub FitsInitial : ObjectMemory → Initial → Type 0
+FitsInitial m i = IfSome (place_of m i.object) (λ b. length i.bytes ≤ length (block_at m.blocks b).bytes) × All (λ byte. HasBlock m.places byte) i.bytes
+
+abbrev pub FitInitials : ObjectMemory → List Initial → Type 0
+FitInitials m initials = All (λ i. FitsInitial m i) initials

@@ -1,0 +1,100 @@
+// What is left of an initialiser.
+#![tactic(auto, using(c_syntax::proofs::Trees::the_trees), unfolding(c_syntax::specs::TypedStmt::tinit_tree))]
+
+ghost use Rattle.std.specs.Prelude.{◌≡◌, ◌<◌, ◌^◌, Some, length, map, true};
+ghost use Rattle.c_syntax.specs.TypedStmt.{tinit_tree};
+ghost use Rattle.block_mem.specs.Blocks.{block_at};
+ghost use Rattle.c_syntax.specs.Types.{ctype_tree};
+ghost use Rattle.c_layout.specs.Checks.{scalar_bytes};
+ghost use Rattle.c_objects.specs.Kept.{IsFillable};
+ghost use Rattle.c_objects.specs.Writing as writing;
+ghost use Rattle.c_objects.specs.Writing.{with_blocks, zeroed};
+
+use crate::memory::ObjectMemory;
+use block_mem::{Pointer, Scalar, Value};
+use c_syntax::{CType, IntType, TInit};
+
+impl ObjectMemory {
+    /// Makes each byte of an object 0 that no item of its initialiser names, as by stores.
+    pub fn fill_rest(&mut self, object: u64, inits: &[TInit])
+        requires { IsFillable self.old object }
+        ensures { writing.rest self.old object (map tinit_tree inits.now) ≡ Some self.new }
+    {
+        if let Some(block) = self.place(object) {
+            self.zero_unnamed(block, inits);
+        }
+    }
+
+    fn zero_unnamed(&mut self, block: u64, inits: &[TInit])
+        requires made { block < length self.old.blocks }
+        requires live { (block_at self.old.blocks block).live ≡ true }
+        requires small { length (block_at self.old.blocks block).bytes < 2 ^ 63 }
+        ensures { self.new ≡ with_blocks self.old (zeroed (writing.is_named (map tinit_tree inits.now)) block (length (block_at self.old.blocks block).bytes) self.old.blocks) }
+    {
+        let size = self.blocks.size(block);
+        for offset in 0..size {
+            self.fill_byte(block, offset, inits);
+        }
+    }
+
+    fn fill_byte(&mut self, block: u64, offset: u64, inits: &[TInit])
+        requires made { block < length self.old.blocks }
+        requires live { (block_at self.old.blocks block).live ≡ true }
+        requires inside { offset < length (block_at self.old.blocks block).bytes }
+        requires small { length (block_at self.old.blocks block).bytes < 2 ^ 63 }
+        ensures { self.new ≡ with_blocks self.old (writing.zero_byte (writing.is_named (map tinit_tree inits.now)) block offset self.old.blocks) }
+    {
+        if !is_named(inits, offset) {
+            self.zero(block, offset);
+        }
+    }
+
+    fn zero(&mut self, block: u64, offset: u64)
+        requires made { block < length self.old.blocks }
+        requires live { (block_at self.old.blocks block).live ≡ true }
+        requires inside { offset < length (block_at self.old.blocks block).bytes }
+        requires small { length (block_at self.old.blocks block).bytes < 2 ^ 63 }
+        ensures { self.new ≡ with_blocks self.old (writing.zero_at block offset self.old.blocks) }
+    {
+        let at = Pointer {
+            block,
+            offset: offset as i64,
+        };
+        self.blocks.put(
+            at,
+            Scalar::Int(IntType::UChar),
+            Value::Int(IntType::UChar, 0),
+        );
+    }
+}
+
+// An item names the byte.
+fn is_named(inits: &[TInit], offset: u64) -> bool
+    ensures { result ≡ writing.is_named (map tinit_tree inits.now) offset }
+{
+    for init in inits {
+        if names(init, offset) {
+            return true;
+        }
+    }
+    false
+}
+
+fn names(init: &TInit, byte: u64) -> bool
+    ensures { result ≡ writing.names_byte (tinit_tree init.now) byte }
+{
+    match init {
+        TInit::Store { offset, ty, .. } => *offset <= byte && byte - *offset < bytes_of(ty),
+        TInit::Copy { offset, extent, .. } => *offset <= byte && byte - *offset < extent.size,
+    }
+}
+
+fn bytes_of(ty: &CType) -> u64
+    ensures { result ≡ scalar_bytes (ctype_tree ty.now) }
+{
+    match ty {
+        CType::Int(t) => u64::from(t.bytes()),
+        CType::Pointer(_) => 8,
+        CType::Void | CType::Array(_, _) | CType::Struct(_) | CType::Function(_) => 0,
+    }
+}

@@ -1,0 +1,33 @@
+//! The memory of a program's objects, and the operators and accesses of its values over it.
+//!
+//! Each object that lives has a block of `block_mem`, made when the object begins and ended when it ends.
+//! Beside the blocks the memory has the object of each block, live or dead, and the block of each object
+//! that lives. So where a pointer points is computed: into a dead block it is dead, and else it is at
+//! an offset in an object.
+//!
+//! For example, once an object of 12 bytes was opened, a pointer to its offset 4 that is moved by 8 bytes
+//! is one past the end, which is allowed; moved by 9 it is refused: Bounds, with the object and 13. After
+//! the object was shut, any move of it is refused: Dangling.
+//!
+//! | What | Stated in `specs/` | Promised by |
+//! |---|---|---|
+//! | blocks of objects | `Opening` | `new`, `open`, `shut`, `open_all`, `shut_all`, `address`, `undefine` |
+//! | operators | `c_values`, `Operators` | `binary`, `unary`, `member`, `check_test`, `check_assertion` |
+//! | accesses | `c_values`, `Accesses`; `Writing` | `check_read`, `check_write`, `load`, `store`, `copy` |
+//! | initialisers | `Writing` | `initialise`, `fill_rest` |
+//! | the start of a run | `Statics` | `start` |
+//! | what every memory keeps | `Kept` | `memory_keeps` |
+#![tactic(auto)]
+
+mod accesses;
+mod initial;
+mod laws;
+mod memory;
+mod operators;
+mod statics;
+#[cfg(test)]
+mod tests;
+mod writing;
+
+pub use laws::memory_keeps;
+pub use memory::ObjectMemory;
