@@ -3,3 +3,4 @@ pub mod Corners
 pub mod Order
 pub mod Operations
 pub mod Widening
+pub mod Laws

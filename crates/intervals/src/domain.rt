@@ -3,7 +3,8 @@
 ghost use Rattle.std.specs.Prelude.{◌≡◌, ℤ, ◌≤◌, ◌<◌, true, false};
 ghost use Rattle.num_api.specs.Weight.{range_weight};
 ghost use Rattle.ramps.specs.Told.{Keeps};
-ghost use Rattle.intervals.specs.Interval.{Admits, ends_of, class_of};
+ghost use Rattle.intervals.specs.Interval.{Admits, least_end, greatest_end, ends_of, class_of};
+ghost use Rattle.intervals.specs.Laws.{in_class_between, class_between_is_proper};
 ghost use Rattle.intervals.specs.Order.{includes};
 ghost use Rattle.intervals.specs.Widening.{widened};
 
@@ -20,6 +21,14 @@ impl ValueDomain for Interval {
     ghost known = { ends_of };
 
     ghost class = { class_of };
+
+    ghost known_holds = { λ i n h. record { low = h.0; high = h.1 } };
+
+    ghost known_some = { λ i claimed. i.holds };
+
+    ghost class_holds = { λ i n h. in_class_between (least_end i) (greatest_end i) n h.0 h.1 };
+
+    ghost class_proper = { λ i. class_between_is_proper (least_end i) (greatest_end i) };
 
     ghost holds = { includes };
 

@@ -1,7 +1,5 @@
 pub mod Moves
-pub mod Rings
-pub mod Multiples
-pub mod Remainders
+pub mod Divisors
 pub mod Members
 pub mod Steps
 pub mod Products

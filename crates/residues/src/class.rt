@@ -28,7 +28,8 @@ pub struct Class {
 
 impl Class {
     ghost use Rattle.residues.specs.Class.{residue_of};
-    ghost use Rattle.residues.specs.Classes.{class_of, IsClassOf};
+    ghost use Rattle.num_api.specs.Residues.{class_of};
+    ghost use Rattle.residues.specs.Classes.{IsClassOf};
 
     /// The class of a remainder and a modulus.
     pub fn new(r: Residue) -> Class
@@ -78,6 +79,8 @@ impl ValueDomain for Class {
     ghost use Rattle.residues.specs.Class.{residue_of, range_of_class, holds_class, class_weight};
     ghost use Rattle.num_api.specs.Residues.{InResidue};
     ghost use Rattle.residues.specs.Classes.{IsJoin, LiesIn, Meets};
+    ghost use Rattle.residues.specs.Laws.{in_range_of_class};
+    ghost use Rattle.std.proofs.lemmas.Bool.{false≢true};
     ghost use Rattle.num_api.specs.declared.message.Residue.{Residue};
     ghost use Rattle.std.specs.Prelude.{IfSome, IfNone};
 
@@ -87,11 +90,19 @@ impl ValueDomain for Class {
 
     ghost class = { residue_of };
 
+    ghost known_holds = { λ c n h. in_range_of_class (residue_of c) n c.proper h };
+
+    ghost class_holds = { λ c n h. h };
+
+    ghost class_proper = { λ c. c.proper };
+
     ghost holds = { λ c d. holds_class (residue_of c) (residue_of d) };
 
     ghost weight = { λ steps c. class_weight (residue_of c) };
 
     ghost exact = { false };
+
+    ghost known_some = { λ c claimed. absurd (false≢true claimed) };
 
     ghost folds = { true };
 

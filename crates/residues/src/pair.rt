@@ -112,6 +112,7 @@ impl<V: ValueDomain, W: ValueDomain> Pair<V, W> {
 }
 
 impl<V: ValueDomain, W: ValueDomain> ValueDomain for Pair<V, W> {
+    ghost use Rattle.residues.specs.Laws.{in_inward_range, inward_some};
     ghost use Rattle.residues.specs.Pair.{bounds_part, class_part, IsInBoth, range_of_pair};
 
     ghost admits = { IsInBoth V.admits W.admits };
@@ -120,11 +121,19 @@ impl<V: ValueDomain, W: ValueDomain> ValueDomain for Pair<V, W> {
 
     ghost class = { λ p. W.class (class_part p) };
 
+    ghost known_holds = { λ p n h. in_inward_range (W.class (class_part p)) (V.known (bounds_part p)) n (W.class_proper (class_part p)) (V.known_holds (bounds_part p) n h.0) (W.class_holds (class_part p) n h.1) };
+
+    ghost class_holds = { λ p n h. W.class_holds (class_part p) n h.1 };
+
+    ghost class_proper = { λ p. W.class_proper (class_part p) };
+
     ghost holds = { λ p q. V.holds (bounds_part p) (bounds_part q) && W.holds (class_part p) (class_part q) };
 
     ghost weight = { λ steps p. V.weight steps (bounds_part p) + W.weight steps (class_part p) };
 
     ghost exact = { V.exact };
+
+    ghost known_some = { λ p claimed. inward_some (W.class (class_part p)) (V.known (bounds_part p)) (V.known_some (bounds_part p) claimed) };
 
     ghost folds = { W.folds };
 

@@ -1,7 +1,9 @@
 // Rows worked by hand, and every call at a concrete type. The range domain here knows its range
 // until it is widened, and nothing of results.
 
-ghost use Rattle.std.specs.Prelude.{◌≡◌, ℤ, pos, false, if◌then◌else◌};
+ghost use Rattle.std.specs.Prelude.{◌≡◌, ℤ, pos, true, false, if◌then◌else◌, refl};
+ghost use Rattle.std.proofs.lemmas.Bool.{false≢true};
+ghost use Rattle.num_api.proofs.ClassLemmas.{in_any, any_is_proper};
 ghost use Rattle.ramps.specs.Steps.{least};
 ghost use Rattle.ramps.specs.Powers.{power_steps};
 ghost use Rattle.num_api.specs.Ranges.{InRange, all_numbers};
@@ -34,11 +36,19 @@ impl ValueDomain for Stretch {
 
     ghost class = { λ b. record { rem = pos 0; modulus = pos 1 } };
 
+    ghost known_holds = { λ b n h. elim b.any as (λ t. (t ≡ false → InRange b.range n) → InRange (if t then all_numbers else b.range) n) [ true ↦ λ k. record { low = tt; high = tt } | false ↦ λ k. k refl ] h };
+
+    ghost class_holds = { λ b n h. in_any n };
+
+    ghost class_proper = { λ b. any_is_proper };
+
     ghost holds = { λ b c. b.any };
 
     ghost weight = { λ steps b. if b.any then 0 else 1 };
 
     ghost exact = { false };
+
+    ghost known_some = { λ b claimed. absurd (false≢true claimed) };
 
     ghost folds = { false };
 

@@ -1,4 +1,5 @@
-use Rattle.residues.proofs.Inward.{inward_no_wider, inward_point, holds_from_some, point_inside}
+use Rattle.residues.specs.Laws.{inward_no_wider}
+use Rattle.residues.proofs.Inward.{inward_point, holds_from_some, point_inside}
 use Rattle.residues.proofs.pair.Pair.kept.Goals as goal
 
 pub returns-in-Some-clause-point : goal.returns-in-Some-clause-point

@@ -1,5 +1,6 @@
 use Rattle.std.proofs.Common.{sym, ◌∙◌}
-use Rattle.residues.proofs.Inward.{inward_no_wider, inward_has_some, no_wider_itself, no_wider_trans}
+use Rattle.residues.specs.Laws.{inward_no_wider}
+use Rattle.residues.proofs.Inward.{inward_has_some, no_wider_itself, no_wider_trans}
 use Rattle.residues.proofs.pair.Pair.tightened.Goals as goal
 
 pub returns-then-shares-clause-shares : goal.returns-then-shares-clause-shares
