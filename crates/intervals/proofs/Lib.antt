@@ -11,3 +11,5 @@ pub mod Remainders
 pub mod Shifts
 pub mod TwosComplement
 pub mod Widenings
+pub mod BitRanges
+pub mod ShiftRanges

@@ -4,3 +4,4 @@ pub mod Order
 pub mod Operations
 pub mod Widening
 pub mod Laws
+pub mod Bits

@@ -6,10 +6,12 @@ ghost use Rattle.ext_int.specs.Ext.{holds_number};
 
 use ext_int::{Ext, add_high, add_low, max, min, neg_high, neg_low};
 
+mod bit_ranges;
 mod bits;
 mod domain;
 mod ends;
 mod operators;
+mod shift_ranges;
 mod widening;
 
 use ends::{
