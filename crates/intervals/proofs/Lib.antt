@@ -13,3 +13,4 @@ pub mod TwosComplement
 pub mod Widenings
 pub mod BitRanges
 pub mod ShiftRanges
+pub mod EachEnd

@@ -5,7 +5,7 @@ ghost use Rattle.num_api.specs.Value.{binary_value};
 ghost use Rattle.ext_int.specs.Ext.{Above};
 ghost use Rattle.intervals.specs.Interval.{Admits, IsPoint};
 ghost use Rattle.intervals.specs.Order.{is_at_most, is_before, may_equal, may_differ, may_be_less, may_be_at_most};
-ghost use Rattle.intervals.specs.Operations.{CarriesOne, Carries, IsBitwise, IsTests, HoldsRemainders, size_less_one, greatest_remainder};
+ghost use Rattle.intervals.specs.Operations.{CarriesOne, Carries, Decides, IsBitwise, IsTests, HoldsRemainders, size_less_one, greatest_remainder};
 
 use crate::Interval;
 use crate::bit_ranges::logical;
@@ -41,7 +41,8 @@ pub fn unary(op: NOp, a: &Interval) -> Interval
 
 // What an operator of two operands makes of the intervals.
 pub fn binary(op: NOp, a: &Interval, b: &Interval) -> Interval
-    ensures { Carries op a.now b.now result }
+    ensures carries { Carries op a.now b.now result }
+    ensures decides { Decides op a.now b.now result }
 {
     match op {
         NOp::Neg | NOp::Not => all_numbers(),

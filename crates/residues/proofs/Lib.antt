@@ -7,3 +7,4 @@ pub mod Lattice
 pub mod Operators
 pub mod Crt
 pub mod Inward
+pub mod Pointed

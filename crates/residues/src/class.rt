@@ -1,6 +1,7 @@
 // Congruence classes.
 
-ghost use Rattle.std.specs.Prelude.{◌≡◌, ℤ, pos, ◌^◌, ◌≤ℤ◌, true, false};
+ghost use Rattle.std.specs.Prelude.{◌≡◌, ℤ, pos, ◌^◌, ◌≤◌, ◌<◌, ◌≤ℤ◌, true, false};
+ghost use Rattle.ramps.specs.Told.{Keeps};
 ghost use Rattle.num_api.specs.Residues.{IsResidue};
 
 mod arithmetic;
@@ -149,7 +150,15 @@ impl ValueDomain for Class {
         joined(*self, *other)
     }
 
-    fn widen<U: Fn(i128) -> Option<i128>, S: Steps>(&self, next: &Self, _ramp: &Ramp<U>) -> Self {
+    /// The join: the least class that holds both, where its modulus is at most 2^100.
+    fn widen<U: Fn(i128) -> Option<i128>, S: Steps>(&self, next: &Self, _ramp: &Ramp<U>) -> Self
+        requires { Keeps U.pre U.post _ramp.now S.list }
+        ensures left { (n : ℤ) → InResidue (residue_of self.now) n → InResidue (residue_of result) n }
+        ensures right { (n : ℤ) → InResidue (residue_of next.now) n → InResidue (residue_of result) n }
+        ensures no_rise { class_weight (residue_of result) ≤ class_weight (residue_of self.now) }
+        ensures falls { holds_class (residue_of self.now) (residue_of next.now) ≡ false → class_weight (residue_of result) < class_weight (residue_of self.now) }
+        ensures least { (s : Residue) → IsJoin (residue_of self.now) (residue_of next.now) s → LiesIn (residue_of result) s }
+    {
         joined(*self, *next)
     }
 

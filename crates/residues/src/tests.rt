@@ -331,8 +331,12 @@ fn pairs_of_intervals(rt: HostRuntime) {
             NOp::Rem,
             (0, 90, (2, 10)),
             (10, 10, (10, 0)),
-            (2, 2, (2, 10)),
+            (2, 2, (2, 0)),
         ),
+        (NOp::Eq, (0, 90, (0, 2)), (0, 90, (1, 2)), (0, 0, (0, 0))),
+        (NOp::Ne, (0, 90, (0, 2)), (0, 90, (1, 2)), (1, 1, (1, 0))),
+        (NOp::Eq, (0, 90, (0, 2)), (0, 90, (0, 3)), (0, 1, (0, 1))),
+        (NOp::Shr, (8, 9, (0, 1)), (1, 1, (1, 0)), (4, 4, (4, 0))),
     ];
     for (op, a, b, expected) in rows {
         let left = interval(a.0, a.1, class(a.2.0, a.2.1));
@@ -349,6 +353,14 @@ fn pairs_of_intervals(rt: HostRuntime) {
             );
             assert_eq!(rt; Class::new(result.residue()), class(expected.2.0, expected.2.1), "{op:?}");
         }
+    }
+    let one = interval(1, 1, class(1, 0));
+    let halves = (interval(8, 9, class(0, 1)), interval(16, 17, class(0, 1)));
+    if let (Some(one), (Some(four), Some(eight))) = (one, halves) {
+        let four = Pair::binary(NOp::Shr, &four, &one);
+        let eight = Pair::binary(NOp::Shr, &eight, &one);
+        let either = four.join(&eight);
+        assert_eq!(rt; either.residue(), Residue { rem: 0, modulus: 4 });
     }
     let some = interval(5, 7, class(0, 1));
     let fours = interval(-100, 100, class(0, 4));
