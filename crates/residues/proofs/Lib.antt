@@ -8,3 +8,4 @@ pub mod Operators
 pub mod Crt
 pub mod Inward
 pub mod Pointed
+pub mod LowBits

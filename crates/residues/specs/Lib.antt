@@ -3,3 +3,4 @@ pub mod Class
 pub mod Inward
 pub mod Pair
 pub mod Laws
+pub mod LowBits

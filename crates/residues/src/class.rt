@@ -5,6 +5,7 @@ ghost use Rattle.ramps.specs.Told.{Keeps};
 ghost use Rattle.num_api.specs.Residues.{IsResidue};
 
 mod arithmetic;
+mod bits;
 mod lattice;
 mod meeting;
 mod operators;

@@ -156,7 +156,14 @@ fn operators(rt: HostRuntime) {
         (NOp::And, (6, 0), (3, 0), (2, 0)),
         (NOp::And, (-1, 0), (12, 0), (12, 0)),
         (NOp::Xor, (-1, 0), (0, 0), (-1, 0)),
-        (NOp::Or, (4, 8), (3, 0), (0, 1)),
+        (NOp::Or, (4, 8), (3, 0), (7, 8)),
+        (NOp::Or, (0, 1), (4, 0), (0, 1)),
+        (NOp::Xor, (0, 16), (5, 0), (5, 16)),
+        (NOp::Xor, (1, 6), (3, 4), (0, 2)),
+        (NOp::And, (0, 1), (-8, 0), (0, 8)),
+        (NOp::And, (12, 0), (0, 1), (0, 4)),
+        (NOp::And, (4, 8), (-8, 0), (0, 8)),
+        (NOp::And, (4, 8), (7, 0), (4, 8)),
     ];
     for (op, a, b, expected) in rows {
         let result = Class::binary(op, &class(a.0, a.1), &class(b.0, b.1));

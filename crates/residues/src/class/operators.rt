@@ -9,6 +9,7 @@ ghost use Rattle.residues.specs.Class.{residue_of};
 
 use super::Class;
 use super::arithmetic::{difference, sum};
+use super::bits::logical;
 use super::lattice::has;
 use super::products::{product, rest};
 use intervals::Interval;
@@ -65,7 +66,7 @@ fn powers(a: Class) -> Class
 }
 
 // An operator that keeps no class of sums or products: that of its value at two numbers, the class
-// of remainders, or all numbers.
+// of remainders or of low bits, or all numbers.
 fn other(op: NOp, a: Class, b: Class) -> Class
     ensures { (x y n : ℤ) → InResidue (residue_of a) x → InResidue (residue_of b) y → binary_value op x y ≡ Some n → InResidue (residue_of result) n }
 {
@@ -74,12 +75,13 @@ fn other(op: NOp, a: Class, b: Class) -> Class
     }
     match op {
         NOp::Rem => rest(a, b),
+        NOp::And | NOp::Or | NOp::Xor => logical(op, a, b),
         _ => Class::all(),
     }
 }
 
 // The class of the operator's value at two numbers, as intervals have it.
-fn at_numbers(op: NOp, x: i128, y: i128) -> Class
+pub(super) fn at_numbers(op: NOp, x: i128, y: i128) -> Class
     ensures { (n : ℤ) → binary_value op x y ≡ Some n → InResidue (residue_of result) n }
 {
     let value = Interval::binary(op, &Interval::point(x), &Interval::point(y));
