@@ -1,6 +1,6 @@
 -- Classes of the number of a range that holds no other.
 use Rattle.std.proofs.Common.{◌≡◌, ℤ, pos, ◌+ℤ◌, ◌*ℤ◌, ◌≤ℤ◌, ◌⊎◌, ⊎_elim, arith, ap, sym, subst, ◌∙◌}
-use Rattle.std.specs.Prelude.{IsTrue, Bool}
+use Rattle.std.specs.Prelude.{IsTrue, Bool, Option, Some, None, IfNone}
 use Rattle.std.proofs.lemmas.Int.{ints}
 use Rattle.ext_int.specs.declared.Ext.{Ext}
 use Rattle.ext_int.specs.Ext.{Below, Above}
@@ -12,7 +12,7 @@ use Rattle.num_api.proofs.Multiples.{multiple_along, multiple_add, multiple_time
 use Rattle.num_api.specs.Spans.{point, range_of}
 use Rattle.residues.specs.Inward.{HasSome}
 
-only : (r : Range) (n m : ℤ) → IsPoint r n → InRange r m → m ≡ n
+pub only : (r : Range) (n m : ℤ) → IsPoint r n → InRange r m → m ≡ n
 only r n m p h =
     let low : n ≤ℤ m = subst (λ (e : Ext). Below e m) p.low h.low in
     let high : m ≤ℤ n = subst (λ (e : Ext). Above e m) p.high h.high in
@@ -36,3 +36,7 @@ fold_of_either class c before kept after r t same which some h =
 
 pub at_point : (r : Range) (n : ℤ) → r ≡ range_of (point n) → IsPoint r n
 at_point r n e = record { low = ap (λ (s : Range). s.lo) e; high = ap (λ (s : Range). s.hi) e }
+
+pub if_none_map : {A : Type 0} {X Y : Type 0} (o : Option A) → (X → Y) → IfNone o X → IfNone o Y
+if_none_map None f h = f h
+if_none_map (Some a) f h = h

@@ -82,6 +82,13 @@ impl ValueDomain for Class {
     ghost use Rattle.num_api.specs.Residues.{InResidue};
     ghost use Rattle.residues.specs.Classes.{IsJoin, LiesIn, Meets};
     ghost use Rattle.residues.specs.Laws.{in_range_of_class};
+    ghost use Rattle.num_api.specs.Fold.{IsAlignment};
+    ghost use Rattle.num_api.specs.Residues.{class_of, IsFoldResidue, IsMultiple};
+    ghost use Rattle.num_api.specs.Value.{binary_value};
+    ghost use Rattle.num_api.specs.declared.expr.NOp.TheVariants.{Add, Mul};
+    ghost use Rattle.std.specs.Prelude.{IsTrue, Some};
+    ghost use Rattle.std.specs.Int.RustNames.{FitsSigned};
+    ghost use mir.Syntax.{w128};
     ghost use Rattle.std.proofs.lemmas.Bool.{false≢true};
     ghost use Rattle.num_api.specs.declared.message.Residue.{Residue};
     ghost use Rattle.std.specs.Prelude.{IfSome, IfNone};
@@ -128,7 +135,14 @@ impl ValueDomain for Class {
         unary(op, *a)
     }
 
-    fn binary(op: NOp, a: &Self, b: &Self) -> Self {
+    /// At two numbers the class of the value, where that is an `i128`.
+    fn binary(op: NOp, a: &Self, b: &Self) -> Self
+        ensures holds { (x y n : ℤ) → InResidue (residue_of a.now) x → InResidue (residue_of b.now) y → binary_value op x y ≡ Some n → InResidue (residue_of result) n }
+        ensures fold_sum { (c : ℤ) → IsTrue true → IsAlignment c → op ≡ Add → IsFoldResidue c (residue_of a.now) → IsFoldResidue c (residue_of b.now) → IsFoldResidue c (residue_of result) }
+        ensures fold_left { (c n : ℤ) → IsTrue true → IsAlignment c → op ≡ Mul → IsMultiple c n → residue_of a.now ≡ record { rem = n; modulus = pos 0 } → IsFoldResidue c (residue_of result) }
+        ensures fold_right { (c n : ℤ) → IsTrue true → IsAlignment c → op ≡ Mul → IsMultiple c n → residue_of b.now ≡ record { rem = n; modulus = pos 0 } → IsFoldResidue c (residue_of result) }
+        ensures numbers { (x y n : ℤ) → residue_of a.now ≡ class_of x (pos 0) → residue_of b.now ≡ class_of y (pos 0) → binary_value op x y ≡ Some n → FitsSigned w128 n → residue_of result ≡ class_of n (pos 0) }
+    {
         binary(op, *a, *b)
     }
 

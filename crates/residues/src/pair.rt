@@ -7,8 +7,7 @@ ghost use Rattle.num_api.specs.Residues.{class_of, IsResidue, IsFoldResidue};
 ghost use Rattle.residues.specs.Inward.{moved_range, HasSome, IsReduced};
 
 use crate::Class;
-use crate::ends::{inward, is_same, meets};
-use ext_int::Ext;
+use crate::ends::{inward, is_same, meets, number};
 use intervals::Interval;
 use num_api::{ExactValue, NOp, Range, Residue, ValueDomain};
 use ramps::{Ramp, Steps};
@@ -20,16 +19,6 @@ use ramps::{Ramp, Steps};
 pub struct Pair<V, W> {
     bounds: V,
     class: W,
-}
-
-// The range's number, where it holds no other.
-fn number(r: Range) -> Option<i128>
-    ensures { IfSome result (λ n. IsPoint r n) }
-{
-    match (r.lo, r.hi) {
-        (Ext::Fin(lo), Ext::Fin(hi)) if lo == hi => Some(lo),
-        _ => None,
-    }
 }
 
 // What a test for equality answers of two numbers that are not equal.

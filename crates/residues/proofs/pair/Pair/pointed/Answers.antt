@@ -12,4 +12,4 @@ returns-clause-class g c =
     let n = c.in-Some.n in
     let f : FitsSigned w128 n = search rules in
     let is : c.point.result ≡ range_of (point n) = rw (to_z-of_z w128 n f) at c.point.ensures in
-    inr (n, subst (λ (r : Range). IsPoint r n) c.ends.ensures.value c.in-Some.ensures, λ t. c.in-Some-within.ensures.fold n t (at_point c.point.result n is))
+    inr (n, subst (λ (r : Range). IsPoint r n) c.ends.ensures.value c.in-Some.ensures.some, λ t. c.in-Some-within.ensures.fold n t (at_point c.point.result n is))
