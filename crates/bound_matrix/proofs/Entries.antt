@@ -3,7 +3,7 @@ use Rattle.std.specs.Prelude.{ℤ, pos, ◌≡◌, ◌^◌, ◌+ℤ◌, ◌≤�
 use Rattle.std.specs.Int.RustNames.{int_le}
 use Rattle.std.proofs.Common.{arith, sym, subst, refl, ap, ◌∙◌}
 use Rattle.std.proofs.lemmas.Int.{ints, by_lt_z}
-use Rattle.ext_int.specs.Ext.{Above, lesser}
+use Rattle.ext_int.specs.Ext.{Above, lesser, greater}
 use Rattle.ext_int.specs.declared.Ext.{Ext}
 use Rattle.ext_int.specs.declared.Ext.TheVariants.{Low, Fin, High}
 use Rattle.bound_matrix.specs.Bound.{InRange, cut}
@@ -129,3 +129,10 @@ relax-range e c f g r s = subst InRange (sym g) (lesser-range e c r s)
 -- the lesser of a bound and 0
 pub zero-range : (e : Ext) → InRange e → InRange (lesser e (Fin (pos 0)))
 zero-range e r = lesser-range e (Fin (pos 0)) r (omega (arith, ints), omega (arith, ints))
+
+pub greater-range : (a b : Ext) → InRange a → InRange b → InRange (greater a b)
+greater-range Low b h g = absurd h
+greater-range (Fin x) Low h g = absurd g
+greater-range (Fin x) (Fin y) h g = (grind (arith, ints), grind (arith, ints))
+greater-range (Fin x) High h g = tt
+greater-range High b h g = tt

@@ -3,11 +3,11 @@ use Rattle.std.specs.Prelude.{ℕ, zero, suc, ◌≡◌, ◌<◌, ◌≤◌, ◌
 use Rattle.std.proofs.Common.{arith, sym, subst, refl, ap, ◌∙◌, length-set, replicate}
 use Rattle.std.proofs.lemmas.List.{get_or-set_same, get_or-set_other, get_or-replicate, length-replicate}
 use Rattle.std.proofs.lemmas.Bool.Decides.{nat_tests}
-use Rattle.ext_int.specs.Ext.{lesser}
+use Rattle.ext_int.specs.Ext.{lesser, greater}
 use Rattle.ext_int.specs.declared.Ext.{Ext}
 use Rattle.ext_int.specs.declared.Ext.TheVariants.{Low, High}
-use Rattle.bound_matrix.specs.Bound.{bar, reach, row_start, place, entry, cut, InRange, IsKept, LowersTo, MatrixView, bound_at}
-use Rattle.bound_matrix.proofs.Entries.{lesser-range}
+use Rattle.bound_matrix.specs.Bound.{bar, reach, row_start, place, entry, cut, InRange, IsKept, LowersTo, RaisesTo, MatrixView, bound_at}
+use Rattle.bound_matrix.proofs.Entries.{greater-range, lesser-range}
 
 -- ---- cases
 
@@ -292,3 +292,64 @@ row-cost i = by (sign i)
     by : Sign i → row_start i + reach i ≤ row_start (i + 1)
     by (even a p q r s t) = let e = next in omega arith
     by (odd a p q r s t) = let e = next in omega arith
+
+-- ---- the same for a raised bound
+
+module _ (n : ℕ) (s : List Ext) (i j : ℕ) (b : Ext) (kept : IsKept n s) (row : i < n + n) (column : j < n + n) where
+  pub raised-after : List Ext
+  raised-after = slice_set s (place i j) (greater (slice_index_or s (place i j) Low) (cut b))
+
+  raised-was : slice_index_or s (place i j) Low ≡ entry n s i j
+  raised-was = sym (entry-in n s i j row column)
+
+  raised-at-place : slice_index_or raised-after (place i j) Low ≡ greater (entry n s i j) (cut b)
+  unfolding raised-after
+  raised-at-place = get_or-set_same s (place i j) _ Low (let l = place-less n i j row column in let k = kept.size in omega arith) ∙ ap (λ (e : Ext). greater e (cut b)) raised-was
+
+  raised-here : entry n raised-after i j ≡ greater (entry n s i j) (cut b)
+  raised-here = entry-in n raised-after i j row column ∙ raised-at-place
+
+  raised-elsewhere : (p q : ℕ) → (p ≡ i → q ≡ j → ⊥) → (p ≡ bar j → q ≡ bar i → ⊥) → entry n raised-after p q ≡ entry n s p q
+  unfolding raised-after
+  raised-elsewhere p q f g = inside-or n p q
+      (λ a c. entry-in n raised-after p q a c ∙ (get_or-set_other s (place i j) (place p q) _ Low (λ e. place-same i j p q e f g) ∙ sym (entry-in n s p q a c)))
+      (λ o. entry-out n raised-after p q o ∙ sym (entry-out n s p q o))
+
+  pub set-raises : RaisesTo i j b (entry n s) (entry n raised-after)
+  set-raises = record { here = raised-here; mirror = entry-mirror n raised-after i j ∙ raised-here; others = raised-elsewhere }
+
+  pub set-raised_kept : InRange (cut b) → IsKept n raised-after
+  unfolding raised-after
+  set-raised_kept r = record {
+    few = kept.few;
+    size = length-set s (place i j) _ ∙ kept.size;
+    range = record { range = λ p q. nat-either p i (λ d. nat-either q j (λ e. rw (d, e) new) (λ e. mirrored p q (λ _ k. e k))) (λ d. mirrored p q (λ k _. d k)) };
+  }
+    where
+      new : InRange (entry n raised-after i j)
+      new = subst InRange (sym raised-here) (greater-range (entry n s i j) (cut b) (kept.range.range i j) r)
+
+      mirrored : (p q : ℕ) → (p ≡ i → q ≡ j → ⊥) → InRange (entry n raised-after p q)
+      mirrored p q f = nat-either p (bar j)
+          (λ d. nat-either q (bar i)
+          (λ e. subst InRange (sym (rw (d, e) (entry-mirror n raised-after i j))) new)
+          (λ e. subst InRange (sym (raised-elsewhere p q f (λ _ k. e k))) (kept.range.range p q)))
+          (λ d. subst InRange (sym (raised-elsewhere p q f (λ k _. d k))) (kept.range.range p q))
+
+raised-written : (s : List Ext) (i j p : ℕ) (b c e : Ext) → p ≡ place i j → c ≡ cut b → e ≡ greater (slice_index_or s p Low) c → slice_set s p e ≡ slice_set s (place i j) (greater (slice_index_or s (place i j) Low) (cut b))
+raised-written s i j p b c e x y z = cc
+
+pub raised-raises : (n : ℕ) (s : List Ext) (i j : ℕ) (b : Ext) (p : ℕ) (c e : Ext) → IsKept n s → i < n + n → j < n + n → p ≡ place i j → c ≡ cut b → e ≡ greater (slice_index_or s p Low) c → RaisesTo i j b (entry n s) (entry n (slice_set s p e))
+unfolding raised-after
+raised-raises n s i j b p c e k h g x y z = rw (raised-written s i j p b c e x y z) (set-raises n s i j b k h g)
+
+pub raised-kept : (n : ℕ) (s : List Ext) (i j : ℕ) (b : Ext) (p : ℕ) (c e : Ext) → IsKept n s → i < n + n → j < n + n → p ≡ place i j → c ≡ cut b → e ≡ greater (slice_index_or s p Low) c → InRange c → IsKept n (slice_set s p e)
+unfolding raised-after
+raised-kept n s i j b p c e k h g x y z r = rw (raised-written s i j p b c e x y z) (set-raised_kept n s i j b k h g (subst InRange y r))
+
+pub empty-kept : (s : List Ext) → length s ≡ 0 → IsKept 0 s
+empty-kept s e = record {
+  few = omega arith;
+  size = e;
+  range = record { range = λ i j. subst InRange (sym (entry-out 0 s i j (λ h g. omega arith))) tt };
+}

@@ -2,7 +2,7 @@
 use Rattle.std.specs.Prelude.{ℕ, zero, suc, pos, neg_ℤ, ◌≡◌, ◌≤◌, ◌+◌, ◌-◌, ◌*◌, ◌%◌, ◌^◌, ◌≤ℤ◌, ◌&&◌, if◌then◌else◌, List, length, slice_index_or, nat_lt, nat_eq}
 use Rattle.std.specs.Int.{int_max}
 use Rattle.std.specs.Int.RustNames.{int_le}
-use Rattle.ext_int.specs.Ext.{lesser}
+use Rattle.ext_int.specs.Ext.{lesser, greater}
 use Rattle.ext_int.specs.declared.Ext.{Ext}
 use Rattle.ext_int.specs.declared.Ext.TheVariants.{Low, Fin, High}
 
@@ -62,4 +62,10 @@ cut High = High
 pub record LowersTo (i j : ℕ) (new : Ext) (before after : ℕ → ℕ → Ext) : Type 0 where
   pub here : after i j ≡ lesser (before i j) (cut new)
   pub mirror : after (bar j) (bar i) ≡ lesser (before i j) (cut new)
+  pub others : (p q : ℕ) → (p ≡ i → q ≡ j → ⊥) → (p ≡ bar j → q ≡ bar i → ⊥) → after p q ≡ before p q
+
+-- after is before with the bound of i and j, and its mirror image, raised to the new bound; every other bound is as it was
+pub record RaisesTo (i j : ℕ) (new : Ext) (before after : ℕ → ℕ → Ext) : Type 0 where
+  pub here : after i j ≡ greater (before i j) (cut new)
+  pub mirror : after (bar j) (bar i) ≡ greater (before i j) (cut new)
   pub others : (p q : ℕ) → (p ≡ i → q ≡ j → ⊥) → (p ≡ bar j → q ≡ bar i → ⊥) → after p q ≡ before p q

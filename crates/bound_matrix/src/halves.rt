@@ -1,10 +1,10 @@
 //! A matrix that keeps one of two mirrored bounds.
 ghost use Rattle.std.specs.Prelude.{◌≡◌, ℕ, ◌≤◌, ◌<◌, ◌+◌, ◌*◌, IfOk};
 ghost use Rattle.ext_int.specs.declared.Ext.TheVariants.{High};
-ghost use Rattle.bound_matrix.specs.Bound.{bar, bound_at, InRange, AllInRange, LowersTo};
+ghost use Rattle.bound_matrix.specs.Bound.{bar, bound_at, InRange, AllInRange, LowersTo, RaisesTo, IsKept};
 
 use crate::counting::Steps;
-use crate::kept::{lower_kept, read_kept};
+use crate::kept::{lower_kept, raise_kept, read_kept};
 use ext_int::Ext;
 use std::alloc::{AllocError as NoMemory, Global};
 use std::marker::Model;
@@ -49,6 +49,24 @@ impl Half {
         self.vars + self.vars
     }
 
+    /// A matrix for no variables. It takes no memory.
+    pub fn empty(alloc: Global) -> Half
+        ensures { result.vars ≡ 0 }
+    {
+        Half {
+            vars: 0,
+            kept: Vec::new(alloc),
+        }
+    }
+
+    /// How many variables there are.
+    pub fn vars(&self) -> u32
+        ensures value { result ≡ self.now.vars }
+        ensures kept { IsKept self.now.vars self.now.kept }
+    {
+        self.vars
+    }
+
     /// How many bounds are kept.
     pub fn stored(&self) -> u32
         ensures { result ≡ 2 * self.now.vars * (self.now.vars + 1) }
@@ -88,5 +106,33 @@ impl Half {
             j as usize,
             bound,
         );
+    }
+
+    /// Raises the bound of `V(j) - V(i)`, and with it its mirror image, to `bound` where that is greater.
+    pub fn raise<L: Ledger>(&mut self, i: u32, j: u32, bound: Ext, steps: &mut Steps<L>)
+        requires row { i < 2 * self.old.vars }
+        requires column { j < 2 * self.old.vars }
+        ensures vars { self.new.vars ≡ self.old.vars }
+        ensures raised { RaisesTo i j bound (bound_at self.old) (bound_at self.new) }
+        ensures step { steps.new ≡ steps.old + 1 }
+    {
+        steps.tick();
+        raise_kept(
+            &mut self.kept,
+            self.vars as usize,
+            i as usize,
+            j as usize,
+            bound,
+        );
+    }
+
+    /// The same bounds once more.
+    pub fn copy(&self) -> Result<Half, NoMemory>
+        ensures { IfOk result (λ m. m ≡ self.now) }
+    {
+        Ok(Half {
+            vars: self.vars,
+            kept: self.kept.clone()?,
+        })
     }
 }

@@ -1,6 +1,6 @@
 //! Half of a coherent matrix in a list: row by row, of two mirrored bounds one.
 ghost use Rattle.std.specs.Prelude.{◌≡◌, ◌<◌, ◌+◌};
-ghost use Rattle.bound_matrix.specs.Bound.{bar, reach, row_start, place, entry, cut, InRange, IsKept, LowersTo};
+ghost use Rattle.bound_matrix.specs.Bound.{bar, reach, row_start, place, entry, cut, InRange, IsKept, LowersTo, RaisesTo};
 
 use ext_int::{Ext, max, min};
 
@@ -78,4 +78,16 @@ pub fn lower_kept(kept: &mut [Ext], vars: usize, i: usize, j: usize, bound: Ext)
 {
     let place = place_of(i, j);
     kept[place] = min(kept[place], cut_bound(bound));
+}
+
+/// Raises the bound of `i` and `j` and its mirror image.
+pub fn raise_kept(kept: &mut [Ext], vars: usize, i: usize, j: usize, bound: Ext)
+    requires kept { IsKept vars kept.old }
+    requires row { i < vars + vars }
+    requires column { j < vars + vars }
+    ensures kept { IsKept vars kept.new }
+    ensures raised { RaisesTo i j bound (entry vars kept.old) (entry vars kept.new) }
+{
+    let place = place_of(i, j);
+    kept[place] = max(kept[place], cut_bound(bound));
 }

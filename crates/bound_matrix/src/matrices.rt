@@ -2,7 +2,7 @@
 ghost use Rattle.std.specs.Prelude.{◌≡◌, ℕ, ℤ, List, ◌≤◌, ◌<◌, ◌+◌, ◌*◌, ◌↔◌, IfOk};
 ghost use Rattle.ext_int.specs.Ext.{AtMost};
 ghost use Rattle.ext_int.specs.declared.Ext.TheVariants.{High};
-ghost use Rattle.bound_matrix.specs.Bound.{bar, bound_at, InRange, LowersTo};
+ghost use Rattle.bound_matrix.specs.Bound.{bar, bound_at, InRange, LowersTo, RaisesTo, IsKept};
 ghost use Rattle.bound_matrix.specs.Points.{IsPoint, IsSmall, IsTight, WasTight};
 
 use crate::counting::Steps;
@@ -62,6 +62,45 @@ impl Matrix {
         ensures lowered { LowersTo i j bound (bound_at self.old) (bound_at self.new) }
     {
         lower_uncounted::<Brand>(&mut self.half, i, j, bound, Blank::new(1))
+    }
+
+    /// Raises the bound of `V(j) - V(i)`, and with it that of `V(i xor 1) - V(j xor 1)`, to `bound`
+    /// where that is greater. A bound above 2^100 says nothing, and one below -2^100 is raised to it.
+    /// The indices are below `2 * vars`.
+    pub fn raise(&mut self, i: u32, j: u32, bound: Ext)
+        requires row { i < 2 * self.old.vars }
+        requires column { j < 2 * self.old.vars }
+        ensures vars { self.new.vars ≡ self.old.vars }
+        ensures raised { RaisesTo i j bound (bound_at self.old) (bound_at self.new) }
+    {
+        raise_uncounted::<Brand>(&mut self.half, i, j, bound, Blank::new(1))
+    }
+
+    /// The same matrix once more.
+    pub fn copy(&self) -> Result<Matrix, NoMemory>
+        ensures { IfOk result (λ m. m ≡ self.now) }
+    {
+        Ok(Matrix {
+            half: self.half.copy()?,
+        })
+    }
+
+    /// A matrix for no variables. It takes no memory.
+    pub fn empty(alloc: Global) -> Matrix
+        ensures { result.vars ≡ 0 }
+    {
+        Matrix {
+            half: Half::empty(alloc),
+        }
+    }
+
+    /// How many variables there are: at most 24.
+    pub fn vars(&self) -> u32
+        ensures value { result ≡ self.now.vars }
+        ensures few { result ≤ 24 }
+        ensures kept { IsKept self.now.vars self.now.kept }
+    {
+        self.half.vars()
     }
 
     /// How many bounds are kept.
@@ -125,6 +164,19 @@ fn lower_uncounted<L: Ledger>(m: &mut Half, i: u32, j: u32, bound: Ext, blank: B
     ensures lowered { LowersTo i j bound (bound_at m.old) (bound_at m.new) }
 {
     m.lower(i, j, bound, &mut Steps::<L>::start(blank))
+}
+
+/// Raises a bound, on a count that ends with the call.
+fn raise_uncounted<L: Ledger>(m: &mut Half, i: u32, j: u32, bound: Ext, blank: Blank)
+    requires row { i < 2 * m.old.vars }
+    requires column { j < 2 * m.old.vars }
+    requires name { blank.name ≡ L.name }
+    requires parts { blank.parts ≡ L.parts }
+    requires some_part { 0 < blank.parts }
+    ensures vars { m.new.vars ≡ m.old.vars }
+    ensures raised { RaisesTo i j bound (bound_at m.old) (bound_at m.new) }
+{
+    m.raise(i, j, bound, &mut Steps::<L>::start(blank))
 }
 
 /// Closes a matrix, on a count that ends with the call.

@@ -151,6 +151,23 @@ fn cuts_bounds(rt: HostRuntime) {
 
 // x(k) - x(k + 1) <= 1 for 24 variables.
 #[test]
+fn raises_and_copies(rt: HostRuntime) {
+    let none = Matrix::empty(rt.alloc());
+    assert_eq!(rt; none.vars(), 0);
+    let mut m = Matrix::new(rt.alloc(), 2).expect(&rt, "memory");
+    m.lower(2, 0, Fin(3));
+    let before = m.copy().expect(&rt, "memory");
+    m.raise(2, 0, Fin(5));
+    assert_eq!(rt; m.vars(), 2);
+    assert_eq!(rt; (m.get(2, 0), m.get(1, 3)), (Fin(5), Fin(5)));
+    assert_eq!(rt; (before.get(2, 0), before.get(1, 3)), (Fin(3), Fin(3)));
+    m.raise(1, 3, Fin(4));
+    assert_eq!(rt; m.get(2, 0), Fin(5));
+    m.raise(1, 3, Ext::High);
+    assert_eq!(rt; m.get(2, 0), Ext::High);
+}
+
+#[test]
 fn closes_a_chain(rt: HostRuntime) {
     let mut m = Matrix::new(rt.alloc(), 24).expect(&rt, "memory");
     assert_eq!(rt; m.stored(), 1200);

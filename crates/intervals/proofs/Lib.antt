@@ -11,3 +11,6 @@ pub mod Remainders
 pub mod Shifts
 pub mod TwosComplement
 pub mod Widenings
+pub mod BitRanges
+pub mod ShiftRanges
+pub mod EachEnd

@@ -82,10 +82,10 @@ module _ (op : NOp) (bits : IsBitwise op) (a b r : Interval) where
         subst (λ (v : Span). IsWithin v r) rule.1.is (subst (λ (z : ℤ). IsWithin (point z) r) same (point_within r n at_r));
   }
 
-  -- no two points of them have a value that is an i128
-  pub carries_all : ((n : ℤ) → Admits r n) → ((x y n : ℤ) → IsPoint a x → IsPoint b y → binary_value op x y ≡ Some n → FitsSigned w128 n → ⊥) → Carries op a b r
-  carries_all all none = record {
-    holds = λ v w m p q e. all m;
+  -- the interval holds all values, and no two points of them have one that is an i128
+  pub carries_values : ((x y n : ℤ) → Admits a x → Admits b y → binary_value op x y ≡ Some n → Admits r n) → ((x y n : ℤ) → IsPoint a x → IsPoint b y → binary_value op x y ≡ Some n → FitsSigned w128 n → ⊥) → Carries op a b r
+  carries_values all none = record {
+    holds = all;
     point = λ v w m p q e f. absurd (none v w m p q e f);
     plain = λ s t u not_by_zero fits_s p fits_t q e f.
         let rule = value_of_rule op bits s t u e in

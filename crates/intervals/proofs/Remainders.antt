@@ -1,9 +1,10 @@
 -- What remainders carry over to intervals.
-use Rattle.std.proofs.Common.{◌≡◌, ◌≢◌, ℕ, ℤ, pos, negsuc, zero, suc, ◌%◌, ◌^◌, ◌<◌, ◌≤◌, ◌-ℤ◌, neg_ℤ, ◌≤ℤ◌, ◌<ℤ◌, Some, None, arith, refl, sym, ◌∙◌, ap, subst, FitsSigned, true, false}
+use Rattle.std.proofs.Common.{◌≡◌, ◌≢◌, ℕ, ℤ, pos, negsuc, zero, suc, ◌%◌, ◌^◌, ◌<◌, ◌≤◌, ◌-ℤ◌, neg_ℤ, ◌≤ℤ◌, ◌<ℤ◌, ◌⊎◌, ⊎_elim, Some, None, arith, refl, sym, ◌∙◌, ap, subst, FitsSigned, true, false}
 use Rattle.std.specs.Prelude.{int_rem, Bool, IsTrue, if◌then◌else◌}
 use Rattle.std.specs.Int.{int_min, int_max}
 use Rattle.std.specs.Int.RustNames.{int_lt}
 use Rattle.std.proofs.lemmas.Int.{ints, by_lt_z}
+use Rattle.std.proofs.Math.Nat.{mod-eq_of_lt}
 use mir.Syntax.{w128}
 use Rattle.ext_int.specs.declared.Ext.{Ext}
 use Rattle.ext_int.specs.declared.Ext.TheVariants.{Low, Fin, High}
@@ -293,4 +294,30 @@ carries_remainders a b r others remainders = record {
   holds = λ x y n p q e. let value = by_not_zero (int_rem x y) n y e in subst (λ (z : ℤ). Admits r z) value.1 (remainders.holds x y p q value.0);
   point = λ x y n p q e f. let value = by_not_zero (int_rem x y) n y e in absurd (others x y p q value.0);
   plain = λ s t u not_by_zero fits_s p fits_t q e f. remainders.plain s t u p fits_t q e;
+}
+
+-- ---- dividends that are smaller than each divisor
+
+-- a number is its own remainder by one of greater size
+rem_of_smaller : (x y : ℤ) (size : ℤ) → size <ℤ pos 0 → (y ≤ℤ size) ⊎ (neg_ℤ size ≤ℤ y) → size <ℤ x → x <ℤ neg_ℤ size → int_rem x y ≡ x
+rem_of_smaller (pos a) (pos b) size h far low high = ap pos (mod-eq_of_lt (⊎_elim (λ (l : pos b ≤ℤ size). omega (arith, ints)) (λ (l : neg_ℤ size ≤ℤ pos b). omega (arith, ints)) far))
+rem_of_smaller (pos a) (negsuc b) size h far low high = ap pos (mod-eq_of_lt (⊎_elim (λ (l : negsuc b ≤ℤ size). omega (arith, ints)) (λ (l : neg_ℤ size ≤ℤ negsuc b). omega (arith, ints)) far))
+rem_of_smaller (negsuc a) (pos b) size h far low high = ap (λ (m : ℕ). neg_ℤ (pos m)) (mod-eq_of_lt (⊎_elim (λ (l : pos b ≤ℤ size). omega (arith, ints)) (λ (l : neg_ℤ size ≤ℤ pos b). omega (arith, ints)) far))
+rem_of_smaller (negsuc a) (negsuc b) size h far low high = ap (λ (m : ℕ). neg_ℤ (pos m)) (mod-eq_of_lt (⊎_elim (λ (l : negsuc b ≤ℤ size). omega (arith, ints)) (λ (l : neg_ℤ size ≤ℤ negsuc b). omega (arith, ints)) far))
+
+-- so it is where both ends are of less size
+pub rem_between : (a b : Interval) (lo hi size u v : ℤ) → least_end a ≡ Fin lo → greatest_end a ≡ Fin hi → size <ℤ pos 0 → ((y : ℤ) → Admits b y → (y ≤ℤ size) ⊎ (neg_ℤ size ≤ℤ y)) → u ≤ℤ lo → hi ≤ℤ neg_ℤ v → size <ℤ u → size <ℤ v → (x y : ℤ) → Admits a x → Admits b y → int_rem x y ≡ x
+rem_between a b lo hi size u v at_lo at_hi negative far low high less_low less_high x y p q =
+    let above : lo ≤ℤ x = subst (λ (e : Ext). Below e x) at_lo p.0 in
+    let below : x ≤ℤ hi = subst (λ (e : Ext). Above e x) at_hi p.1 in
+    rem_of_smaller x y size negative (far y q) (omega (arith, ints)) (omega (arith, ints))
+
+-- what is left of the loose bounds inside the dividends
+pub narrowed : (a b loose r : Interval) → ((x y : ℤ) → Admits a x → Admits b y → int_rem x y ≡ x) → HoldsRemainders a b loose → ((n : ℤ) → Admits loose n → Below (least_end a) n → Above (greatest_end a) n → Admits r n) → (least_end r ≡ greater (least_end loose) (least_end a)) × (greatest_end r ≡ lesser (greatest_end loose) (greatest_end a)) → HoldsRemainders a b r
+narrowed a b loose r same whole keeps ends = record {
+  holds = λ x y p q ne. let e = same x y p q in keeps (int_rem x y) (whole.holds x y p q ne) (subst (λ (z : ℤ). Below (least_end a) z) (sym e) p.0) (subst (λ (z : ℤ). Above (greatest_end a) z) (sym e) p.1);
+  plain = λ s t u p f q e. let within = whole.plain s t u p f q e in (
+    AtMost_trans (Fin u.lo) (least_end loose) (least_end r) within.0 (subst (λ (x : Ext). AtMost (least_end loose) x) (sym ends.0) (greater_first (least_end loose) (least_end a))),
+    AtMost_trans (greatest_end r) (greatest_end loose) (Fin u.hi) (subst (λ (x : Ext). AtMost x (greatest_end loose)) (sym ends.1) (lesser_first (greatest_end loose) (greatest_end a))) within.1,
+  );
 }

@@ -3,3 +3,5 @@ pub mod Corners
 pub mod Order
 pub mod Operations
 pub mod Widening
+pub mod Laws
+pub mod Bits

@@ -6,10 +6,11 @@ use Rattle.ext_int.specs.declared.Ext.{Ext}
 use Rattle.ext_int.specs.declared.Ext.TheVariants.{Low, Fin, High}
 use Rattle.ext_int.specs.Ext.{greater}
 use Rattle.num_api.specs.declared.expr.NOp.{NOp}
-use Rattle.num_api.specs.declared.expr.NOp.TheVariants.{Shl, Shr, And, Or, Xor}
+use Rattle.num_api.specs.declared.expr.NOp.TheVariants.{Shl, Shr, And, Or, Xor, Eq, Ne, Lt, Le}
 use Rattle.num_api.specs.Value.{unary_value, binary_value, truth}
 use Rattle.num_api.specs.Spans.{Span, FitsSpan, IsNotByZero, unary_span, binary_span, remainders}
 use Rattle.intervals.specs.declared.Interval.{Interval}
+use Rattle.intervals.specs.Order.{may_equal, may_differ, may_be_less, may_be_at_most}
 use Rattle.intervals.specs.Interval.{Admits, IsPoint, IsWithin, ends_of, least_end, greatest_end}
 
 -- the interval holds what the operator makes of the numbers of `a`, is exact on points, and no wider than the plain rule
@@ -52,3 +53,11 @@ greatest_remainder b = greater (Fin (pos 0)) (greater (size_less_one (least_end 
 pub record HoldsRemainders (a b r : Interval) : Type 0 where
   pub holds : (x y : ℤ) → Admits a x → Admits b y → y ≢ pos 0 → Admits r (int_rem x y)
   pub plain : (s t u : Span) → IsWithin s a → FitsSpan t → IsWithin t b → remainders s t ≡ Some u → IsWithin u r
+
+-- how much a comparison may leave open: 0 and 1 just as some numbers of the two intervals decide it, infinite ends too
+abbrev pub Decides : NOp → Interval → Interval → Interval → Type 0
+Decides Eq a b r = IsTests (may_equal a b) (may_differ a b) r
+Decides Ne a b r = IsTests (may_differ a b) (may_equal a b) r
+Decides Lt a b r = IsTests (may_be_less a b) (may_be_at_most b a) r
+Decides Le a b r = IsTests (may_be_at_most a b) (may_be_less b a) r
+Decides op a b r = Unit {0}

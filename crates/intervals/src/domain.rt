@@ -1,9 +1,16 @@
 //! An interval as a value domain.
 
-ghost use Rattle.std.specs.Prelude.{◌≡◌, ℤ, ◌≤◌, ◌<◌, true, false};
+ghost use Rattle.std.specs.Prelude.{◌≡◌, ℤ, ◌≤◌, ◌<◌, IsTrue, true, false, Some};
+ghost use Rattle.std.specs.Int.RustNames.{FitsSigned};
+ghost use mir.Syntax.{w128};
+ghost use Rattle.num_api.specs.Ranges.{IsPoint, NoWider};
+ghost use Rattle.num_api.specs.Spans.{Span, FitsSpan, IsNotByZero, range_of, binary_span};
+ghost use Rattle.num_api.specs.Value.{binary_value};
+ghost use Rattle.intervals.specs.Operations.{Decides};
 ghost use Rattle.num_api.specs.Weight.{range_weight};
 ghost use Rattle.ramps.specs.Told.{Keeps};
-ghost use Rattle.intervals.specs.Interval.{Admits, ends_of, class_of};
+ghost use Rattle.intervals.specs.Interval.{Admits, least_end, greatest_end, ends_of, class_of};
+ghost use Rattle.intervals.specs.Laws.{in_class_between, class_between_is_proper};
 ghost use Rattle.intervals.specs.Order.{includes};
 ghost use Rattle.intervals.specs.Widening.{widened};
 
@@ -20,6 +27,14 @@ impl ValueDomain for Interval {
     ghost known = { ends_of };
 
     ghost class = { class_of };
+
+    ghost known_holds = { λ i n h. record { low = h.0; high = h.1 } };
+
+    ghost known_some = { λ i claimed. i.holds };
+
+    ghost class_holds = { λ i n h. in_class_between (least_end i) (greatest_end i) n h.0 h.1 };
+
+    ghost class_proper = { λ i. class_between_is_proper (least_end i) (greatest_end i) };
 
     ghost holds = { includes };
 
@@ -59,7 +74,13 @@ impl ValueDomain for Interval {
         unary(op, a)
     }
 
-    fn binary(op: NOp, a: &Self, b: &Self) -> Self {
+    /// Comparisons are 0, 1 or both just as the two ranges decide them.
+    fn binary(op: NOp, a: &Self, b: &Self) -> Self
+        ensures holds { (x y n : ℤ) → Admits a.now x → Admits b.now y → binary_value op x y ≡ Some n → Admits result n }
+        ensures point { (x y n : ℤ) → IsTrue true → IsPoint (ends_of a.now) x → IsPoint (ends_of b.now) y → binary_value op x y ≡ Some n → FitsSigned w128 n → IsPoint (ends_of result) n }
+        ensures plain { (s t r : Span) → IsTrue true → IsNotByZero op (ends_of b.now) → NoWider (ends_of a.now) (range_of s) → FitsSpan s → NoWider (ends_of b.now) (range_of t) → FitsSpan t → binary_span op s t ≡ Some r → FitsSpan r → NoWider (ends_of result) (range_of r) }
+        ensures decides { Decides op a.now b.now result }
+    {
         binary(op, a, b)
     }
 

@@ -6,10 +6,12 @@ ghost use Rattle.ext_int.specs.Ext.{holds_number};
 
 use ext_int::{Ext, add_high, add_low, max, min, neg_high, neg_low};
 
+mod bit_ranges;
 mod bits;
 mod domain;
 mod ends;
 mod operators;
+mod shift_ranges;
 mod widening;
 
 use ends::{
@@ -61,11 +63,14 @@ impl Interval {
     }
 
     /// The sums of the numbers of both. Where both are finite and all sums lie between two `i128`s,
-    /// it is the least such interval; so it is for the other operations.
+    /// it is the least such interval; so it is for the other operations. An end is also the least by
+    /// itself, where the ends that it is the sum of are numbers; so it is of differences and negations.
     pub fn add(&self, other: &Interval) -> Interval
         ensures keeps { (x y : ℤ) → Admits self.now x → Admits other.now y → Admits result (x +ℤ y) }
         ensures point { (x y : ℤ) → IsPoint self.now x → IsPoint other.now y → FitsSigned w128 (x +ℤ y) → IsPoint result (x +ℤ y) }
         ensures least { (l h : ℤ) → FitsSigned w128 l → FitsSigned w128 h → IsFinite self.now → IsFinite other.now → ((x y : ℤ) → Admits self.now x → Admits other.now y → IsBetween l h (x +ℤ y)) → LiesBetween l h result }
+        ensures low { (p q : ℤ) → least_end self.now ≡ Ext.Fin p → least_end other.now ≡ Ext.Fin q → FitsSigned w128 (p +ℤ q) → least_end result ≡ Ext.Fin (p +ℤ q) }
+        ensures high { (p q : ℤ) → greatest_end self.now ≡ Ext.Fin p → greatest_end other.now ≡ Ext.Fin q → FitsSigned w128 (p +ℤ q) → greatest_end result ≡ Ext.Fin (p +ℤ q) }
     {
         Interval {
             lo: add_low(self.lo, other.lo),
@@ -78,6 +83,8 @@ impl Interval {
         ensures keeps { (x y : ℤ) → Admits self.now x → Admits other.now y → Admits result (x -ℤ y) }
         ensures point { (x y : ℤ) → IsPoint self.now x → IsPoint other.now y → FitsSigned w128 (x -ℤ y) → IsPoint result (x -ℤ y) }
         ensures least { (l h : ℤ) → FitsSigned w128 l → FitsSigned w128 h → IsFinite self.now → IsFinite other.now → ((x y : ℤ) → Admits self.now x → Admits other.now y → IsBetween l h (x -ℤ y)) → LiesBetween l h result }
+        ensures low { (p q : ℤ) → least_end self.now ≡ Ext.Fin p → greatest_end other.now ≡ Ext.Fin q → FitsSigned w128 (p -ℤ q) → least_end result ≡ Ext.Fin (p -ℤ q) }
+        ensures high { (p q : ℤ) → greatest_end self.now ≡ Ext.Fin p → least_end other.now ≡ Ext.Fin q → FitsSigned w128 (p -ℤ q) → greatest_end result ≡ Ext.Fin (p -ℤ q) }
     {
         Interval {
             lo: sub_low(self.lo, other.hi),
@@ -123,6 +130,8 @@ impl Interval {
         ensures keeps { (x : ℤ) → Admits self.now x → Admits result (neg_ℤ x) }
         ensures point { (x : ℤ) → IsPoint self.now x → FitsSigned w128 (neg_ℤ x) → IsPoint result (neg_ℤ x) }
         ensures least { (l h : ℤ) → FitsSigned w128 l → FitsSigned w128 h → IsFinite self.now → ((x : ℤ) → Admits self.now x → IsBetween l h (neg_ℤ x)) → LiesBetween l h result }
+        ensures low { (p : ℤ) → greatest_end self.now ≡ Ext.Fin p → FitsSigned w128 (neg_ℤ p) → least_end result ≡ Ext.Fin (neg_ℤ p) }
+        ensures high { (p : ℤ) → least_end self.now ≡ Ext.Fin p → FitsSigned w128 (neg_ℤ p) → greatest_end result ≡ Ext.Fin (neg_ℤ p) }
     {
         Interval {
             lo: neg_low(self.hi),

@@ -1,12 +1,16 @@
 //! What each operator makes of intervals.
 
-ghost use Rattle.std.specs.Prelude.{◌≡◌, ℤ, ◌||◌, IsTrue, IfSome, IfNone};
+ghost use Rattle.std.specs.Prelude.{◌≡◌, ℤ, pos, neg_ℤ, ◌≤ℤ◌, ◌<ℤ◌, ◌||◌, ◌⊎◌, int_rem, Some, IsTrue, IfSome, IfNone};
+ghost use Rattle.num_api.specs.Value.{binary_value};
+ghost use Rattle.ext_int.specs.Ext.{Above};
 ghost use Rattle.intervals.specs.Interval.{Admits, IsPoint};
 ghost use Rattle.intervals.specs.Order.{is_at_most, is_before, may_equal, may_differ, may_be_less, may_be_at_most};
-ghost use Rattle.intervals.specs.Operations.{CarriesOne, Carries, IsBitwise, IsTests, HoldsRemainders, size_less_one, greatest_remainder};
+ghost use Rattle.intervals.specs.Operations.{CarriesOne, Carries, Decides, IsBitwise, IsTests, HoldsRemainders, size_less_one, greatest_remainder};
 
 use crate::Interval;
+use crate::bit_ranges::logical;
 use crate::bits::bitwise;
+use crate::shift_ranges::{shifted_left, shifted_right};
 use ext_int::{Ext, cmp, max, min, neg_low};
 use num_api::NOp;
 use std::cmp::Ordering;
@@ -37,7 +41,8 @@ pub fn unary(op: NOp, a: &Interval) -> Interval
 
 // What an operator of two operands makes of the intervals.
 pub fn binary(op: NOp, a: &Interval, b: &Interval) -> Interval
-    ensures { Carries op a.now b.now result }
+    ensures carries { Carries op a.now b.now result }
+    ensures decides { Decides op a.now b.now result }
 {
     match op {
         NOp::Neg | NOp::Not => all_numbers(),
@@ -65,7 +70,7 @@ pub fn number(a: &Interval) -> Option<i128>
     }
 }
 
-// The value of an operator on bits where both are points, and else all numbers.
+// The value of an operator on bits where both are points, and else the range of its values.
 fn of_bits(op: NOp, a: &Interval, b: &Interval) -> Interval
     requires { IsBitwise op }
     ensures { Carries op a.now b.now result }
@@ -73,8 +78,21 @@ fn of_bits(op: NOp, a: &Interval, b: &Interval) -> Interval
     match (number(a), number(b)) {
         (Some(x), Some(y)) => match bitwise(op, x, y) {
             Some(n) => Interval::point(n),
-            None => all_numbers(),
+            None => range_of_bits(op, a, b),
         },
+        _ => range_of_bits(op, a, b),
+    }
+}
+
+// A range of an operator's values on bits, by the ends of the operands.
+fn range_of_bits(op: NOp, a: &Interval, b: &Interval) -> Interval
+    requires { IsBitwise op }
+    ensures holds { (x y n : ℤ) → Admits a.now x → Admits b.now y → binary_value op x y ≡ Some n → Admits result n }
+{
+    match op {
+        NOp::And | NOp::Or | NOp::Xor => logical(op, a, b),
+        NOp::Shl => shifted_left(a, b),
+        NOp::Shr => shifted_right(a, b),
         _ => all_numbers(),
     }
 }
@@ -87,8 +105,61 @@ fn remainder(a: &Interval, b: &Interval) -> Interval
 {
     match (number(a), number(b)) {
         (Some(x), Some(y)) if y != 0 => Interval::point(x.wrapping_rem(y)),
-        _ => remainders(a, b),
+        _ => narrowed_remainders(a, b),
     }
+}
+
+// The dividends themselves where each is of less size than each divisor, and else the numbers that `remainders`
+// leaves.
+fn narrowed_remainders(a: &Interval, b: &Interval) -> Interval
+    ensures { HoldsRemainders a.now b.now result }
+{
+    let loose = remainders(a, b);
+    if !is_smaller(a, b) {
+        return loose;
+    }
+    match loose.part(a.lo, a.hi) {
+        Some(whole) => whole,
+        None => loose,
+    }
+}
+
+// Whether each number of the first is of less size than each of the second.
+fn is_smaller(a: &Interval, b: &Interval) -> bool
+    ensures { IsTrue result → (x y : ℤ) → Admits a.now x → Admits b.now y → int_rem x y ≡ x }
+{
+    match (a.lo, a.hi, least_size(b)) {
+        (Ext::Fin(lo), Ext::Fin(hi), Some(size)) => size < minus_size(lo) && size < minus_size(hi),
+        _ => false,
+    }
+}
+
+// The least size of a divisor, below 0, where 0 is none.
+fn least_size(b: &Interval) -> Option<i128>
+    ensures { IfSome result (λ s. (s <ℤ pos 0) × ((y : ℤ) → Admits b.now y → (y ≤ℤ s) ⊎ (neg_ℤ s ≤ℤ y))) }
+{
+    match b.lo {
+        Ext::Fin(lo) if lo > 0 => Some(-lo),
+        _ => size_from(b.hi),
+    }
+}
+
+// The number of an upper end below 0.
+fn size_from(hi: Ext) -> Option<i128>
+    ensures { IfSome result (λ s. (s <ℤ pos 0) × ((y : ℤ) → Above hi y → y ≤ℤ s)) }
+{
+    match hi {
+        Ext::Fin(n) if n < 0 => Some(n),
+        _ => None,
+    }
+}
+
+// The size of a number, below 0.
+fn minus_size(n: i128) -> i128
+    ensures low { result ≤ℤ n }
+    ensures high { n ≤ℤ neg_ℤ result }
+{
+    if n > 0 { -n } else { n }
 }
 
 // The numbers on the dividend's side of 0 that are no further from it than the dividend, nor than one less

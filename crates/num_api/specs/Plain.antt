@@ -1,12 +1,12 @@
 -- The plain rule: from a range for each variable to the range of an expression, and to the ranges behind a test.
-use Rattle.std.specs.Prelude.{ℕ, ℤ, pos, ◌+ℤ◌, ◌-ℤ◌, Option, Some, None, IsSomeAnd, Bool, true, false, not, if◌then◌else◌}
+use Rattle.std.specs.Prelude.{ℕ, ℤ, pos, ◌≡◌, ◌⊎◌, ◌+ℤ◌, ◌-ℤ◌, Option, Some, None, IsSomeAnd, Bool, true, false, not, if◌then◌else◌}
 use Rattle.std.specs.Int.{int_min, int_max}
 use Rattle.std.specs.Ordering.{int_eq}
 use Rattle.num_api.specs.declared.message.Range.{Range}
 use Rattle.num_api.specs.declared.expr.NOp.{NOp}
-use Rattle.num_api.specs.declared.expr.NOp.TheVariants.{Not, Eq, Ne, Lt, Le}
+use Rattle.num_api.specs.declared.expr.NOp.TheVariants.{Not, Quot, Eq, Ne, Lt, Le}
 use Rattle.num_api.specs.Exprs.{NExprTree, Const, Read, Unary, Binary}
-use Rattle.num_api.specs.Ranges.{with_range}
+use Rattle.num_api.specs.Ranges.{with_range, IsPoint}
 use Rattle.num_api.specs.Spans.{Span, span, point, range_of, span_between, FitsSpan, may_equal, may_differ, unary_span, binary_span}
 use Rattle.num_api.specs.Value.{of_one, of_two}
 
@@ -25,6 +25,17 @@ IsPlain given (Const n) = IsSomeAnd (plain given (Const n)) FitsSpan
 IsPlain given (Read x) = IsSomeAnd (plain given (Read x)) FitsSpan
 IsPlain given (Unary op a) = IsSomeAnd (plain given (Unary op a)) FitsSpan × IsPlain given a
 IsPlain given (Binary op a b) = IsSomeAnd (plain given (Binary op a b)) FitsSpan × IsPlain given a × IsPlain given b
+
+-- the rule leaves no 0 for the divisor, or it is a variable that is not known to be 0
+abbrev pub IsNonzero : (ℕ → Range) → (ℕ → Range) → NExprTree → Type 0
+IsNonzero known given b = ((s : Span) → plain given b ≡ Some s → may_equal s (point (pos 0)) ≡ false) ⊎ ((t : ℕ) × (b ≡ Read t) × (IsPoint (known t) (pos 0) → ⊥))
+
+-- each quotient's divisor is, by the rule, never 0, or a variable that is not known to be 0
+abbrev pub MayDivide : (ℕ → Range) → (ℕ → Range) → NExprTree → Type 0
+MayDivide known given (Const n) = Unit {0}
+MayDivide known given (Read x) = Unit {0}
+MayDivide known given (Unary op a) = MayDivide known given a
+MayDivide known given (Binary op a b) = (op ≡ Quot → IsNonzero known given b) × MayDivide known given a × MayDivide known given b
 
 -- ---- tests
 

@@ -2,6 +2,10 @@
 use Rattle.std.specs.Prelude.{ℤ, pos, ◌≡◌, ◌^◌, ◌+ℤ◌, ◌*ℤ◌, ◌≤ℤ◌, ◌<ℤ◌}
 use Rattle.num_api.specs.declared.message.Residue.{Residue}
 
+-- the numbers that are `rem` up to a multiple of `modulus`
+abbrev pub class_of : ℤ → ℤ → Residue
+class_of rem modulus = record { rem = rem; modulus = modulus }
+
 -- the number is the remainder, up to a multiple of the modulus
 abbrev pub InResidue : Residue → ℤ → Type 0
 InResidue r n = (k : ℤ) × (n ≡ (r.rem +ℤ (k *ℤ r.modulus)))
@@ -12,10 +16,6 @@ pub record IsResidue (r : Residue) : Type 0 where
   pub bounded : r.modulus ≤ℤ pos (2 ^ 100)
   pub rem_low : pos 1 ≤ℤ r.modulus → pos 0 ≤ℤ r.rem
   pub rem_high : pos 1 ≤ℤ r.modulus → r.rem <ℤ r.modulus
-
--- each number of the first class is in the second
-abbrev pub IsWithin : Residue → Residue → Type 0
-IsWithin r s = (n : ℤ) → InResidue r n → InResidue s n
 
 -- the number is a multiple of c
 abbrev pub IsMultiple : ℤ → ℤ → Type 0

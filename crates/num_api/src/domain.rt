@@ -3,7 +3,7 @@
 
 ghost use Rattle.std.specs.Prelude.{◌≡◌, ◌≢◌, ℕ, ℤ, List, ◌≤◌, ◌<◌, IsTrue, true, false, Bool, Option, IfSome, IfNone, IfOk, OnOk, Some, None};
 ghost use Rattle.ramps.specs.Told.{Keeps};
-ghost use Rattle.num_api.specs.Exprs.{NExprTree, nexpr_tree};
+ghost use Rattle.num_api.specs.Exprs.{NExprTree, Read, nexpr_tree};
 ghost use Rattle.num_api.specs.Ranges.{InRange, IsPoint, NoWider, IsUnder, with_range, all_numbers, holds_some, hull};
 ghost use Rattle.num_api.specs.Residues.{InResidue, IsResidue, IsFoldResidue};
 ghost use Rattle.ext_int.specs.Valuation.{value_at};
@@ -11,11 +11,13 @@ ghost use Rattle.num_api.specs.Valuation.{SetTo};
 ghost use Rattle.num_api.specs.Value.{value_of, AllFit, has_truth};
 ghost use Rattle.num_api.specs.Messages.{Holds, IsProper, Adds, TellsOf};
 ghost use Rattle.num_api.specs.Spans.{Span, range_of};
-ghost use Rattle.num_api.specs.Plain.{plain, IsPlain, excludes, tested};
+ghost use Rattle.num_api.specs.Plain.{plain, IsPlain, MayDivide, excludes, tested};
 ghost use Rattle.num_api.specs.Fold.{IsFold, IsAlignment};
 ghost use Rattle.num_api.specs.Known.{IsSharp, IsSharpOn};
 ghost use Rattle.num_api.specs.Lives.{is_live};
 ghost use Rattle.num_api.specs.declared.message.Range.{Range};
+ghost use Rattle.num_api.specs.declared.message.Message.TheVariants.{Between};
+ghost use Rattle.num_api.specs.declared.expr.Var.{Var as Variable};
 ghost use Rattle.num_api.specs.declared.message.Residue.{Residue};
 
 use crate::{Live, Message, Messages, NExpr, NumFacts, Range, Residue, Var};
@@ -34,6 +36,12 @@ pub trait Oracle {
     /// The range that the state knows of each variable, of which those laws speak.
     ghost known: { Self → ℕ → Range };
 
+    /// Each range holds the variable's number in every valuation of the state.
+    ghost known_holds: { (s : Self) (v : List ℤ) (x : ℕ) → admits s v → InRange (known s x) (value_at v x) };
+
+    /// Each range holds a number.
+    ghost known_some: { (s : Self) (x : ℕ) → IsTrue exact → IsTrue (holds_some (known s x)) };
+
     /// Which ranges, classes and expressions may be answered, for the laws of states that are made of others.
     ghost may_range: { Self → NExprTree → Range → Type 0 };
 
@@ -46,7 +54,8 @@ pub trait Oracle {
         ensures answer { may_range self.now (nexpr_tree e.now) result }
         ensures holds { (v : List ℤ) (n : ℤ) → admits self.now v → value_of v (nexpr_tree e.now) ≡ Some n → InRange result n }
         ensures point { (v : List ℤ) (n : ℤ) → IsTrue exact → admits self.now v → IsSharpOn (known self.now) v (nexpr_tree e.now) → AllFit v (nexpr_tree e.now) → value_of v (nexpr_tree e.now) ≡ Some n → IsPoint result n }
-        ensures plain { (given : ℕ → Range) (s : Span) (v : List ℤ) (n : ℤ) → IsTrue exact → admits self.now v → value_of v (nexpr_tree e.now) ≡ Some n → IsUnder (known self.now) given → IsPlain given (nexpr_tree e.now) → plain given (nexpr_tree e.now) ≡ Some s → NoWider result (range_of s) };
+        ensures known { (x : ℕ) → IsTrue exact → nexpr_tree e.now ≡ Read x → NoWider result (known self.now x) }
+        ensures plain { (given : ℕ → Range) (s : Span) → IsTrue exact → IsUnder (known self.now) given → IsPlain given (nexpr_tree e.now) → plain given (nexpr_tree e.now) ≡ Some s → NoWider result (range_of s) };
 
     /// A class that holds the expression's value.
     fn residue(&self, e: &NExpr) -> Residue
@@ -93,7 +102,8 @@ pub trait NumDomain: Oracle + Sized + Drop {
         ensures told { OnOk result ((v w : List ℤ) (n : ℤ) → Self.admits self.old v → O.admits ask.now v → value_of v (nexpr_tree e.now) ≡ Some n → SetTo x.0 n v w → TellsOf w out.old out.new) }
         ensures sharp_here { OnOk result ((v : List ℤ) (n : ℤ) → IsTrue Self.exact → Self.admits self.old v → O.admits ask.now v → IsSharpOn (Self.known self.old) v (nexpr_tree e.now) → AllFit v (nexpr_tree e.now) → value_of v (nexpr_tree e.now) ≡ Some n → IsPoint (Self.known self.new x.0) n) }
         ensures sharp_others { OnOk result ((v : List ℤ) (n : ℤ) (y : ℕ) → IsTrue Self.exact → Self.admits self.old v → O.admits ask.now v → IsSharpOn (Self.known self.old) v (nexpr_tree e.now) → AllFit v (nexpr_tree e.now) → value_of v (nexpr_tree e.now) ≡ Some n → y ≢ x.0 → IsSharp (Self.known self.old) v y → IsSharp (Self.known self.new) v y) }
-        ensures plain { OnOk result ((given : ℕ → Range) (s : Span) (v : List ℤ) (n : ℤ) → IsTrue Self.exact → Self.admits self.old v → value_of v (nexpr_tree e.now) ≡ Some n → IsUnder (Self.known self.old) given → IsPlain given (nexpr_tree e.now) → plain given (nexpr_tree e.now) ≡ Some s → IsUnder (Self.known self.new) (with_range given x.0 (range_of s))) };
+        ensures plain { OnOk result ((given : ℕ → Range) (s : Span) → IsTrue Self.exact → IsUnder (Self.known self.old) given → IsPlain given (nexpr_tree e.now) → MayDivide (Self.known self.old) given (nexpr_tree e.now) → plain given (nexpr_tree e.now) ≡ Some s → IsUnder (Self.known self.new) (with_range given x.0 (range_of s))) }
+        ensures others { OnOk result ((given : ℕ → Range) → IsTrue Self.exact → IsUnder (Self.known self.old) given → IsUnder (Self.known self.new) (with_range given x.0 all_numbers)) };
 
     /// Gives the variable any number of a range that holds one.
     fn havoc(&mut self, x: Var, r: Range) -> Result<(), NoMemory>
@@ -123,14 +133,16 @@ pub trait NumDomain: Oracle + Sized + Drop {
         ensures sharp_dead { IfOk result (λ live. (v : List ℤ) (n : ℤ) → IsTrue Self.exact → Self.admits self.old v → O.admits ask.now v → IsSharpOn (Self.known self.old) v (nexpr_tree e.now) → AllFit v (nexpr_tree e.now) → value_of v (nexpr_tree e.now) ≡ Some n → has_truth truth n ≡ false → is_live live ≡ false) }
         ensures sharp_live { IfOk result (λ live. (v : List ℤ) (n : ℤ) (y : ℕ) → IsTrue Self.exact → Self.admits self.old v → O.admits ask.now v → IsSharpOn (Self.known self.old) v (nexpr_tree e.now) → AllFit v (nexpr_tree e.now) → value_of v (nexpr_tree e.now) ≡ Some n → IsTrue (is_live live) → IsSharp (Self.known self.old) v y → IsSharp (Self.known self.new) v y) }
         ensures plain_dead { IfOk result (λ live. (given : ℕ → Range) (s : Span) → IsTrue Self.exact → IsUnder (Self.known self.old) given → IsPlain given (nexpr_tree e.now) → plain given (nexpr_tree e.now) ≡ Some s → IsTrue (excludes truth s) → is_live live ≡ false) }
-        ensures plain_live { IfOk result (λ live. (given : ℕ → Range) → IsTrue Self.exact → IsUnder (Self.known self.old) given → IsPlain given (nexpr_tree e.now) → IsTrue (is_live live) → IsUnder (Self.known self.new) (tested given (nexpr_tree e.now) truth)) };
+        ensures plain_live { IfOk result (λ live. (given : ℕ → Range) → IsTrue Self.exact → IsUnder (Self.known self.old) given → IsPlain given (nexpr_tree e.now) → IsTrue (is_live live) → IsUnder (Self.known self.new) (tested given (nexpr_tree e.now) truth)) }
+        ensures narrows { IfOk result (λ live. (given : ℕ → Range) → IsTrue Self.exact → IsUnder (Self.known self.old) given → IsTrue (is_live live) → IsUnder (Self.known self.new) given) };
 
     /// Keeps the valuations in which the message holds; `Dead` only where there is none.
     fn accept(&mut self, m: &Message) -> Result<Live, NoMemory>
         requires { IsProper m.now }
         ensures after { IfOk result (λ live. (v : List ℤ) → Self.admits self.old v → Holds v m.now → IsTrue (is_live live) × Self.admits self.new v) }
         ensures sharp { IfOk result (λ live. (v : List ℤ) (y : ℕ) → IsTrue Self.exact → Self.admits self.old v → Holds v m.now → IsSharp (Self.known self.old) v y → IsSharp (Self.known self.new) v y) }
-        ensures plain { IfOk result (λ live. (given : ℕ → Range) → IsTrue Self.exact → IsUnder (Self.known self.old) given → IsTrue (is_live live) → IsUnder (Self.known self.new) given) };
+        ensures plain { OnOk result ((given : ℕ → Range) → IsTrue Self.exact → IsUnder (Self.known self.old) given → IsUnder (Self.known self.new) given) }
+        ensures cut { IfOk result (λ live. (x : Variable) (r : Range) → IsTrue Self.exact → m.now ≡ Between x r → IsTrue (is_live live) → NoWider (Self.known self.new x.0) r) };
 
     /// Admits what either state admits.
     fn join(&mut self, other: &Self) -> Result<(), NoMemory>

@@ -1,6 +1,6 @@
 // Loops that widen until nothing is added.
 
-ghost use Rattle.std.specs.Prelude.{◌≡◌, ℤ, List, IfOk, Ok};
+ghost use Rattle.std.specs.Prelude.{◌≡◌, ℤ, List, true, IfOk, Ok};
 ghost use Rattle.std.specs.Fn.{FnReturnsAt};
 ghost use Rattle.ramps.specs.Told.{Keeps};
 
@@ -8,7 +8,8 @@ use crate::{NumDomain, ValueDomain};
 use ramps::{Ramp, Steps};
 use std::alloc::AllocError as NoMemory;
 
-/// Widens a value until it holds what a step makes of it. The value holds the start.
+/// Widens a value until it holds what a step makes of it. The value holds the start, and is the start
+/// where a step adds nothing to that.
 pub fn settle_value<V: ValueDomain, U: Fn(i128) -> Option<i128>, S: Steps, F: Fn(V) -> V>(
     start: V,
     step: F,
@@ -18,6 +19,7 @@ pub fn settle_value<V: ValueDomain, U: Fn(i128) -> Option<i128>, S: Steps, F: Fn
     requires told { Keeps U.pre U.post ramp.now S.list }
     ensures holds_start { (n : ℤ) → V.admits start n → V.admits result n }
     ensures closed { (next : V) × F.post step result next × ((n : ℤ) → V.admits next n → V.admits result n) }
+    ensures stays { ((next : V) → F.post step start next → V.holds start next ≡ true) → result ≡ start }
 {
     let mut state = start;
     loop {
@@ -29,7 +31,8 @@ pub fn settle_value<V: ValueDomain, U: Fn(i128) -> Option<i128>, S: Steps, F: Fn
     }
 }
 
-/// Widens a state until it holds what a step makes of it. The state holds the start.
+/// Widens a state until it holds what a step makes of it. The state holds the start, and is the start
+/// where a step adds nothing to that.
 pub fn settle<
     D: NumDomain,
     U: Fn(i128) -> Option<i128>,
@@ -40,6 +43,7 @@ pub fn settle<
     requires told { Keeps U.pre U.post ramp.now S.list }
     ensures holds_start { IfOk result (λ s. (v : List ℤ) → D.admits start v → D.admits s v) }
     ensures closed { IfOk result (λ s. (next : D) × FnReturnsAt F.Fn step s (Ok next) × ((v : List ℤ) → D.admits next v → D.admits s v)) }
+    ensures stays { IfOk result (λ s. ((next : D) → FnReturnsAt F.Fn step start (Ok next) → D.holds start next ≡ true) → s ≡ start) }
 {
     let mut state = start;
     loop {

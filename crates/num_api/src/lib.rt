@@ -10,6 +10,7 @@ mod expr;
 mod fixpoint;
 mod lists;
 mod message;
+mod unknowing;
 mod value;
 
 pub use domain::{Exact, NumDomain, Oracle};
@@ -18,6 +19,7 @@ pub use ext_int::Live;
 pub use fixpoint::{settle, settle_value};
 pub use lists::{Messages, NumFacts};
 pub use message::{Message, Range, Residue};
+pub use unknowing::Unknowing;
 pub use value::{ExactValue, ValueDomain};
 
 #[cfg(test)]

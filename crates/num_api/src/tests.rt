@@ -1,14 +1,16 @@
 // The calls of this crate at small domains, which know at most that everything is 0.
 
-ghost use Rattle.std.specs.Prelude.{◌≡◌, ℕ, ℤ, pos, false, ◌||◌, not, if◌then◌else◌};
+ghost use Rattle.std.specs.Prelude.{◌≡◌, ℕ, ℤ, pos, false, ◌||◌, not, if◌then◌else◌, refl};
+ghost use Rattle.std.proofs.Common.{arith};
+ghost use Rattle.std.proofs.lemmas.Int.{ints};
 ghost use Rattle.ramps.specs.Steps.{least};
 ghost use Rattle.ramps.specs.Powers.{power_steps};
 ghost use Rattle.num_api.specs.Ranges.{all_numbers};
 ghost use Rattle.ext_int.specs.Valuation.{value_at};
 
 use crate::{
-    Live, Message, Messages, NExpr, NOp, NumDomain, NumFacts, Oracle, Range, Residue, ValueDomain,
-    Var, settle, settle_value,
+    Live, Message, Messages, NExpr, NOp, NumDomain, NumFacts, Oracle, Range, Residue, Unknowing,
+    ValueDomain, Var, settle, settle_value,
 };
 use ext_int::Ext;
 use ramps::{Powers, Ramp, Steps, power_step};
@@ -31,6 +33,14 @@ impl ValueDomain for Zero {
     ghost admits = { λ s n. s.any ≡ false → n ≡ pos 0 };
 
     ghost known = { λ s. all_numbers };
+
+    ghost known_holds = { λ s n a. record { low = tt; high = tt } };
+
+    ghost known_some = { λ s e. refl };
+
+    ghost class_holds = { λ s n a. (n, Prim.omega (arith, ints)) };
+
+    ghost class_proper = { λ s. record { not_negative = Prim.omega (arith, ints); bounded = Prim.omega (arith, ints); rem_low = λ h. Prim.omega (arith, ints); rem_high = λ h. Prim.omega (arith, ints) } };
 
     ghost class = { λ s. record { rem = pos 0; modulus = pos 1 } };
 
@@ -99,6 +109,10 @@ impl Oracle for Zeros {
     ghost exact = { false };
 
     ghost known = { λ s x. all_numbers };
+
+    ghost known_holds = { λ s v x a. record { low = tt; high = tt } };
+
+    ghost known_some = { λ s x e. refl };
 
     ghost may_range = { λ s e r. Unit {0} };
 
@@ -188,6 +202,45 @@ impl NumDomain for Zeros {
     fn facts(&self, _out: &mut NumFacts) -> Result<(), NoMemory> {
         Ok(())
     }
+}
+
+// 1 + 4 * -x, where x is the variable of this number.
+fn sum_of_product(alloc: Global, x: u64) -> Result<NExpr, NoMemory> {
+    let four = Box::new(alloc, NExpr::Const(4))?;
+    let read = Box::new(alloc, NExpr::Read(Var(x)))?;
+    let negated = Box::new(alloc, NExpr::Unary(NOp::Neg, read))?;
+    let product = Box::new(alloc, NExpr::Binary(NOp::Mul, four, negated))?;
+    let one = Box::new(alloc, NExpr::Const(1))?;
+    Ok(NExpr::Binary(NOp::Add, one, product))
+}
+
+#[test]
+fn expressions(rt: HostRuntime) -> Result<(), NoMemory> {
+    let e = sum_of_product(rt.alloc(), 3)?;
+    let f = sum_of_product(rt.alloc(), 4)?;
+    assert!(rt; e.is_same(&e.copy(rt.alloc())?));
+    assert!(rt; !e.is_same(&f));
+    assert!(rt; !e.is_same(&NExpr::Const(1)));
+    assert!(rt; e.reads(Var(3)));
+    assert!(rt; !e.reads(Var(4)));
+    Ok(())
+}
+
+#[test]
+fn ranges(rt: HostRuntime) {
+    let five = Range::point(5);
+    assert!(rt; five.holds_some() && Range::all().holds_some());
+    let none = Range {
+        lo: Ext::Fin(6),
+        hi: Ext::Fin(5),
+    };
+    assert!(rt; !none.holds_some());
+    let hull = Range::point(-2).hull(five);
+    assert_eq!(rt; (hull.lo, hull.hi), (Ext::Fin(-2), Ext::Fin(5)));
+    let answer = Unknowing.range(&NExpr::Const(5));
+    assert_eq!(rt; answer, Range::all());
+    assert_eq!(rt; Unknowing.residue(&NExpr::Const(5)), ANY);
+    assert!(rt; Unknowing.same(Var(0)).is_none());
 }
 
 #[test]

@@ -2,7 +2,7 @@
 
 ghost use Rattle.std.specs.Prelude.{◌≡◌, ℕ, ℤ, pos, List, ◌≤◌, ◌<◌, IsTrue, true, false, Bool, IfSome, IfNone, Some};
 ghost use Rattle.ramps.specs.Told.{Keeps};
-ghost use Rattle.num_api.specs.Ranges.{InRange, IsPoint, NoWider, hull};
+ghost use Rattle.num_api.specs.Ranges.{InRange, IsPoint, NoWider, holds_some, hull};
 ghost use Rattle.num_api.specs.Residues.{InResidue, IsResidue, IsFoldResidue, IsMultiple};
 ghost use Rattle.num_api.specs.Value.{unary_value, binary_value};
 ghost use Rattle.num_api.specs.Spans.{Span, FitsSpan, IsNotByZero, range_of, unary_span, binary_span};
@@ -27,6 +27,15 @@ pub trait ValueDomain: Copy {
     /// The class that the value answers.
     ghost class: { Self → Residue };
 
+    /// The range holds every number of the value.
+    ghost known_holds: { (s : Self) (n : ℤ) → admits s n → InRange (known s) n };
+
+    /// The class holds every number of the value.
+    ghost class_holds: { (s : Self) (n : ℤ) → admits s n → InResidue (class s) n };
+
+    /// The class has a proper modulus and remainder.
+    ghost class_proper: { (s : Self) → IsResidue (class s) };
+
     /// Whether the first value is known to hold the second.
     ghost holds: { Self → Self → Bool };
 
@@ -35,6 +44,9 @@ pub trait ValueDomain: Copy {
 
     /// Whether the laws on points and plain ranges are claimed.
     ghost exact: { Bool };
+
+    /// The range holds some number, where those laws are claimed.
+    ghost known_some: { (s : Self) → IsTrue exact → IsTrue (holds_some (known s)) };
 
     /// Whether the laws on classes of multiples are claimed.
     ghost folds: { Bool };

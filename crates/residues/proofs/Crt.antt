@@ -8,13 +8,15 @@ use Rattle.std.proofs.Common.{FitsSigned}
 use mir.Syntax.{w128}
 use Rattle.num_api.specs.declared.message.Residue.{Residue}
 use Rattle.num_api.specs.Residues.{InResidue, IsMultiple}
-use Rattle.residues.specs.Classes.{class_of, IsClassOf, IsGreatestDivisor, IsCoprime, IsTurn, SharesBy, IsMeet, Meets, LiesIn}
-use Rattle.residues.proofs.Rings.{add_mul, mul_add, neg_mul, mul_neg, mul_assoc}
-use Rattle.residues.proofs.Multiples.{multiple_along, multiple_add, multiple_sub, multiple_neg, multiple_times, times_multiple, zero_multiple, self_multiple, multiple_trans, multiple_mul, off_from_in, in_from_off, in_itself}
+use Rattle.num_api.specs.Residues.{class_of}
+use Rattle.residues.specs.Classes.{IsClassOf, IsGreatestDivisor, IsCoprime, IsTurn, SharesBy, IsMeet, Meets, LiesIn}
+use Rattle.num_api.proofs.Rings.{add_mul, mul_add, neg_mul, mul_neg, mul_assoc}
+use Rattle.num_api.proofs.Multiples.{multiple_along, multiple_add, multiple_sub, multiple_neg, multiple_times, times_multiple, zero_multiple, self_multiple, multiple_trans, multiple_mul, off_from_in, in_from_off, in_itself}
 use Rattle.residues.proofs.Members.{in_class_of}
 use Rattle.residues.proofs.Products.{not_negative_product}
 use Rattle.residues.proofs.Lattice.{multiple_of_zero}
-use Rattle.residues.proofs.Remainders.{times_above, small_multiple, divisor_positive, divisor_bound}
+use Rattle.num_api.proofs.Remainders.{times_above, small_multiple}
+use Rattle.residues.proofs.Divisors.{divisor_positive, divisor_bound}
 
 -- ---- division without a remainder
 

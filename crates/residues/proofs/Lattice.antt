@@ -1,5 +1,5 @@
 -- Classes in classes, and their weight.
-use Rattle.std.proofs.Common.{◌≡◌, ℕ, zero, suc, ◌+◌, ◌<◌, ◌≤◌, ℤ, pos, negsuc, ◌+ℤ◌, ◌-ℤ◌, neg_ℤ, ◌≤ℤ◌, ◌<ℤ◌, ◌^◌, arith, FitsSigned, ap, sym, refl, ◌∙◌, subst, ◌⊎◌, ⊎_elim, inl, inr}
+use Rattle.std.proofs.Common.{◌≡◌, ℕ, ◌+◌, ◌<◌, ◌≤◌, ℤ, pos, negsuc, ◌+ℤ◌, ◌-ℤ◌, neg_ℤ, ◌≤ℤ◌, ◌<ℤ◌, ◌^◌, arith, FitsSigned, ap, sym, refl, ◌∙◌, subst, ◌⊎◌, ⊎_elim, inl, inr}
 use Rattle.std.specs.Prelude.{Bool, true, false, if◌then◌else◌, ◌&&◌, Option, Some, None, IfSome, IfNone}
 use Rattle.std.specs.Option.{SomeIff}
 use Rattle.std.specs.Ordering.{int_eq}
@@ -13,9 +13,12 @@ use Rattle.num_api.specs.declared.message.Residue.{Residue}
 use Rattle.num_api.specs.Residues.{InResidue, IsMultiple, IsResidue}
 use Rattle.residues.specs.declared.class.Class.{Class}
 use Rattle.residues.specs.Class.{residue_of, is_member, divides, holds_class, class_weight}
-use Rattle.residues.specs.Classes.{class_of, IsClassOf, LiesIn, IsGreatestDivisor, IsCommonStep, IsGap, IsJoin, IsFarApart}
-use Rattle.residues.proofs.Multiples.{multiple_along, multiple_add, multiple_sub, multiple_neg, zero_multiple, self_multiple, multiple_trans, off_from_in, in_from_off, in_itself, in_shifted, in_difference}
-use Rattle.residues.proofs.Remainders.{rem_same, rem_unique, divisor_bound}
+use Rattle.num_api.specs.Residues.{class_of}
+use Rattle.residues.specs.Classes.{IsClassOf, LiesIn, IsGreatestDivisor, IsCommonStep, IsGap, IsJoin, IsFarApart}
+use Rattle.residues.specs.Laws.{by_zero, test_zero, test_positive}
+use Rattle.num_api.proofs.Multiples.{multiple_along, multiple_add, multiple_sub, multiple_neg, zero_multiple, self_multiple, multiple_trans, off_from_in, in_from_off, in_itself, in_shifted, in_difference}
+use Rattle.num_api.proofs.Remainders.{rem_same, rem_unique}
+use Rattle.residues.proofs.Divisors.{divisor_bound}
 use Rattle.residues.proofs.Steps.{divides_greatest, greatest_of_zeros}
 use Rattle.residues.proofs.Members.{in_class_of, in_from_lies}
 
@@ -33,18 +36,6 @@ positive_is_not_zero m h = grind (arith, ints)
 -- only 0 is a multiple of 0
 pub multiple_of_zero : (a : ℤ) → IsMultiple (pos 0) a → a ≡ pos 0
 multiple_of_zero a (k, p) = p ∙ *ℤ-zero k
-
-pub by_zero : {P : Type 0} (m : ℤ) → pos 0 ≤ℤ m → (pos 1 ≤ℤ m → P) → (m ≡ pos 0 → P) → P
-by_zero (pos zero) h f g = g refl
-by_zero (pos (suc n)) h f g = f (omega (arith, ints))
-by_zero (negsuc n) h f g = absurd (omega (arith, ints))
-
--- a test of a modulus, by whether it is 0
-pub test_zero : {A : Type 0} (m : ℤ) (u v : A) → m ≡ pos 0 → (if int_eq m (pos 0) then u else v) ≡ u
-test_zero m u v e = rw (int_eq-true m (pos 0) e) refl
-
-pub test_positive : {A : Type 0} (m : ℤ) (u v : A) → pos 1 ≤ℤ m → (if int_eq m (pos 0) then u else v) ≡ v
-test_positive m u v h = rw (positive_is_not_zero m h) refl
 
 -- ---- members
 

@@ -1,7 +1,5 @@
 pub mod Moves
-pub mod Rings
-pub mod Multiples
-pub mod Remainders
+pub mod Divisors
 pub mod Members
 pub mod Steps
 pub mod Products
@@ -9,3 +7,5 @@ pub mod Lattice
 pub mod Operators
 pub mod Crt
 pub mod Inward
+pub mod Pointed
+pub mod LowBits

@@ -3,8 +3,9 @@ use Rattle.std.proofs.Common.{ℤ, ◌-ℤ◌, arith, sym, refl, subst}
 use Rattle.std.proofs.lemmas.Int.{ints}
 use Rattle.num_api.specs.declared.message.Residue.{Residue}
 use Rattle.num_api.specs.Residues.{InResidue, IsMultiple, IsFoldResidue}
-use Rattle.residues.specs.Classes.{class_of, IsClassOf, LiesIn}
-use Rattle.residues.proofs.Multiples.{multiple_along, multiple_sub, multiple_trans, off_from_in, in_itself, in_shifted, in_wider}
+use Rattle.num_api.specs.Residues.{class_of}
+use Rattle.residues.specs.Classes.{IsClassOf, LiesIn}
+use Rattle.num_api.proofs.Multiples.{multiple_along, multiple_sub, multiple_trans, off_from_in, in_itself, in_shifted, in_wider}
 
 pub is_class_of : (rem m s : ℤ) → InResidue (class_of s m) rem → IsClassOf rem m (class_of s m)
 is_class_of rem m s h = record { modulus_is = refl; contains = h }

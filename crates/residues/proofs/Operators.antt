@@ -16,10 +16,11 @@ use Rattle.num_api.specs.declared.expr.NOp.{NOp}
 use Rattle.num_api.specs.declared.expr.NOp.TheVariants.{Neg, Add, Sub, Mul, Shl}
 use Rattle.num_api.specs.Residues.{InResidue, IsMultiple, IsFoldResidue}
 use Rattle.num_api.specs.Value.{unary_value, binary_value}
-use Rattle.residues.specs.Classes.{class_of, IsByCommonStep}
-use Rattle.residues.proofs.Multiples.{zero_multiple, off_from_in, in_from_off, in_itself}
+use Rattle.num_api.specs.Residues.{class_of}
+use Rattle.residues.specs.Classes.{IsByCommonStep}
+use Rattle.residues.specs.Laws.{one_number}
+use Rattle.num_api.proofs.Multiples.{zero_multiple, in_from_off, in_itself}
 use Rattle.residues.proofs.Steps.{sum_holds, difference_holds}
-use Rattle.residues.proofs.Lattice.{multiple_of_zero}
 
 -- ---- classes of one number and of all
 
@@ -28,12 +29,6 @@ in_all r n e = subst (λ (s : Residue). InResidue s n) (sym e) (in_from_off (pos
 
 pub in_point : (r : Residue) (n : ℤ) → r ≡ class_of n (pos 0) → InResidue r n
 in_point r n e = subst (λ (s : Residue). InResidue s n) (sym e) (in_itself n (pos 0))
-
-pub one_number : (r : Residue) (x : ℤ) → r.modulus ≡ pos 0 → InResidue r x → x ≡ r.rem
-one_number r x e h =
-    let off : IsMultiple (pos 0) (x -ℤ r.rem) = subst (λ (t : ℤ). IsMultiple t (x -ℤ r.rem)) e (off_from_in r.rem r.modulus x h) in
-    let d : x -ℤ r.rem ≡ pos 0 = multiple_of_zero (x -ℤ r.rem) off in
-    omega (arith, ints)
 
 pub fold_point : (c n : ℤ) (r : Residue) → IsMultiple c n → r ≡ class_of n (pos 0) → IsFoldResidue c r
 fold_point c n r h e = subst (λ (s : Residue). IsFoldResidue c s) (sym e) (record { rem = h; modulus = zero_multiple c })

@@ -15,7 +15,7 @@ use Rattle.std.specs.Prelude.{Option, Some, None, IfSome}
 use Rattle.residues.specs.Class.{residue_of}
 use Rattle.residues.specs.declared.class.Class.{Class}
 use Rattle.residues.specs.Classes.{IsClassOf, IsGreatestDivisor, IsProductBy}
-use Rattle.residues.proofs.Multiples.{multiple_along, multiple_add, multiple_neg, multiple_times, times_multiple, zero_multiple, multiple_trans, multiple_mul, in_product, in_wider, in_shifted, off_from_in, in_from_off, in_itself}
+use Rattle.num_api.proofs.Multiples.{multiple_along, multiple_add, multiple_neg, multiple_times, times_multiple, zero_multiple, multiple_trans, multiple_mul, in_product, in_wider, in_shifted, off_from_in, in_from_off, in_itself}
 use Rattle.residues.proofs.Members.{in_class_of, fold_class_of}
 use Rattle.residues.proofs.Steps.{divides_greatest}
 

@@ -5,9 +5,10 @@ use Rattle.std.proofs.Math.IntN.{*ℤ-zero}
 use Rattle.num_api.specs.declared.message.Residue.{Residue}
 use Rattle.num_api.specs.Residues.{InResidue, IsMultiple, IsFoldResidue}
 use Rattle.num_api.specs.Fold.{IsAlignment}
-use Rattle.residues.specs.Classes.{class_of, IsClassOf, IsGreatestDivisor, IsCommonStep, IsByCommonStep}
-use Rattle.residues.proofs.Multiples.{multiple_along, multiple_add, multiple_times, multiple_trans, in_sum, in_difference, in_wider}
-use Rattle.residues.proofs.Remainders.{divisor_bound}
+use Rattle.num_api.specs.Residues.{class_of}
+use Rattle.residues.specs.Classes.{IsClassOf, IsGreatestDivisor, IsCommonStep, IsByCommonStep}
+use Rattle.num_api.proofs.Multiples.{multiple_along, multiple_add, multiple_times, multiple_trans, in_sum, in_difference, in_wider}
+use Rattle.residues.proofs.Divisors.{divisor_bound}
 use Rattle.residues.proofs.Members.{in_class_of, fold_class_of}
 
 -- what divides both numbers divides their greatest common divisor

@@ -4,10 +4,6 @@ use Rattle.num_api.specs.Residues.{InResidue, IsResidue, IsMultiple}
 use Rattle.num_api.specs.Fold.{IsAlignment}
 use Rattle.num_api.specs.declared.message.Residue.{Residue}
 
--- the numbers that are `rem` up to a multiple of `modulus`
-abbrev pub class_of : ℤ → ℤ → Residue
-class_of rem modulus = record { rem = rem; modulus = modulus }
-
 -- the class has this modulus, and this number is in it
 pub record IsClassOf (rem modulus : ℤ) (r : Residue) : Type 0 where
   pub modulus_is : r.modulus ≡ modulus

@@ -1,9 +1,11 @@
 // Congruence classes.
 
-ghost use Rattle.std.specs.Prelude.{◌≡◌, ℤ, pos, ◌^◌, ◌≤ℤ◌, true, false};
+ghost use Rattle.std.specs.Prelude.{◌≡◌, ℤ, pos, ◌^◌, ◌≤◌, ◌<◌, ◌≤ℤ◌, true, false};
+ghost use Rattle.ramps.specs.Told.{Keeps};
 ghost use Rattle.num_api.specs.Residues.{IsResidue};
 
 mod arithmetic;
+mod bits;
 mod lattice;
 mod meeting;
 mod operators;
@@ -28,7 +30,8 @@ pub struct Class {
 
 impl Class {
     ghost use Rattle.residues.specs.Class.{residue_of};
-    ghost use Rattle.residues.specs.Classes.{class_of, IsClassOf};
+    ghost use Rattle.num_api.specs.Residues.{class_of};
+    ghost use Rattle.residues.specs.Classes.{IsClassOf};
 
     /// The class of a remainder and a modulus.
     pub fn new(r: Residue) -> Class
@@ -78,6 +81,15 @@ impl ValueDomain for Class {
     ghost use Rattle.residues.specs.Class.{residue_of, range_of_class, holds_class, class_weight};
     ghost use Rattle.num_api.specs.Residues.{InResidue};
     ghost use Rattle.residues.specs.Classes.{IsJoin, LiesIn, Meets};
+    ghost use Rattle.residues.specs.Laws.{in_range_of_class};
+    ghost use Rattle.num_api.specs.Fold.{IsAlignment};
+    ghost use Rattle.num_api.specs.Residues.{class_of, IsFoldResidue, IsMultiple};
+    ghost use Rattle.num_api.specs.Value.{binary_value};
+    ghost use Rattle.num_api.specs.declared.expr.NOp.TheVariants.{Add, Mul};
+    ghost use Rattle.std.specs.Prelude.{IsTrue, Some};
+    ghost use Rattle.std.specs.Int.RustNames.{FitsSigned};
+    ghost use mir.Syntax.{w128};
+    ghost use Rattle.std.proofs.lemmas.Bool.{false≢true};
     ghost use Rattle.num_api.specs.declared.message.Residue.{Residue};
     ghost use Rattle.std.specs.Prelude.{IfSome, IfNone};
 
@@ -87,11 +99,19 @@ impl ValueDomain for Class {
 
     ghost class = { residue_of };
 
+    ghost known_holds = { λ c n h. in_range_of_class (residue_of c) n c.proper h };
+
+    ghost class_holds = { λ c n h. h };
+
+    ghost class_proper = { λ c. c.proper };
+
     ghost holds = { λ c d. holds_class (residue_of c) (residue_of d) };
 
     ghost weight = { λ steps c. class_weight (residue_of c) };
 
     ghost exact = { false };
+
+    ghost known_some = { λ c claimed. absurd (false≢true claimed) };
 
     ghost folds = { true };
 
@@ -115,7 +135,14 @@ impl ValueDomain for Class {
         unary(op, *a)
     }
 
-    fn binary(op: NOp, a: &Self, b: &Self) -> Self {
+    /// At two numbers the class of the value, where that is an `i128`.
+    fn binary(op: NOp, a: &Self, b: &Self) -> Self
+        ensures holds { (x y n : ℤ) → InResidue (residue_of a.now) x → InResidue (residue_of b.now) y → binary_value op x y ≡ Some n → InResidue (residue_of result) n }
+        ensures fold_sum { (c : ℤ) → IsTrue true → IsAlignment c → op ≡ Add → IsFoldResidue c (residue_of a.now) → IsFoldResidue c (residue_of b.now) → IsFoldResidue c (residue_of result) }
+        ensures fold_left { (c n : ℤ) → IsTrue true → IsAlignment c → op ≡ Mul → IsMultiple c n → residue_of a.now ≡ record { rem = n; modulus = pos 0 } → IsFoldResidue c (residue_of result) }
+        ensures fold_right { (c n : ℤ) → IsTrue true → IsAlignment c → op ≡ Mul → IsMultiple c n → residue_of b.now ≡ record { rem = n; modulus = pos 0 } → IsFoldResidue c (residue_of result) }
+        ensures numbers { (x y n : ℤ) → residue_of a.now ≡ class_of x (pos 0) → residue_of b.now ≡ class_of y (pos 0) → binary_value op x y ≡ Some n → FitsSigned w128 n → residue_of result ≡ class_of n (pos 0) }
+    {
         binary(op, *a, *b)
     }
 
@@ -138,7 +165,15 @@ impl ValueDomain for Class {
         joined(*self, *other)
     }
 
-    fn widen<U: Fn(i128) -> Option<i128>, S: Steps>(&self, next: &Self, _ramp: &Ramp<U>) -> Self {
+    /// The join: the least class that holds both, where its modulus is at most 2^100.
+    fn widen<U: Fn(i128) -> Option<i128>, S: Steps>(&self, next: &Self, _ramp: &Ramp<U>) -> Self
+        requires { Keeps U.pre U.post _ramp.now S.list }
+        ensures left { (n : ℤ) → InResidue (residue_of self.now) n → InResidue (residue_of result) n }
+        ensures right { (n : ℤ) → InResidue (residue_of next.now) n → InResidue (residue_of result) n }
+        ensures no_rise { class_weight (residue_of result) ≤ class_weight (residue_of self.now) }
+        ensures falls { holds_class (residue_of self.now) (residue_of next.now) ≡ false → class_weight (residue_of result) < class_weight (residue_of self.now) }
+        ensures least { (s : Residue) → IsJoin (residue_of self.now) (residue_of next.now) s → LiesIn (residue_of result) s }
+    {
         joined(*self, *next)
     }
 

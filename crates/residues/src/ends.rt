@@ -1,7 +1,7 @@
 // Ranges whose ends are moved inward to numbers of a class.
 
-ghost use Rattle.std.specs.Prelude.{◌≡◌, pos, ◌≤ℤ◌, IsTrue, false};
-ghost use Rattle.num_api.specs.Ranges.{holds_some};
+ghost use Rattle.std.specs.Prelude.{◌≡◌, ℤ, pos, ◌≤ℤ◌, IsTrue, IfSome, IfNone, false};
+ghost use Rattle.num_api.specs.Ranges.{IsPoint, holds_some};
 ghost use Rattle.num_api.specs.Residues.{IsResidue};
 ghost use Rattle.residues.specs.Inward.{inward_low, inward_high, moved_range, inward_range};
 
@@ -24,6 +24,17 @@ pub fn meets(c: Residue, r: Range) -> bool
     ensures { result ≡ holds_some (moved_range c r) }
 {
     holds_number(moved(c, r))
+}
+
+// The range's number, where it holds no other.
+pub fn number(r: Range) -> Option<i128>
+    ensures some { IfSome result (λ n. IsPoint r n) }
+    ensures none { IfNone result ((n : ℤ) → IsPoint r n → ⊥) }
+{
+    match (r.lo, r.hi) {
+        (Ext::Fin(lo), Ext::Fin(hi)) if lo == hi => Some(lo),
+        _ => None,
+    }
 }
 
 // Whether two ranges have the same ends.

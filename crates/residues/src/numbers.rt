@@ -2,7 +2,8 @@
 
 ghost use Rattle.std.specs.Prelude.{◌≡◌, ℤ, pos, ◌*ℤ◌, ◌≤ℤ◌, ◌<ℤ◌};
 ghost use Rattle.num_api.specs.Residues.{InResidue, IsMultiple};
-ghost use Rattle.residues.specs.Classes.{class_of, IsGreatestDivisor};
+ghost use Rattle.num_api.specs.Residues.{class_of};
+ghost use Rattle.residues.specs.Classes.{IsGreatestDivisor};
 ghost use Rattle.std.specs.Int.{int_rem_euclid};
 
 /// The greatest modulus of a class.

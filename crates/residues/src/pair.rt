@@ -1,12 +1,13 @@
 // Pairs of a range domain and a class domain.
 
-ghost use Rattle.std.specs.Prelude.{◌≡◌, ℤ, pos, ◌+◌, ◌&&◌, IsTrue, IfSome, IfNone};
+ghost use Rattle.std.specs.Prelude.{◌≡◌, ℤ, pos, ◌+◌, ◌&&◌, ◌⊎◌, IsTrue, Some, IfSome, IfNone};
 ghost use Rattle.num_api.specs.Ranges.{InRange, IsPoint, NoWider, holds_some};
-ghost use Rattle.num_api.specs.Residues.{IsResidue};
+ghost use Rattle.num_api.specs.Value.{binary_value};
+ghost use Rattle.num_api.specs.Residues.{class_of, IsResidue, IsFoldResidue};
 ghost use Rattle.residues.specs.Inward.{moved_range, HasSome, IsReduced};
 
 use crate::Class;
-use crate::ends::{inward, is_same, meets};
+use crate::ends::{inward, is_same, meets, number};
 use intervals::Interval;
 use num_api::{ExactValue, NOp, Range, Residue, ValueDomain};
 use ramps::{Ramp, Steps};
@@ -18,6 +19,45 @@ use ramps::{Ramp, Steps};
 pub struct Pair<V, W> {
     bounds: V,
     class: W,
+}
+
+// What a test for equality answers of two numbers that are not equal.
+fn answer_apart(op: NOp) -> Option<i128>
+    ensures { IfSome result (λ n. (x y m : ℤ) → (x ≡ y → ⊥) → binary_value op x y ≡ Some m → m ≡ n) }
+{
+    match op {
+        NOp::Eq => Some(0),
+        NOp::Ne => Some(1),
+        _ => None,
+    }
+}
+
+// The operator's values, where a test for equality is decided by classes that share no number.
+fn told_apart<V: ValueDomain, W: ValueDomain>(op: NOp, values: V, a: &W, b: &W) -> V
+    ensures holds { (x y n : ℤ) → W.admits a.now x → W.admits b.now y → binary_value op x y ≡ Some n → V.admits values n → V.admits result n }
+    ensures plain { IsTrue V.exact → NoWider (V.known result) (V.known values) }
+{
+    let Some(n) = answer_apart(op) else {
+        return values;
+    };
+    match a.meet(b) {
+        Some(_) => values,
+        None => at_number(values, n),
+    }
+}
+
+// The number of the value, where it is known to have it.
+fn at_number<V: ValueDomain>(value: V, n: i128) -> V
+    ensures holds { V.admits value n → V.admits result n }
+    ensures plain { IsTrue V.exact → NoWider (V.known result) (V.known value) }
+{
+    let Some(point) = V::within(Range::point(n)) else {
+        return value;
+    };
+    match value.meet(&point) {
+        Some(both) => both,
+        None => value,
+    }
 }
 
 impl<V: ValueDomain, W: ValueDomain> Pair<V, W> {
@@ -46,6 +86,7 @@ impl<V: ValueDomain, W: ValueDomain> Pair<V, W> {
         ensures class { IfSome result (λ p. class_part p ≡ class_part self.now) }
         ensures shares { IfSome result (λ p. HasSome (range_of_pair V.known W.class p) (W.class (class_part p))) }
         ensures plain { IfSome result (λ p. IsTrue V.exact → NoWider (range_of_pair V.known W.class p) (V.known (bounds_part self.now))) }
+        ensures bounds { IfSome result (λ p. IsTrue V.exact → NoWider (V.known (bounds_part p)) (V.known (bounds_part self.now))) }
     {
         if !self.shares() {
             return None;
@@ -60,13 +101,32 @@ impl<V: ValueDomain, W: ValueDomain> Pair<V, W> {
     // The same numbers, with the bounds moved inward where that leaves some.
     fn kept(&self) -> Self
         ensures holds { (n : ℤ) → IsInBoth V.admits W.admits self.now n → IsInBoth V.admits W.admits result n }
-        ensures class { class_part result ≡ class_part self.now }
+        ensures folds { (c : ℤ) → IsTrue W.folds → IsFoldResidue c (W.class (class_part self.now)) → IsFoldResidue c (W.class (class_part result)) }
         ensures plain { IsTrue V.exact → NoWider (range_of_pair V.known W.class result) (V.known (bounds_part self.now)) }
         ensures point { (x : ℤ) → IsTrue V.exact → IsPoint (V.known (bounds_part self.now)) x → IsPoint (range_of_pair V.known W.class result) x }
     {
         match self.tightened() {
-            Some(pair) => pair,
+            Some(pair) => pair.pointed(),
             None => *self,
+        }
+    }
+
+    // The same numbers, with the class of a number where the range holds no other.
+    fn pointed(&self) -> Self
+        ensures holds { (n : ℤ) → IsInBoth V.admits W.admits self.now n → IsInBoth V.admits W.admits result n }
+        ensures bounds { bounds_part result ≡ bounds_part self.now }
+        ensures proper { IsResidue (W.class (class_part result)) }
+        ensures class { (class_part result ≡ class_part self.now) ⊎ ((n : ℤ) × IsPoint (range_of_pair V.known W.class self.now) n × (IsTrue W.folds → W.class (class_part result) ≡ class_of n (pos 0))) }
+    {
+        let Some(n) = number(self.ends()) else {
+            return *self;
+        };
+        let Some(class) = W::within(Range::point(n)) else {
+            return *self;
+        };
+        Pair {
+            bounds: self.bounds,
+            class,
         }
     }
 
@@ -112,6 +172,7 @@ impl<V: ValueDomain, W: ValueDomain> Pair<V, W> {
 }
 
 impl<V: ValueDomain, W: ValueDomain> ValueDomain for Pair<V, W> {
+    ghost use Rattle.residues.specs.Laws.{in_inward_range, inward_some};
     ghost use Rattle.residues.specs.Pair.{bounds_part, class_part, IsInBoth, range_of_pair};
 
     ghost admits = { IsInBoth V.admits W.admits };
@@ -120,11 +181,19 @@ impl<V: ValueDomain, W: ValueDomain> ValueDomain for Pair<V, W> {
 
     ghost class = { λ p. W.class (class_part p) };
 
+    ghost known_holds = { λ p n h. in_inward_range (W.class (class_part p)) (V.known (bounds_part p)) n (W.class_proper (class_part p)) (V.known_holds (bounds_part p) n h.0) (W.class_holds (class_part p) n h.1) };
+
+    ghost class_holds = { λ p n h. W.class_holds (class_part p) n h.1 };
+
+    ghost class_proper = { λ p. W.class_proper (class_part p) };
+
     ghost holds = { λ p q. V.holds (bounds_part p) (bounds_part q) && W.holds (class_part p) (class_part q) };
 
     ghost weight = { λ steps p. V.weight steps (bounds_part p) + W.weight steps (class_part p) };
 
     ghost exact = { V.exact };
+
+    ghost known_some = { λ p claimed. inward_some (W.class (class_part p)) (V.known (bounds_part p)) (V.known_some (bounds_part p) claimed) };
 
     ghost folds = { W.folds };
 
@@ -171,8 +240,9 @@ impl<V: ValueDomain, W: ValueDomain> ValueDomain for Pair<V, W> {
     }
 
     fn binary(op: NOp, a: &Self, b: &Self) -> Self {
+        let bounds = V::binary(op, &a.tight(), &b.tight());
         let loose = Pair {
-            bounds: V::binary(op, &a.tight(), &b.tight()),
+            bounds: told_apart(op, bounds, &a.class, &b.class),
             class: W::binary(op, &a.class, &b.class),
         };
         loose.kept()

@@ -1,7 +1,9 @@
 // Rows worked by hand, and every call at a concrete type. The range domain here knows its range
 // until it is widened, and nothing of results.
 
-ghost use Rattle.std.specs.Prelude.{◌≡◌, ℤ, pos, false, if◌then◌else◌};
+ghost use Rattle.std.specs.Prelude.{◌≡◌, ℤ, pos, true, false, if◌then◌else◌, refl};
+ghost use Rattle.std.proofs.lemmas.Bool.{false≢true};
+ghost use Rattle.num_api.proofs.ClassLemmas.{in_any, any_is_proper};
 ghost use Rattle.ramps.specs.Steps.{least};
 ghost use Rattle.ramps.specs.Powers.{power_steps};
 ghost use Rattle.num_api.specs.Ranges.{InRange, all_numbers};
@@ -34,11 +36,19 @@ impl ValueDomain for Stretch {
 
     ghost class = { λ b. record { rem = pos 0; modulus = pos 1 } };
 
+    ghost known_holds = { λ b n h. elim b.any as (λ t. (t ≡ false → InRange b.range n) → InRange (if t then all_numbers else b.range) n) [ true ↦ λ k. record { low = tt; high = tt } | false ↦ λ k. k refl ] h };
+
+    ghost class_holds = { λ b n h. in_any n };
+
+    ghost class_proper = { λ b. any_is_proper };
+
     ghost holds = { λ b c. b.any };
 
     ghost weight = { λ steps b. if b.any then 0 else 1 };
 
     ghost exact = { false };
+
+    ghost known_some = { λ b claimed. absurd (false≢true claimed) };
 
     ghost folds = { false };
 
@@ -146,7 +156,14 @@ fn operators(rt: HostRuntime) {
         (NOp::And, (6, 0), (3, 0), (2, 0)),
         (NOp::And, (-1, 0), (12, 0), (12, 0)),
         (NOp::Xor, (-1, 0), (0, 0), (-1, 0)),
-        (NOp::Or, (4, 8), (3, 0), (0, 1)),
+        (NOp::Or, (4, 8), (3, 0), (7, 8)),
+        (NOp::Or, (0, 1), (4, 0), (0, 1)),
+        (NOp::Xor, (0, 16), (5, 0), (5, 16)),
+        (NOp::Xor, (1, 6), (3, 4), (0, 2)),
+        (NOp::And, (0, 1), (-8, 0), (0, 8)),
+        (NOp::And, (12, 0), (0, 1), (0, 4)),
+        (NOp::And, (4, 8), (-8, 0), (0, 8)),
+        (NOp::And, (4, 8), (7, 0), (4, 8)),
     ];
     for (op, a, b, expected) in rows {
         let result = Class::binary(op, &class(a.0, a.1), &class(b.0, b.1));
@@ -321,8 +338,12 @@ fn pairs_of_intervals(rt: HostRuntime) {
             NOp::Rem,
             (0, 90, (2, 10)),
             (10, 10, (10, 0)),
-            (2, 2, (2, 10)),
+            (2, 2, (2, 0)),
         ),
+        (NOp::Eq, (0, 90, (0, 2)), (0, 90, (1, 2)), (0, 0, (0, 0))),
+        (NOp::Ne, (0, 90, (0, 2)), (0, 90, (1, 2)), (1, 1, (1, 0))),
+        (NOp::Eq, (0, 90, (0, 2)), (0, 90, (0, 3)), (0, 1, (0, 1))),
+        (NOp::Shr, (8, 9, (0, 1)), (1, 1, (1, 0)), (4, 4, (4, 0))),
     ];
     for (op, a, b, expected) in rows {
         let left = interval(a.0, a.1, class(a.2.0, a.2.1));
@@ -339,6 +360,14 @@ fn pairs_of_intervals(rt: HostRuntime) {
             );
             assert_eq!(rt; Class::new(result.residue()), class(expected.2.0, expected.2.1), "{op:?}");
         }
+    }
+    let one = interval(1, 1, class(1, 0));
+    let halves = (interval(8, 9, class(0, 1)), interval(16, 17, class(0, 1)));
+    if let (Some(one), (Some(four), Some(eight))) = (one, halves) {
+        let four = Pair::binary(NOp::Shr, &four, &one);
+        let eight = Pair::binary(NOp::Shr, &eight, &one);
+        let either = four.join(&eight);
+        assert_eq!(rt; either.residue(), Residue { rem: 0, modulus: 4 });
     }
     let some = interval(5, 7, class(0, 1));
     let fours = interval(-100, 100, class(0, 4));

@@ -4,7 +4,8 @@ ghost use Rattle.std.specs.Prelude.{◌≡◌, ℤ, pos, ◌^◌, ◌+ℤ◌, �
 ghost use Rattle.num_api.specs.Residues.{InResidue, IsMultiple, IsFoldResidue};
 ghost use Rattle.num_api.specs.Fold.{IsAlignment};
 ghost use Rattle.residues.specs.Class.{residue_of};
-ghost use Rattle.residues.specs.Classes.{class_of, IsClassOf, IsCommonStep, IsByCommonStep};
+ghost use Rattle.num_api.specs.Residues.{class_of};
+ghost use Rattle.residues.specs.Classes.{IsClassOf, IsCommonStep, IsByCommonStep};
 
 use super::Class;
 use crate::numbers::{GREATEST_MODULUS, greatest_divisor, remainder};

@@ -3,7 +3,8 @@
 ghost use Rattle.std.specs.Prelude.{◌≡◌, ℤ, pos, ◌^◌, ◌+ℤ◌, ◌-ℤ◌, ◌*ℤ◌, ◌≤ℤ◌, ◌<ℤ◌, IfSome, IfNone};
 ghost use Rattle.num_api.specs.Residues.{InResidue, IsMultiple};
 ghost use Rattle.residues.specs.Class.{residue_of};
-ghost use Rattle.residues.specs.Classes.{class_of, IsClassOf, IsGreatestDivisor, IsCoprime, IsTurn, SharesBy, Meets};
+ghost use Rattle.num_api.specs.Residues.{class_of};
+ghost use Rattle.residues.specs.Classes.{IsClassOf, IsGreatestDivisor, IsCoprime, IsTurn, SharesBy, Meets};
 
 use super::Class;
 use super::lattice::has;

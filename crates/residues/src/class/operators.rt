@@ -2,15 +2,20 @@
 
 ghost use Rattle.std.specs.Prelude.{◌≡◌, ℕ, ℤ, pos, ◌^◌, Some, IfSome};
 ghost use Rattle.num_api.specs.Fold.{IsAlignment};
-ghost use Rattle.num_api.specs.Residues.{InResidue, IsFoldResidue};
+ghost use Rattle.std.specs.Prelude.{IfNone};
+ghost use Rattle.std.specs.Int.RustNames.{FitsSigned};
+ghost use mir.Syntax.{w128};
+ghost use Rattle.num_api.specs.Residues.{class_of, InResidue, IsFoldResidue};
 ghost use Rattle.num_api.specs.Value.{unary_value, binary_value};
 ghost use Rattle.num_api.specs.declared.expr.NOp.TheVariants.{Not, Add, Mul};
 ghost use Rattle.residues.specs.Class.{residue_of};
 
 use super::Class;
 use super::arithmetic::{difference, sum};
+use super::bits::logical;
 use super::lattice::has;
 use super::products::{product, rest};
+use crate::ends::number;
 use intervals::Interval;
 use num_api::{NOp, ValueDomain};
 
@@ -25,8 +30,43 @@ pub(super) fn unary(op: NOp, a: Class) -> Class
     }
 }
 
-// What an operator of two operands makes of the numbers of two classes.
+// What an operator of two operands makes of the numbers of two classes: at two numbers the class of its
+// value, where that is an `i128`.
 pub(super) fn binary(op: NOp, a: Class, b: Class) -> Class
+    ensures fold_sum { (c : ℤ) → IsAlignment c → op ≡ Add → IsFoldResidue c (residue_of a) → IsFoldResidue c (residue_of b) → IsFoldResidue c (residue_of result) }
+    ensures fold_left { (c : ℤ) → IsAlignment c → op ≡ Mul → IsFoldResidue c (residue_of a) → IsFoldResidue c (residue_of result) }
+    ensures fold_right { (c : ℤ) → IsAlignment c → op ≡ Mul → IsFoldResidue c (residue_of b) → IsFoldResidue c (residue_of result) }
+    ensures holds { (x y n : ℤ) → InResidue (residue_of a) x → InResidue (residue_of b) y → binary_value op x y ≡ Some n → InResidue (residue_of result) n }
+    ensures point { (x y n : ℤ) → residue_of a ≡ class_of x (pos 0) → residue_of b ≡ class_of y (pos 0) → binary_value op x y ≡ Some n → FitsSigned w128 n → residue_of result ≡ class_of n (pos 0) }
+{
+    match at_two_numbers(op, a, b) {
+        Some(n) => Class::point(n),
+        None => by_steps(op, a, b),
+    }
+}
+
+// The operator's value at two numbers, where it is an `i128`.
+fn at_two_numbers(op: NOp, a: Class, b: Class) -> Option<i128>
+    ensures some { IfSome result (λ n. ((residue_of a).modulus ≡ pos 0) × ((residue_of b).modulus ≡ pos 0) × ((m : ℤ) → binary_value op (residue_of a).rem (residue_of b).rem ≡ Some m → m ≡ n)) }
+    ensures none { IfNone result ((x y m : ℤ) → residue_of a ≡ class_of x (pos 0) → residue_of b ≡ class_of y (pos 0) → binary_value op x y ≡ Some m → FitsSigned w128 m → ⊥) }
+{
+    if a.residue.modulus == 0 && b.residue.modulus == 0 {
+        number_at(op, a.residue.rem, b.residue.rem)
+    } else {
+        None
+    }
+}
+
+// The operator's value, as intervals have it, where it is an `i128`.
+fn number_at(op: NOp, x: i128, y: i128) -> Option<i128>
+    ensures some { IfSome result (λ n. (m : ℤ) → binary_value op x y ≡ Some m → m ≡ n) }
+    ensures none { IfNone result ((m : ℤ) → binary_value op x y ≡ Some m → FitsSigned w128 m → ⊥) }
+{
+    number(Interval::binary(op, &Interval::point(x), &Interval::point(y)).range())
+}
+
+// What an operator makes of the numbers of two classes by their steps.
+fn by_steps(op: NOp, a: Class, b: Class) -> Class
     ensures fold_sum { (c : ℤ) → IsAlignment c → op ≡ Add → IsFoldResidue c (residue_of a) → IsFoldResidue c (residue_of b) → IsFoldResidue c (residue_of result) }
     ensures fold_left { (c : ℤ) → IsAlignment c → op ≡ Mul → IsFoldResidue c (residue_of a) → IsFoldResidue c (residue_of result) }
     ensures fold_right { (c : ℤ) → IsAlignment c → op ≡ Mul → IsFoldResidue c (residue_of b) → IsFoldResidue c (residue_of result) }
@@ -65,7 +105,7 @@ fn powers(a: Class) -> Class
 }
 
 // An operator that keeps no class of sums or products: that of its value at two numbers, the class
-// of remainders, or all numbers.
+// of remainders or of low bits, or all numbers.
 fn other(op: NOp, a: Class, b: Class) -> Class
     ensures { (x y n : ℤ) → InResidue (residue_of a) x → InResidue (residue_of b) y → binary_value op x y ≡ Some n → InResidue (residue_of result) n }
 {
@@ -74,12 +114,13 @@ fn other(op: NOp, a: Class, b: Class) -> Class
     }
     match op {
         NOp::Rem => rest(a, b),
+        NOp::And | NOp::Or | NOp::Xor => logical(op, a, b),
         _ => Class::all(),
     }
 }
 
 // The class of the operator's value at two numbers, as intervals have it.
-fn at_numbers(op: NOp, x: i128, y: i128) -> Class
+pub(super) fn at_numbers(op: NOp, x: i128, y: i128) -> Class
     ensures { (n : ℤ) → binary_value op x y ≡ Some n → InResidue (residue_of result) n }
 {
     let value = Interval::binary(op, &Interval::point(x), &Interval::point(y));

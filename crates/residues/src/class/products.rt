@@ -6,7 +6,8 @@ ghost use Rattle.num_api.specs.Fold.{IsAlignment};
 ghost use Rattle.num_api.specs.Value.{binary_value};
 ghost use Rattle.num_api.specs.declared.expr.NOp.TheVariants.{Rem};
 ghost use Rattle.residues.specs.Class.{residue_of};
-ghost use Rattle.residues.specs.Classes.{class_of, IsClassOf, IsGreatestDivisor, IsProductBy};
+ghost use Rattle.num_api.specs.Residues.{class_of};
+ghost use Rattle.residues.specs.Classes.{IsClassOf, IsGreatestDivisor, IsProductBy};
 
 use super::Class;
 use crate::numbers::{GREATEST_MODULUS, greatest_divisor};

@@ -4,7 +4,7 @@ ghost use Rattle.std.specs.Prelude.{◌≡◌, ℤ, pos, IfSome, IfNone};
 ghost use Rattle.num_api.specs.Ranges.{InRange, IsPoint};
 ghost use Rattle.num_api.specs.Residues.{InResidue};
 ghost use Rattle.residues.specs.Class.{residue_of, range_of_class};
-ghost use Rattle.residues.specs.Classes.{class_of};
+ghost use Rattle.num_api.specs.Residues.{class_of};
 
 use super::Class;
 use ext_int::Ext;

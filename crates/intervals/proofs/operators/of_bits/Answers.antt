@@ -6,7 +6,7 @@ use Rattle.num_api.specs.Value.{binary_value}
 use Rattle.intervals.specs.declared.Interval.{Interval}
 use Rattle.intervals.specs.Interval.{IsPoint}
 use Rattle.intervals.proofs.Inside.{same_point}
-use Rattle.intervals.proofs.Points.{carries_value, carries_all}
+use Rattle.intervals.proofs.Points.{carries_value, carries_values}
 use Rattle.intervals.proofs.operators.of_bits.Goals as goal
 use Rattle.intervals.proofs.operators.of_bits.Goals.{in_default-via-in-Some+in_default, in_default-via-in_default}
 
@@ -38,7 +38,7 @@ returns-in-None c =
     let f : FitsSigned w128 x = search rules in
     let g : FitsSigned w128 y = search rules in
     let none = read (λ v w. (n : ℤ) → binary_value op v w ≡ Some n → FitsSigned w128 n → ⊥) x y f g c.in-None.ensures.none in
-    carries_all op c.requires c.args.a.now c.args.b.now c.all_numbers.result c.all_numbers.ensures
+    carries_values op c.requires c.args.a.now c.args.b.now c.range_of_bits.result c.range_of_bits.ensures.holds
     (λ v w n p q e fits. none n (same_value op c.args.a.now c.args.b.now x y v w n c.in-Some-Some.ensures.some c.in-Some-Some.ensures'.some p q e) fits)
 
 pub returns-in_default : goal.returns-in_default
@@ -50,4 +50,4 @@ returns-in_default c =
       | in_default-via-in-Some+in_default w ↦ λ x y p q. w.in_default.ensures'.none y q
       | in_default-via-in_default w ↦ λ x y p q. (rw w.in_default.is-0 at c.number.ensures.none) x p
     ] in
-    carries_all c.args.op c.requires a b c.all_numbers-in_default.result c.all_numbers-in_default.ensures (λ x y n p q e fits. others x y p q)
+    carries_values c.args.op c.requires a b c.range_of_bits-in_default.result c.range_of_bits-in_default.ensures.holds (λ x y n p q e fits. others x y p q)

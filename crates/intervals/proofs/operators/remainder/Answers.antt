@@ -36,4 +36,4 @@ returns-in_default c =
       | in_default-via-in-Some+in_default w ↦ λ x y p q ne. w.in_default.ensures'.none y q
       | in_default-via-in_default w ↦ λ x y p q ne. (rw w.in_default.is-0 at c.number.ensures.none) x p
     ] in
-    carries_remainders a b c.remainders.result others c.remainders.ensures
+    carries_remainders a b c.narrowed_remainders.result others c.narrowed_remainders.ensures

@@ -4,7 +4,7 @@ use Rattle.std.proofs.lemmas.Int.{to_z-of_z}
 use mir.Syntax.{w128}
 use Rattle.num_api.specs.Residues.{InResidue}
 use Rattle.ext_int.specs.declared.Ext.TheVariants.{Fin}
-use Rattle.residues.specs.Classes.{class_of}
+use Rattle.num_api.specs.Residues.{class_of}
 use Rattle.residues.specs.Inward.{inward_low}
 use Rattle.residues.proofs.Moves.{moved}
 use Rattle.residues.proofs.Inward.{gap_up, low_is_next, low_stays, rest_fits}

@@ -1,10 +1,11 @@
 use Rattle.std.proofs.Common.{ℤ, pos, ◌≡◌, arith, FitsSigned, subst, rules}
 use Rattle.std.proofs.lemmas.Int.{ints, to_z-of_z}
 use mir.Syntax.{w128}
-use Rattle.residues.specs.Classes.{IsGreatestDivisor, class_of}
+use Rattle.num_api.specs.Residues.{class_of}
+use Rattle.residues.specs.Classes.{IsGreatestDivisor}
 use Rattle.num_api.specs.Residues.{InResidue}
 use Rattle.residues.proofs.Moves.{moved}
-use Rattle.residues.proofs.Remainders.{divisor_of_zero, divisor_step}
+use Rattle.residues.proofs.Divisors.{divisor_of_zero, divisor_step}
 use Rattle.residues.proofs.numbers.+greatest_divisor.Goals as goal
 
 pub returns-then-b-eq0 : goal.returns-then-b-eq0

@@ -2,10 +2,10 @@ use Rattle.std.proofs.Common.{ℤ, ◌≡◌, sym, FitsSigned, to_z, of_z, rules
 use mir.Syntax.{w128}
 use Rattle.std.specs.Int.{int_rem_euclid}
 use Rattle.num_api.specs.Residues.{InResidue}
-use Rattle.residues.specs.Classes.{class_of}
+use Rattle.num_api.specs.Residues.{class_of}
 use Rattle.residues.proofs.Moves.{moved, unmoved}
-use Rattle.residues.proofs.Multiples.{in_along}
-use Rattle.residues.proofs.Remainders.{rem_same}
+use Rattle.num_api.proofs.Multiples.{in_along}
+use Rattle.num_api.proofs.Remainders.{rem_same}
 use Rattle.residues.proofs.numbers.remainder.Goals as goal
 
 pub returns-clause-same : goal.returns-clause-same

@@ -2,7 +2,7 @@ use Rattle.std.proofs.Common.{◌≡◌, ℤ, pos, ◌^◌, arith}
 use Rattle.std.proofs.lemmas.Int.{ints}
 use Rattle.num_api.specs.Residues.{IsMultiple}
 use Rattle.residues.proofs.Moves.{moved}
-use Rattle.residues.proofs.Multiples.{multiple_along, zero_multiple, self_multiple}
+use Rattle.num_api.proofs.Multiples.{multiple_along, zero_multiple, self_multiple}
 use Rattle.residues.proofs.Steps.{fold_greatest}
 use Rattle.residues.proofs.class.arithmetic.positive_step.Goals as goal
 

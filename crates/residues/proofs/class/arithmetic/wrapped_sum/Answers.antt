@@ -3,7 +3,8 @@ use Rattle.std.proofs.lemmas.Int.{ints, to_z-of_z}
 use mir.Syntax.{w128}
 use Rattle.num_api.specs.Residues.{InResidue}
 use Rattle.residues.specs.Class.{residue_of}
-use Rattle.residues.specs.Classes.{class_of, IsClassOf}
+use Rattle.num_api.specs.Residues.{class_of}
+use Rattle.residues.specs.Classes.{IsClassOf}
 use Rattle.residues.proofs.Steps.{class_of_sum}
 use Rattle.residues.proofs.class.arithmetic.wrapped_sum.Goals as goal
 

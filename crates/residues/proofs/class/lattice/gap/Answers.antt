@@ -3,7 +3,8 @@ use Rattle.std.specs.Prelude.{IfSome}
 use Rattle.std.proofs.lemmas.Int.{ints, to_z-of_z}
 use mir.Syntax.{w128}
 use Rattle.num_api.specs.Residues.{InResidue}
-use Rattle.residues.specs.Classes.{class_of, IsGap, IsFarApart}
+use Rattle.num_api.specs.Residues.{class_of}
+use Rattle.residues.specs.Classes.{IsGap, IsFarApart}
 use Rattle.residues.proofs.Moves.{moved}
 use Rattle.residues.proofs.Lattice.{gap_some, gap_of_remainders, far_none, far_from_unfit, if_none}
 use Rattle.residues.proofs.class.lattice.gap.Goals as goal

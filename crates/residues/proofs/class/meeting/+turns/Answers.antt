@@ -4,7 +4,8 @@ use Rattle.std.proofs.lemmas.Int.{ints, to_z-of_z}
 use Rattle.std.proofs.Math.IntN.{+ℤ_idl}
 use mir.Syntax.{w128}
 use Rattle.num_api.specs.Residues.{InResidue}
-use Rattle.residues.specs.Classes.{class_of, IsCoprime, IsTurn}
+use Rattle.num_api.specs.Residues.{class_of}
+use Rattle.residues.specs.Classes.{IsCoprime, IsTurn}
 use Rattle.residues.proofs.Moves.{moved}
 use Rattle.residues.proofs.Crt.{coprime_step, turn_of_zero, turn_sum, turn_step, small_product}
 use Rattle.residues.proofs.class.meeting.+turns.Goals as goal

@@ -5,7 +5,7 @@ use mir.Syntax.{w128}
 use Rattle.num_api.specs.Residues.{InResidue}
 use Rattle.residues.specs.Class.{residue_of, is_member}
 use Rattle.residues.proofs.Lattice.{member_true, member_from}
-use Rattle.residues.proofs.Operators.{one_number}
+use Rattle.residues.specs.Laws.{one_number}
 use Rattle.residues.proofs.Crt.{meets_point, meets_other_point}
 use Rattle.residues.proofs.class.meeting.met.Goals as goal
 

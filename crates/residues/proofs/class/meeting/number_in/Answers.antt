@@ -3,7 +3,8 @@ use Rattle.std.proofs.lemmas.Int.{to_z-of_z}
 use mir.Syntax.{w128}
 use Rattle.num_api.specs.Residues.{InResidue, IsMultiple}
 use Rattle.residues.specs.Class.{residue_of}
-use Rattle.residues.specs.Classes.{class_of, IsCoprime, IsTurn}
+use Rattle.num_api.specs.Residues.{class_of}
+use Rattle.residues.specs.Classes.{IsCoprime, IsTurn}
 use Rattle.residues.proofs.Moves.{moved}
 use Rattle.residues.proofs.Crt.{coprime_step, coprime_swap, coprime_quotients, common_positive, quotient_positive, quotient_bounds, common_in_rest, small_period, turn_reach, in_first, in_second, difference_fits, reach_fits, offset_fits}
 use Rattle.residues.proofs.class.meeting.number_in.Goals as goal

@@ -4,10 +4,12 @@ use mir.Syntax.{w128}
 use Rattle.std.specs.Int.{int_rem_euclid}
 use Rattle.num_api.specs.Residues.{InResidue, IsMultiple}
 use Rattle.residues.specs.Class.{residue_of}
-use Rattle.residues.specs.Classes.{class_of, IsGreatestDivisor, SharesBy}
+use Rattle.num_api.specs.Residues.{class_of}
+use Rattle.residues.specs.Classes.{IsGreatestDivisor, SharesBy}
 use Rattle.residues.proofs.Moves.{moved}
-use Rattle.residues.proofs.Multiples.{multiple_along, off_from_in, in_from_off}
-use Rattle.residues.proofs.Remainders.{divisor_positive, rem_unique}
+use Rattle.num_api.proofs.Multiples.{multiple_along, off_from_in, in_from_off}
+use Rattle.num_api.proofs.Remainders.{rem_unique}
+use Rattle.residues.proofs.Divisors.{divisor_positive}
 use Rattle.residues.proofs.Crt.{shares_from, difference_fits}
 use Rattle.residues.proofs.class.meeting.steps_met.Goals as goal
 

@@ -1,4 +1,5 @@
-use Rattle.std.proofs.Common.{◌≡◌, ℤ, pos, arith, FitsSigned, rules}
+use Rattle.std.proofs.Common.{◌≡◌, ℤ, pos, arith, FitsSigned, rules, ⊎_elim, sym, subst}
+use Rattle.intervals.specs.Bits.{IsLogical}
 use Rattle.std.specs.Prelude.{Some}
 use Rattle.std.proofs.lemmas.Int.{ints, to_z-of_z}
 use mir.Syntax.{w128}
@@ -27,3 +28,8 @@ returns-in-Rem c = λ x y n h k v. c.rest.ensures x y n h k (of_operator c.args.
 
 pub returns-in_default : goal.returns-in_default
 returns-in_default c = λ x y n h k v. in_all (residue_of c.all.result) n c.all.ensures
+
+pub returns-in-And : goal.returns-in-And
+returns-in-And c = λ x y n h k e.
+    let logical : IsLogical c.args.op = ⊎_elim (λ o. subst IsLogical (sym o) tt) (⊎_elim (λ o. subst IsLogical (sym o) tt) (λ o. subst IsLogical (sym o) tt)) c.in-And.is in
+    c.logical.ensures x y n logical h k e

@@ -4,9 +4,10 @@ use mir.Syntax.{w128}
 use lib.IntN.{nat_abs}
 use Rattle.std.proofs.Common.{◌<◌, ◌*◌, ◌%◌}
 use Rattle.residues.specs.Class.{residue_of}
-use Rattle.residues.specs.Classes.{class_of}
+use Rattle.num_api.specs.Residues.{class_of}
 use Rattle.residues.proofs.Moves.{unmoved}
-use Rattle.residues.proofs.Operators.{in_all, in_point, one_number, power_bits}
+use Rattle.residues.specs.Laws.{one_number}
+use Rattle.residues.proofs.Operators.{in_all, in_point, power_bits}
 use Rattle.residues.proofs.class.operators.powers.Goals as goal
 
 pub returns-then-a-lt127 : goal.returns-then-a-lt127

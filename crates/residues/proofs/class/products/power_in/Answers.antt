@@ -4,7 +4,7 @@ use mir.Syntax.{w128}
 use Rattle.num_api.specs.Residues.{IsMultiple}
 use Rattle.residues.specs.Classes.{IsGreatestDivisor}
 use Rattle.residues.proofs.Moves.{moved}
-use Rattle.residues.proofs.Remainders.{divisor_bound}
+use Rattle.residues.proofs.Divisors.{divisor_bound}
 use Rattle.residues.proofs.Steps.{divides_greatest}
 use Rattle.residues.proofs.Products.{fold_power}
 use Rattle.residues.proofs.class.products.power_in.Goals as goal

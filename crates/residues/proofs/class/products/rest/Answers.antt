@@ -5,7 +5,7 @@ use Rattle.num_api.specs.declared.message.Residue.{Residue}
 use Rattle.num_api.specs.Residues.{InResidue}
 use Rattle.residues.specs.Class.{residue_of}
 use Rattle.residues.specs.Classes.{IsClassOf, IsGreatestDivisor}
-use Rattle.residues.proofs.Multiples.{in_from_off}
+use Rattle.num_api.proofs.Multiples.{in_from_off}
 use Rattle.residues.proofs.Products.{rest_holds, rest_value}
 use Rattle.residues.proofs.class.products.rest.Goals as goal
 

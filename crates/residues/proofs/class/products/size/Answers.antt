@@ -3,7 +3,7 @@ use Rattle.std.proofs.lemmas.Int.{ints, to_z-of_z}
 use mir.Syntax.{w128}
 use Rattle.num_api.specs.Residues.{IsMultiple}
 use Rattle.residues.proofs.Moves.{moved}
-use Rattle.residues.proofs.Multiples.{multiple_along, self_multiple, multiple_neg}
+use Rattle.num_api.proofs.Multiples.{multiple_along, self_multiple, multiple_neg}
 use Rattle.residues.proofs.Steps.{fold_greatest}
 use Rattle.residues.proofs.Products.{least_number, least_multiple}
 use Rattle.residues.proofs.class.products.size.Goals as goal

@@ -3,7 +3,8 @@ use Rattle.num_api.specs.declared.message.Range.{Range}
 use Rattle.num_api.specs.Ranges.{InRange}
 use Rattle.num_api.specs.declared.message.Residue.{Residue}
 use Rattle.residues.specs.Inward.{inward_range, IsReduced}
-use Rattle.residues.proofs.Inward.{inward_sound, inward_reduced}
+use Rattle.residues.specs.Laws.{inward_sound}
+use Rattle.residues.proofs.Inward.{inward_reduced}
 use Rattle.residues.proofs.pair.Pair.ends.Goals as goal
 
 pub returns-clause-holds : goal.returns-clause-holds

@@ -1,5 +1,5 @@
 use Rattle.std.proofs.Common.{◌∙◌}
-use Rattle.residues.proofs.Inward.{moved_holds}
+use Rattle.residues.specs.Laws.{moved_holds}
 use Rattle.residues.proofs.pair.Pair.shares.Goals as goal
 
 pub returns-clause-holds : goal.returns-clause-holds

@@ -1,5 +1,6 @@
 use Rattle.std.proofs.Common.{sym, ◌∙◌}
-use Rattle.residues.proofs.Inward.{inward_no_wider, inward_has_some, no_wider_itself, no_wider_trans}
+use Rattle.residues.specs.Laws.{inward_no_wider}
+use Rattle.residues.proofs.Inward.{inward_has_some, no_wider_itself, no_wider_trans}
 use Rattle.residues.proofs.pair.Pair.tightened.Goals as goal
 
 pub returns-then-shares-clause-shares : goal.returns-then-shares-clause-shares
@@ -9,3 +10,6 @@ pub returns-then-shares-clause-plain : goal.returns-then-shares-clause-plain
 returns-then-shares-clause-plain g c = λ t.
     no_wider_trans _ _ _ (inward_no_wider _ _ c.shares.ensures.proper.not_negative)
     (no_wider_trans _ _ _ (no_wider_itself _ _ (c.tight.ensures.exact t)) (inward_no_wider _ _ c.shares.ensures.proper.not_negative))
+
+pub returns-then-shares-clause-bounds : goal.returns-then-shares-clause-bounds
+returns-then-shares-clause-bounds g c = λ t. no_wider_trans _ _ _ (no_wider_itself _ _ (c.tight.ensures.exact t)) (inward_no_wider _ _ c.shares.ensures.proper.not_negative)

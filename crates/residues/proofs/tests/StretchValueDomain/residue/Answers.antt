@@ -1,5 +1,5 @@
 use Rattle.std.proofs.Common.{refl}
-use Rattle.residues.specs.Classes.{class_of}
+use Rattle.num_api.specs.Residues.{class_of}
 use Rattle.std.proofs.Common.{pos}
 use Rattle.residues.proofs.Operators.{in_all}
 use Rattle.residues.proofs.tests.StretchValueDomain.residue.Goals as goal

@@ -2,9 +2,8 @@
 use Rattle.std.proofs.Common.{◌≡◌, ℤ, pos, ◌+ℤ◌, ◌-ℤ◌, ◌*ℤ◌, neg_ℤ, arith, ap, sym, ◌∙◌, subst}
 use Rattle.std.proofs.lemmas.Int.{ints}
 use Rattle.std.proofs.Math.IntN.{*ℤ_comm, zero-*ℤ}
-use Rattle.num_api.specs.Residues.{InResidue, IsMultiple}
-use Rattle.residues.specs.Classes.{class_of}
-use Rattle.residues.proofs.Rings.{add_mul, mul_add, neg_mul, mul_neg, mul_assoc}
+use Rattle.num_api.specs.Residues.{class_of, InResidue, IsMultiple}
+use Rattle.num_api.proofs.Rings.{add_mul, mul_add, neg_mul, mul_neg, mul_assoc}
 
 -- ---- multiples
 
