@@ -2,7 +2,11 @@
 //!
 //! A `_low` form answers a lower bound of the exact result and a `_high` form an upper bound. Where
 //! the exact result of finite operands is an `i128` both answer it; where it is none, a `_low` form
-//! answers `Low` and a `_high` form `High`. Nothing is refused, and nothing allocates.
+//! answers `Low` and a `_high` form `High`. Nothing is refused, and nothing allocates. For example,
+//! `mul_high(Fin(2), High)` is `High`, and `mul_high(Fin(0), High)` is `Fin(0)`.
+//!
+//! `specs/Ext.antt` states each call, on ends with any whole number; each promises what stands there.
+//! `specs/Valuation.antt` has what a list of numbers gives a variable, for the domains above.
 #![tactic(auto)]
 
 ghost use Rattle.std.specs.Prelude.{◌≡◌, ℤ, ◌+ℤ◌, neg_ℤ, ◌↔◌, ◌⊎◌, unwrap_or};

@@ -1,4 +1,12 @@
-//! Intervals of whole numbers.
+//! Intervals of whole numbers: a value domain.
+//!
+//! An interval is never empty, and each of its ends is a number or infinite. An operator answers an
+//! interval that holds each result of numbers of its operands; on points it is exact. For example, `&` of
+//! any interval and [7, 7] lies in [0, 7], and [5, 7] % [10, 10] is [5, 7].
+//!
+//! What an interval admits stands in `specs/Interval.antt`, what operators leave in `specs/Operations.antt`,
+//! `specs/Bits.antt` and `specs/Corners.antt`, and the laws in `specs/Laws.antt`. The calls of `Interval`
+//! promise them, and those of `ValueDomain`, whose laws `num_api` has.
 #![tactic(auto)]
 
 ghost use Rattle.std.specs.Prelude.{IsTrue};

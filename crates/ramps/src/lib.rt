@@ -1,5 +1,10 @@
 //! The steps at which widening stops.
 //!
+//! A ramp answers the least step that is not below a number. For example, the powers ramp answers 63 for
+//! 33 and -32 for -33. There are finitely many steps, so whoever moves an end from step to step comes to
+//! an end. `specs/Told.antt` states what a ramp keeps (`Keeps`) and answers (`Answers`), and
+//! `specs/Powers.antt` the powers steps; `rise`, `fall` and `power_step` promise them.
+//!
 //! The steps are a list of whole numbers that only proofs see. It is a member of a type parameter
 //! `S: Steps`, since a ghost field cannot cite the contract of a closure.
 #![tactic(auto)]
