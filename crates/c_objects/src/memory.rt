@@ -82,6 +82,13 @@ impl ObjectMemory {
         self.places[object as usize] = None;
     }
 
+    /// How many blocks were made.
+    pub fn count(&self) -> u64
+        ensures { result ≡ length self.now.blocks }
+    {
+        self.blocks.count()
+    }
+
     /// Where a pointer points.
     pub fn spot(&self, v: Value) -> Spot
         requires pointer { IsOf Scalar.Pointer v }

@@ -38,6 +38,7 @@ fn objects_begin_and_end(rt: HostRuntime) -> Result<(), Fail> {
     let mut memory = ObjectMemory::new(alloc, 2)?;
     memory.open(&objects, 1)?;
     assert_eq!(rt; memory.place(1), Some(0));
+    assert_eq!(rt; memory.count(), 1);
     memory.shut(1);
     assert_eq!(rt; memory.place(1), None);
     memory.open_all(&objects, &[0, 1])?;

@@ -15,7 +15,7 @@
 //! | scalar types, conversions, truth | `Values` | `scalar_of`, `convert`, `truth`, `bit` |
 //! | numbers | `Numbers`, `Operators` | `arithmetic`, `shift`, `negate`, `complement`, `compares` |
 //! | pointers | `Places`, `Operators` | `check_move`, `check_same_object`, `check_equality`, `check_test`, `compare_pointers`, `difference` |
-//! | looks, and what is found of them | `Looks`, `Accesses` | `looks_fail_as_checks_do`, `checks_ask_for_the_scalar` |
+//! | looks, and what is found of them | `Looks`, `Accesses` | `check_end`, `looks_fail_as_checks_do`, `checks_ask_for_the_scalar` |
 //! | operands and values of the operators' types | `Typed` | `typed_operators_settle` |
 //! | accesses, as memory judges them | `Memory` | `accesses_are_judged_as_in_memory` |
 #![tactic(auto)]
@@ -35,4 +35,4 @@ pub use laws::{
 pub use numbers::{arithmetic, compares, complement, negate, shift};
 pub use pointers::{compare_pointers, difference};
 pub use spots::{check_equality, check_move, check_same_object, check_test};
-pub use values::{Given, Wrong, bit, convert, scalar_of, truth};
+pub use values::{Given, Wrong, bit, check_end, convert, scalar_of, truth};

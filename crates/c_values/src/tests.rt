@@ -29,6 +29,7 @@ fn converts_values(rt: HostRuntime) {
         Given::Value(Value::Int(IntType::UChar, 255))
     );
     assert_eq!(rt; convert(None, given), Given::Nothing);
+    assert_eq!(rt; check_end(given), Ok(()));
     assert!(rt; !truth(Value::Null));
     assert_eq!(rt; bit(true), Value::Int(IntType::Int, 1));
 }

@@ -1,8 +1,11 @@
 // What expressions give, and conversions.
 #![tactic(auto, using(c_syntax::proofs::Trees::the_trees))]
 
-ghost use Rattle.std.specs.Prelude.{◌≡◌, Some};
-ghost use Rattle.c_syntax.specs.Types.{ctype_tree};
+ghost use Rattle.std.specs.Prelude.{◌≡◌, List, Some};
+ghost use Rattle.c_syntax.specs.Types.{ObjectTree, ctype_tree};
+ghost use Rattle.c_values.specs.Accesses.{end_looks};
+ghost use Rattle.c_values.specs.Answers.{Finds};
+ghost use Rattle.c_values.specs.Looks.{judge};
 ghost use Rattle.c_values.specs.Typed.{IsConvertible};
 ghost use Rattle.c_values.specs.Values as rules;
 ghost use Rattle.c_values.specs.Values.{converted};
@@ -83,4 +86,17 @@ pub fn bit(b: bool) -> Value
     ensures { result ≡ rules.bit b }
 {
     Value::Int(IntType::Int, if b { 1 } else { 0 })
+}
+
+/// Asks whether a call whose value is used gave one. It is refused as NoValue.
+pub fn check_end(given: Given) -> Result<(), Wrong>
+    ensures { (objects : List ObjectTree) → Finds result (judge objects (end_looks given)) }
+{
+    match given {
+        Given::Value(_) => Ok(()),
+        Given::Nothing => Err(Wrong {
+            kind: WrongKind::NoValue,
+            operand: Example::Nothing,
+        }),
+    }
 }

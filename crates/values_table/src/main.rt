@@ -3,15 +3,20 @@
 //!
 //! | Row | The line |
 //! |---|---|
-//! | `int + 2147483647 1`, `int neg 5`, `uchar convert 256` | an operator at a type: its value, as `Int 5`, or what is wrong with its operand, as `Overflow Number(2147483648)` |
-//! | `move 0:0 0:16`, `equal null dead`, `order 0:0 1:0`, `difference 4 0:8 0:0`, `test dead` | the checks of pointers by their spots: `passes`, or what is wrong. The objects 0 and 1 have 12 and 4 bytes |
+//! | `int + 2147483647 1`, `int neg 5`, `uchar convert 256` | an operator at a type: its value, or what is wrong, with its operand |
+//! | `move 0:0 0:16`, `equal null dead`, `order 0:0 1:0`, `test dead` | the checks of spots. The objects have 12, 4, 4 and 4 bytes |
+//! | `difference 4 0:8 0:0` | the checks of a difference of elements of 4 bytes |
+//! | `load int 1:0`, `read 1:0 4`, `write 2:0 4` | accesses to these objects, each in the block of its number |
+//! | `assert 0`, `end` | an assertion, and the end of a call without a value |
 //! | `pointers < 5:0 5:8`, `pointers - 4 5:8 5:0` | an operator on two pointers into blocks |
 #![tactic(auto)]
 
+mod accesses;
 mod numbers;
 mod pointers;
 
 use block_mem::Value;
+use c_objects::ObjectMemory;
 use c_syntax::{CType, IntType, Name, Object, Pos};
 use c_values::Wrong;
 use std::alloc::Global;
@@ -27,14 +32,20 @@ pub enum Told {
 
 fn main(rt: HostRuntime) -> io::Result<()> {
     let alloc = rt.alloc();
-    let objects = [object(alloc, 12), object(alloc, 4)];
+    let objects = [
+        object(alloc, 12, false),
+        object(alloc, 4, false),
+        object(alloc, 4, true),
+        object(alloc, 4, false),
+    ];
+    let memory = accesses::memory(alloc, &objects)?;
     let mut text = Vec::new(alloc);
     rt.stdin().read_to_end(&mut text)?;
     let Ok(text) = str::from_utf8(&text) else {
         return Ok(());
     };
     for row in text.lines() {
-        match answer(&objects, row) {
+        match answer(&memory, &objects, row) {
             Told::Value(Value::Int(t, n)) => println!(rt; "{t:?} {n}")?,
             Told::Value(value) => println!(rt; "{value:?}")?,
             Told::Wrong(Wrong { kind, operand }) => println!(rt; "{kind:?} {operand:?}")?,
@@ -45,7 +56,7 @@ fn main(rt: HostRuntime) -> io::Result<()> {
     Ok(())
 }
 
-fn object(alloc: Global, size: u64) -> Object {
+fn object(alloc: Global, size: u64, read_only: bool) -> Object {
     Object {
         name: Name::new(alloc),
         pos: Pos {
@@ -55,20 +66,24 @@ fn object(alloc: Global, size: u64) -> Object {
         },
         ty: CType::Void,
         size,
-        read_only: false,
+        read_only,
         is_static: false,
     }
 }
 
-fn answer(objects: &[Object], row: &str) -> Told {
+fn answer(memory: &ObjectMemory, objects: &[Object], row: &str) -> Told {
     let (word, rest) = row.split_once(' ').unwrap_or((row, ""));
     match integer(word) {
         Some(t) => numbers::answer(t, rest),
-        None => pointers::answer(objects, word, rest),
+        None => match word {
+            "load" | "read" | "write" | "assert" | "end" => accesses::answer(memory, word, rest),
+            _ => pointers::answer(objects, word, rest),
+        },
     }
 }
 
-fn integer(word: &str) -> Option<IntType> {
+/// An integer type, from its word.
+pub fn integer(word: &str) -> Option<IntType> {
     match word {
         "char" => Some(IntType::Char),
         "schar" => Some(IntType::SChar),

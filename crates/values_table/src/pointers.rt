@@ -100,7 +100,8 @@ fn apart(size: &str, pointers: &str) -> Told {
     }
 }
 
-fn pointer(word: &str) -> Option<Value>
+/// `null`, or a block and an offset.
+pub fn pointer(word: &str) -> Option<Value>
     ensures { IfSome result (λ v. IsOf Scalar.Pointer v) }
 {
     match word {
