@@ -1,5 +1,5 @@
 -- The integer points of a matrix of bounds, and when it is tightly closed (Miné; Bagnara, Hill and Zaffanella).
-use Rattle.std.specs.Prelude.{ℕ, zero, suc, ℤ, pos, neg_ℤ, ◌≡◌, ◌<◌, ◌+◌, ◌/◌, ◌%◌, ◌^◌, ◌+ℤ◌, ◌≤ℤ◌, List, [], ◌∷◌, if◌then◌else◌, nat_eq}
+use Rattle.std.specs.Prelude.{ℕ, ℤ, pos, neg_ℤ, ◌≡◌, ◌<◌, ◌+◌, ◌/◌, ◌%◌, ◌^◌, ◌+ℤ◌, ◌≤ℤ◌, List, if◌then◌else◌, nat_eq}
 use Rattle.ext_int.specs.Ext.{Above}
 use Rattle.ext_int.specs.Valuation.{value_at}
 use Rattle.ext_int.specs.declared.Ext.{Ext}

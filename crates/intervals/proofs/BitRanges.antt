@@ -1,5 +1,5 @@
 -- Bounds of the operators on bits at sizes.
-use Rattle.std.proofs.Common.{◌≡◌, ℕ, zero, suc, ℤ, pos, negsuc, ◌+◌, ◌-◌, ◌*◌, ◌/◌, ◌^◌, ◌<◌, ◌≤◌, ◌≤ℤ◌, ◌<ℤ◌, ◌%◌, ◌⊎◌, ⊎_elim, inl, inr, bit_and, bit_or, bit_xor, min, arith, refl, sym, subst, ap, ◌∙◌, to_z, of_z, FitsSigned}
+use Rattle.std.proofs.Common.{◌≡◌, ℕ, zero, suc, ℤ, pos, negsuc, ◌-◌, ◌*◌, ◌^◌, ◌<◌, ◌≤◌, ◌≤ℤ◌, ◌<ℤ◌, ◌%◌, ◌⊎◌, ⊎_elim, inl, inr, bit_and, min, arith, refl, sym, subst, ap, ◌∙◌, to_z, of_z, FitsSigned}
 use Rattle.std.specs.Int.{bit_at}
 use Rattle.std.specs.Int.Bits.{xor_add_and}
 use Rattle.std.proofs.Math.Nat.{pow-succ', pow-le-pow_right, mod-eq_of_lt}
@@ -15,7 +15,7 @@ use Rattle.ext_int.specs.Ext.{Below, Above, AtMost, lesser, greater}
 use Rattle.ext_int.proofs.Ends.{AtMost_trans, AtMost-from_below, AtMost-from_above, Below-from_at_most, Above-from_at_most, lesser_greatest, greater_least, greater_first, greater_second}
 use Rattle.num_api.specs.Value.{bits_without}
 use Rattle.std.specs.Prelude.{true, false}
-use Rattle.intervals.specs.Bits.{IsMask, IsMaskAbove, flipped, of_sign}
+use Rattle.intervals.specs.Bits.{IsMaskAbove, flipped, of_sign}
 
 -- ---- sizes
 

@@ -1,5 +1,5 @@
 -- Bounds of shifts.
-use Rattle.std.proofs.Common.{◌≡◌, ℕ, ℤ, pos, negsuc, zero, suc, ◌/◌, ◌*◌, ◌%◌, ◌^◌, ◌<◌, ◌≤◌, ◌≤ℤ◌, ◌<ℤ◌, ◌⊎◌, ⊎_elim, arith, refl, sym, ◌∙◌, ap, subst, to_z, of_z, FitsSigned, true, false}
+use Rattle.std.proofs.Common.{◌≡◌, ℕ, ℤ, pos, negsuc, zero, suc, ◌/◌, ◌*◌, ◌%◌, ◌^◌, ◌<◌, ◌≤◌, ◌≤ℤ◌, ◌⊎◌, ⊎_elim, arith, sym, ◌∙◌, ap, subst, to_z, of_z, FitsSigned, true, false}
 use Rattle.std.specs.Int.{int_div_euclid, int_min}
 use Rattle.std.specs.Int.Signed.{shr_z, lt_z, le_z}
 use Rattle.std.proofs.Math.IntN.{nat_abs}
@@ -9,7 +9,7 @@ use Rattle.std.proofs.lemmas.Nat.{le-div, pow_pos}
 use Rattle.std.proofs.lemmas.Int.{ints, to_z_pos, to_z-of_z}
 use mir.Syntax.{w128}
 use Rattle.ext_int.specs.declared.Ext.{Ext}
-use Rattle.ext_int.specs.declared.Ext.TheVariants.{Low, Fin, High}
+use Rattle.ext_int.specs.declared.Ext.TheVariants.{Fin}
 use Rattle.ext_int.specs.Ext.{Below, Above}
 
 -- ---- powers of two

@@ -1,5 +1,5 @@
 -- Sizes and signs of whole numbers as the operators on bits see them: the number -1 - m has the bits that m has not.
-use Rattle.std.specs.Prelude.{◌≡◌, ℕ, ℤ, pos, negsuc, ◌-◌, ◌-ℤ◌, ◌^◌, ◌≤ℤ◌, Bool, true, false, ◌⊎◌}
+use Rattle.std.specs.Prelude.{◌≡◌, ℕ, ℤ, pos, negsuc, ◌-◌, ◌-ℤ◌, ◌^◌, Bool, true, false, ◌⊎◌}
 use Rattle.num_api.specs.declared.expr.NOp.{NOp}
 use Rattle.num_api.specs.declared.expr.NOp.TheVariants.{And, Or, Xor}
 use Rattle.ext_int.specs.declared.Ext.{Ext}

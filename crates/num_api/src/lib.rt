@@ -2,14 +2,17 @@
 //!
 //! A value domain describes sets of whole numbers, a numeric domain sets of valuations. Every law is
 //! a clause of the call that it speaks of. A law that ties two calls goes through a ghost member,
-//! since a clause calls nothing. docs/NUMBERS.md has each law beside its clause.
+//! since a clause calls nothing.
 //!
-//! For example, a state that holds `x` in [0, 9] and is told that `x` is at most 3 by `accept` admits
-//! afterwards every valuation that it admitted before and in which `x` is at most 3; that clause is
-//! `after` of `accept`.
+//! As an example, `settle_value` widens a value until it holds what a step makes of it: from [0, 0] by
+//! the step "at most 9, and one more" over the powers of two the intervals go to [0, 1], [0, 2], [0, 3],
+//! [0, 4], [0, 7], [0, 8], [0, 15]. The loop ends, and its value holds the start and is closed under
+//! the step; where the step adds nothing it is the start.
 //!
-//! What an expression is in a valuation stands in `specs/Value.antt`, the plain rule on ranges in
-//! `specs/Plain.antt`. `settle` widens until what is found is covered, over any domain.
+//! specs/Value.antt says what expressions mean, specs/Plain.antt the plain rule, specs/Messages.antt what
+//! a message says. `NExpr` is copied, compared and asked for the variables that it reads; `Unknowing` is
+//! whom a domain asks where there is no other one. proofs/ has lemmas for crates above: on lists of
+//! messages (PutOut), assignments (Sets), expressions (Reading), multiples and remainders.
 #![tactic(auto)]
 
 mod domain;

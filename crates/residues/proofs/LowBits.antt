@@ -1,5 +1,5 @@
 -- Numbers that are the same up to a multiple of a power of two have the same low bits, and the operators on bits keep that.
-use Rattle.std.proofs.Common.{◌≡◌, ℕ, zero, suc, ℤ, pos, negsuc, ◌+◌, ◌-◌, ◌*◌, ◌/◌, ◌%◌, ◌^◌, ◌<◌, ◌≤◌, ◌+ℤ◌, ◌-ℤ◌, ◌*ℤ◌, ◌≤ℤ◌, Some, to_z, of_z, FitsSigned, min, max, bit_and, bit_or, bit_xor, arith, refl, sym, ◌∙◌, ap, subst}
+use Rattle.std.proofs.Common.{◌≡◌, ℕ, suc, ℤ, pos, negsuc, ◌+◌, ◌-◌, ◌*◌, ◌/◌, ◌%◌, ◌^◌, ◌<◌, ◌≤◌, ◌+ℤ◌, ◌-ℤ◌, ◌*ℤ◌, ◌≤ℤ◌, Some, of_z, FitsSigned, min, max, bit_and, bit_xor, arith, refl, sym, ◌∙◌, ap, subst}
 use mir.Syntax.{w128}
 use Rattle.std.specs.Int.{bit_at, int_rem_euclid}
 use Rattle.std.specs.Int.Bits.{xor_add_and}

@@ -1,5 +1,5 @@
 -- Classes of the number of a range that holds no other.
-use Rattle.std.proofs.Common.{◌≡◌, ℤ, pos, ◌+ℤ◌, ◌*ℤ◌, ◌≤ℤ◌, ◌⊎◌, ⊎_elim, arith, ap, sym, subst, ◌∙◌}
+use Rattle.std.proofs.Common.{◌≡◌, ℤ, pos, ◌+ℤ◌, ◌*ℤ◌, ◌≤ℤ◌, ◌⊎◌, ⊎_elim, arith, ap, sym, subst}
 use Rattle.std.specs.Prelude.{IsTrue, Bool, Option, Some, None, IfNone}
 use Rattle.std.proofs.lemmas.Int.{ints}
 use Rattle.ext_int.specs.declared.Ext.{Ext}

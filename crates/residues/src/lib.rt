@@ -1,12 +1,16 @@
 //! Congruence classes of whole numbers, and pairs of two value domains.
 //!
-//! A class is the numbers that leave one remainder by a modulus, or one number alone. A pair has a range
-//! domain and a class domain at once, and each end of its range is in its class. For example, the join of
-//! 4 and 8 is 0 mod 4; and a pair of [5, 20] and 0 mod 4 has the range [8, 20].
+//! A class says what its numbers are up to a multiple of a modulus, as addresses are multiples of 4.
+//! A pair keeps a range beside it: the numbers that are in both. Each end of its range moves inward to
+//! the nearest number of the class, and where one number is left the class is that number's.
 //!
-//! What a class admits stands in `specs/Class.antt`, what classes are of each other in
-//! `specs/Classes.antt`, what a pair keeps in `specs/Pair.antt`, and the laws in `specs/Laws.antt`. The calls
-//! of `Class` and `Pair` promise them, and those of `ValueDomain`.
+//! The operators on bits go by low bits: numbers that are the same up to a multiple of a power of two
+//! have the same low bits. So 4 up to multiples of 8, with the bits of -8 kept, is 0 up to multiples of
+//! 8; and the join of 4 and 8 is 0 up to multiples of 4.
+//!
+//! specs/Class.antt and specs/Classes.antt say what classes are, specs/Pair.antt and specs/Inward.antt
+//! what pairs are. The laws are promised by `ValueDomain` at `Class` and `Pair`; at `Class` beside them
+//! that `meet` is exact, that `join` and `widen` are least, and that an operator is exact on two numbers.
 #![tactic(auto)]
 
 mod class;

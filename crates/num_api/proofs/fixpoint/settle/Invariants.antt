@@ -1,4 +1,4 @@
-use Rattle.std.proofs.Common.{◌≡◌, ℤ, List, true}
+use Rattle.std.proofs.Common.{◌≡◌, true}
 use Rattle.std.specs.Prelude.{Ok}
 use Rattle.std.specs.Fn.{FnReturnsAt}
 use Rattle.num_api.specs.Loops.{IsWidened}

@@ -1,4 +1,4 @@
-use Rattle.std.proofs.Common.{◌≡◌, ℤ, true}
+use Rattle.std.proofs.Common.{◌≡◌, true}
 use Rattle.num_api.specs.Loops.{IsWidened}
 use Rattle.num_api.proofs.fixpoint.settle_value.Given as goal
 

@@ -1,4 +1,4 @@
-use Rattle.std.proofs.Common.{ℤ, pos, ◌*ℤ◌, to_z, FitsSigned}
+use Rattle.std.proofs.Common.{pos, ◌*ℤ◌, to_z, FitsSigned}
 use Rattle.std.proofs.lemmas.Int.{to_z-of_z}
 use mir.Syntax.{w128}
 use Rattle.residues.proofs.LowBits.{power_one, step_fits, step_positive, next_power}

@@ -1,4 +1,4 @@
-use Rattle.std.proofs.Common.{◌≡◌, ℤ, Some, refl, sym, subst, FitsSigned}
+use Rattle.std.proofs.Common.{◌≡◌, ℤ, Some, refl, sym, subst}
 use Rattle.std.proofs.lemmas.Int.{to_z-of_z}
 use mir.Syntax.{w128}
 use Rattle.num_api.specs.declared.message.Range.{Range}

@@ -1,4 +1,4 @@
-use Rattle.std.proofs.Common.{ap, sym, subst}
+use Rattle.std.proofs.Common.{sym, subst}
 use Rattle.num_api.specs.Ranges.{NoWider}
 use Rattle.residues.specs.Pair.{range_of_pair}
 use Rattle.residues.specs.Laws.{inward_no_wider, inward_some}

@@ -1,5 +1,4 @@
-use Rattle.std.proofs.Common.{pos, ap, sym, subst}
-use Rattle.num_api.specs.Residues.{IsFoldResidue}
+use Rattle.std.proofs.Common.{pos, sym}
 use Rattle.residues.proofs.Inward.{no_wider_itself, point_along, point_inside, no_wider_trans}
 use Rattle.residues.proofs.pair.PairValueDomain.binary.Goals as goal
 
