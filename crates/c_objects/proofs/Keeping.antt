@@ -1,24 +1,24 @@
 -- What every memory of objects keeps.
-use Rattle.std.proofs.Common.{◌≡◌, ℕ, zero, suc, ◌+◌, ◌<◌, ◌≤◌, Bool, true, false, refl, sym, subst, ap, ◌∙◌, arith, List, [], ◌∷◌, ◌++◌, length, length-append}
-use Rattle.std.proofs.Common.{length-set, replicate, Option, Some, None, inl, inr, ◌⊎◌}
-use Rattle.std.specs.Prelude.{option_map, unwrap_or, slice_get, slice_set, slice_index_or}
+use Rattle.std.proofs.Common.{◌≡◌, ℕ, zero, suc, ◌+◌, ◌<◌, ◌≤◌, true, false, refl, sym, subst, ap, ◌∙◌, arith, List, [], ◌∷◌, ◌++◌, length, length-append}
+use Rattle.std.proofs.Common.{length-set, Option, Some, None, inl, inr, ◌⊎◌}
+use Rattle.std.specs.Prelude.{option_map, unwrap_or, slice_get, slice_index_or}
 use Rattle.std.proofs.lemmas.Bool.{cases_eq, cases_lt}
-use Rattle.std.proofs.lemmas.List.{get_or_append_left, get_or-set_same, get_or-set_other, get_or_past, length-replicate}
+use Rattle.std.proofs.lemmas.List.{get_or_append_left, get_or-set_same, get_or-set_other, length-replicate}
 use Rattle.std.proofs.Math.Seq.{get_or-append_seam}
 use Rattle.c_syntax.specs.Types.{ObjectTree}
 use Rattle.block_mem.specs.declared.types.Byte.{Byte}
 use Rattle.block_mem.specs.declared.types.Byte.TheVariants.{Undef}
 use Rattle.block_mem.specs.Block.{BlockView, new_block}
-use Rattle.block_mem.specs.Blocks.{no_block, block_at, with_bytes, with_ended}
+use Rattle.block_mem.specs.Blocks.{no_block, block_at, with_bytes}
 use Rattle.block_mem.specs.Proper.{AreProper}
 use Rattle.block_mem.specs.Whole.{AreWhole}
 use Rattle.block_mem.proofs.Copies.{block-same, block-other}
-use Rattle.block_mem.proofs.Proper.{proper-start, proper-made, proper-ended}
-use Rattle.block_mem.proofs.Whole.{whole_set, whole_more, whole-empty, whole-undefined}
+use Rattle.block_mem.proofs.Proper.{proper-start, proper-made}
+use Rattle.block_mem.proofs.Whole.{whole_more, whole-empty, whole-undefined}
 use Rattle.c_values.specs.Memory.{Fits}
 use Rattle.c_values.specs.Places.{ObjectMemory, place_of, owner_of}
 use Rattle.c_objects.specs.Kept.{IsKept, IsPlaced}
-use Rattle.c_objects.specs.Opening.{no_objects, opened, shut, size_of, is_read_only}
+use Rattle.c_objects.specs.Opening.{no_objects, opened, size_of, is_read_only}
 use Rattle.c_objects.specs.Writing.{with_blocks}
 
 -- ---- an object that begins

@@ -1,16 +1,14 @@
 -- What is kept where an object ends.
-use Rattle.std.proofs.Common.{◌≡◌, ℕ, ◌<◌, ◌≤◌, Bool, true, false, refl, sym, subst, ap, ◌∙◌, arith, List, length, length-set, Option, Some, None, inl, inr}
+use Rattle.std.proofs.Common.{◌≡◌, ℕ, ◌<◌, ◌≤◌, true, false, refl, sym, subst, ap, ◌∙◌, arith, List, length, length-set, Option, Some, None, inl, inr}
 use Rattle.std.proofs.Common.{◌⊎◌}
-use Rattle.std.specs.Prelude.{slice_index_or, slice_set}
+use Rattle.std.specs.Prelude.{slice_set}
 use Rattle.std.proofs.lemmas.Bool.{cases_eq, cases_lt}
 use Rattle.std.proofs.lemmas.List.{get_or-set_same, get_or-set_other, get_or_past}
 use Rattle.c_syntax.specs.Types.{ObjectTree}
 use Rattle.block_mem.specs.Block.{BlockView}
 use Rattle.block_mem.specs.Blocks.{no_block, block_at, with_ended}
-use Rattle.block_mem.specs.Whole.{AreWhole}
 use Rattle.block_mem.proofs.Proper.{proper-ended}
 use Rattle.block_mem.proofs.Whole.{whole_set}
-use Rattle.c_values.specs.Memory.{Fits}
 use Rattle.c_values.specs.Places.{ObjectMemory, place_of, owner_of}
 use Rattle.c_objects.specs.Kept.{IsKept, IsPlaced}
 use Rattle.c_objects.specs.Opening.{ended_at, shut}

@@ -17,8 +17,7 @@ use Rattle.block_mem.specs.declared.types.Value.TheVariants as values
 use Rattle.block_mem.specs.Block.{BlockView}
 use Rattle.block_mem.specs.Blocks.{block_at, place, store, copy, wrong_access, with_undefined}
 use Rattle.block_mem.specs.Bytes.{IsOf, size_of, bytes_of}
-use Rattle.block_mem.specs.Proper.{AreProper, IsMade}
-use Rattle.block_mem.specs.Whole.{AreWhole}
+use Rattle.block_mem.specs.Proper.{IsMade}
 use Rattle.block_mem.proofs.Laws.{length-stored}
 use Rattle.block_mem.proofs.Proper.{proper-store, proper-copy, proper-undefine}
 use Rattle.block_mem.proofs.StoreLaws.{passing}

@@ -29,7 +29,8 @@ impl ObjectMemory {
         requires made { block < length self.old.blocks }
         requires live { (block_at self.old.blocks block).live ≡ true }
         requires small { length (block_at self.old.blocks block).bytes < 2 ^ 63 }
-        ensures { self.new ≡ with_blocks self.old (zeroed (writing.is_named (map tinit_tree inits.now)) block (length (block_at self.old.blocks block).bytes) self.old.blocks) }
+        ensures { self.new ≡ with_blocks self.old (zeroed (writing.is_named (map tinit_tree inits.now)) block (length
+            (block_at self.old.blocks block).bytes) self.old.blocks) }
     {
         let size = self.blocks.size(block);
         for offset in 0..size {

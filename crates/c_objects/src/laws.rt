@@ -18,12 +18,15 @@ ghost use Rattle.c_objects.specs.Writing.{copied_at, rest, stored_at};
 /// values, and where the rest of an initialiser becomes 0.
 pub fn memory_keeps()
     ensures none { (objects : List ObjectTree) → IsKept objects (no_objects (length objects)) }
-    ensures opened { (objects : List ObjectTree) (m : spots.ObjectMemory) (x : ℕ) → IsKept objects m → x < length objects → place_of m x ≡ None → IsKept objects (opened objects m x) }
+    ensures opened { (objects : List ObjectTree) (m : spots.ObjectMemory) (x : ℕ) → IsKept objects m → x < length objects → place_of m x ≡ None
+        → IsKept objects (opened objects m x) }
     ensures shut { (objects : List ObjectTree) (m : spots.ObjectMemory) (x : ℕ) → IsKept objects m → IsKept objects (shut m x) }
     ensures stored { (objects : List ObjectTree) (m : spots.ObjectMemory) (ty : Scalar) (to v : Value) (n : spots.ObjectMemory) → IsKept objects m
         → IsMade (length m.blocks) to → IsOf ty v → IsMade (length m.blocks) v → stored_at m ty to v ≡ Some n → IsKept objects n }
     ensures copied { (objects : List ObjectTree) (m : spots.ObjectMemory) (to from : Value) (size : ℕ) (n : spots.ObjectMemory) → IsKept objects m
         → IsMade (length m.blocks) to → copied_at m to from size ≡ Some n → IsKept objects n }
-    ensures undefined { (objects : List ObjectTree) (m : spots.ObjectMemory) (x : ℕ) (n : spots.ObjectMemory) → IsKept objects m → undefined m x ≡ Some n → IsKept objects n }
-    ensures rest { (objects : List ObjectTree) (m : spots.ObjectMemory) (x : ℕ) (inits : List TInitTree) (n : spots.ObjectMemory) → IsKept objects m → rest m x inits ≡ Some n → IsKept objects n }
+    ensures undefined { (objects : List ObjectTree) (m : spots.ObjectMemory) (x : ℕ) (n : spots.ObjectMemory) → IsKept objects m → undefined m x ≡ Some n
+        → IsKept objects n }
+    ensures rest { (objects : List ObjectTree) (m : spots.ObjectMemory) (x : ℕ) (inits : List TInitTree) (n : spots.ObjectMemory) → IsKept objects m
+        → rest m x inits ≡ Some n → IsKept objects n }
 {}

@@ -1,14 +1,14 @@
 // Operators on values, over a memory of objects.
 ghost use Rattle.std.specs.Prelude.{◌≡◌, ◌<◌, ◌≤◌, ◌^◌, ℕ, ℤ, length, map, IfOk, Some, nat_abs, List};
 ghost use Rattle.c_syntax.specs.Types.{ObjectTree, object_tree};
-ghost use Rattle.c_layout.specs.Checks.{move_checks, pointer_checks};
+ghost use Rattle.c_layout.specs.Checks.{pointer_checks};
 ghost use Rattle.block_mem.specs.Bytes.{IsOf};
 ghost use Rattle.block_mem.specs.Proper.{IsMade};
 ghost use Rattle.c_values.specs.Accesses.{assert_looks, test_looks};
 ghost use Rattle.c_values.specs.Answers.{Answers, Finds};
-ghost use Rattle.c_values.specs.Looks.{judge, looks, outcome};
+ghost use Rattle.c_values.specs.Looks.{judge, looks};
 ghost use Rattle.c_values.specs.Operators as operators;
-ghost use Rattle.c_values.specs.Operators.{elements, moving_operand, pair_operand};
+ghost use Rattle.c_values.specs.Operators.{elements, pair_operand};
 ghost use Rattle.c_values.specs.Places as places;
 ghost use Rattle.c_values.specs.Places.{spot_at};
 ghost use Rattle.c_written.specs.declared.int_type.IntType.{IntType};
@@ -31,7 +31,7 @@ impl ObjectMemory {
         requires fits { AllFit (map object_tree objects.now) self.now }
         requires small { AreSmall (map object_tree objects.now) }
         requires distance { nat_abs distance < 2 ^ 126 }
-        ensures answer { Answers result (outcome (judge (map object_tree objects.now) (looks (moving_operand self.now v (operators.moved v distance)) move_checks)) (operators.moved v distance)) }
+        ensures answer { Answers result (operators.move_by (map object_tree objects.now) self.now v distance) }
         ensures made { IfOk result (λ new. IsMade (length self.now.blocks) new) }
     {
         match v {
@@ -48,7 +48,7 @@ impl ObjectMemory {
         requires fits { AllFit (map object_tree objects.now) self.now }
         requires small { AreSmall (map object_tree objects.now) }
         requires distance { nat_abs distance < 2 ^ 126 }
-        ensures answer { Answers result (outcome (judge (map object_tree objects.now) (looks (moving_operand self.now (Value.Ptr p) (operators.moved (Value.Ptr p) distance)) move_checks)) (operators.moved (Value.Ptr p) distance)) }
+        ensures answer { Answers result (operators.move_by (map object_tree objects.now) self.now (Value.Ptr p) distance) }
         ensures made { IfOk result (λ new. IsMade (length self.now.blocks) new) }
     {
         let from = self.spot_at(p);
@@ -74,7 +74,7 @@ impl ObjectMemory {
         requires fits { AllFit (map object_tree objects.now) self.now }
         requires small { AreSmall (map object_tree objects.now) }
         requires distance { nat_abs distance < 2 ^ 126 }
-        ensures answer { Answers result (outcome (judge (map object_tree objects.now) (looks (moving_operand self.now (Value.Ptr p) (operators.moved (Value.Ptr p) distance)) move_checks)) (operators.moved (Value.Ptr p) distance)) }
+        ensures answer { Answers result (operators.move_by (map object_tree objects.now) self.now (Value.Ptr p) distance) }
         ensures made { IfOk result (λ new. IsMade (length self.now.blocks) new) }
     {
         let offset = i128::from(p.offset);

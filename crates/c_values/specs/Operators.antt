@@ -143,12 +143,16 @@ unary_looks m op ty v = looks (unary_operand m op v) (unary_checks op (plain_typ
 abbrev pub unary : List ObjectTree → ObjectMemory → TUnaryOp → Option Scalar → Value → Outcome
 unary objects m op ty v = outcome (judge objects (unary_looks m op ty v)) (unary_result op v)
 
+-- a pointer that is moved by bytes
+abbrev pub move_by : List ObjectTree → ObjectMemory → Value → ℤ → Outcome
+move_by objects m v d = outcome (judge objects (looks (moving_operand m v (moved v d)) move_checks)) (moved v d)
+
 -- a place that is moved to a member of what stands there (C11 6.5.2.3p3)
 abbrev pub member_looks : ObjectMemory → Value → ℕ → List Look
 member_looks m v offset = looks (moving_operand m v (moved v (pos offset))) move_checks
 
 abbrev pub member : List ObjectTree → ObjectMemory → Value → ℕ → Outcome
-member objects m v offset = outcome (judge objects (member_looks m v offset)) (moved v (pos offset))
+member objects m v offset = move_by objects m v (pos offset)
 
 -- `++` and `--` are an addition or a subtraction of 1
 abbrev pub one : Stride → Value

@@ -26,9 +26,12 @@ use block_mem::{Scalar, Value};
 /// An operator on operands of its types comes to a value of its type, or to something wrong, in
 /// each memory; it is never stuck.
 pub fn typed_operators_settle()
-    ensures binary { (objects : List ObjectTree) (m : ObjectMemory) (op : TBinaryOp) (v u : Value) → TakesBoth op v u → IsSettled (binary_type op) (binary objects m op v u) }
-    ensures unary { (objects : List ObjectTree) (m : ObjectMemory) (op : TUnaryOp) (ty : Scalar) (v : Value) → TakesOne op ty v → IsSettled (unary_type op) (unary objects m op (Some ty) v) }
-    ensures member { (objects : List ObjectTree) (m : ObjectMemory) (v : Value) (offset : ℕ) → IsOf Scalar.Pointer v → IsSettled Scalar.Pointer (member objects m v offset) }
+    ensures binary { (objects : List ObjectTree) (m : ObjectMemory) (op : TBinaryOp) (v u : Value) → TakesBoth op v u
+        → IsSettled (binary_type op) (binary objects m op v u) }
+    ensures unary { (objects : List ObjectTree) (m : ObjectMemory) (op : TUnaryOp) (ty : Scalar) (v : Value) → TakesOne op ty v
+        → IsSettled (unary_type op) (unary objects m op (Some ty) v) }
+    ensures member { (objects : List ObjectTree) (m : ObjectMemory) (v : Value) (offset : ℕ) → IsOf Scalar.Pointer v
+        → IsSettled Scalar.Pointer (member objects m v offset) }
 {}
 
 /// What is found of an access to a block that fits its object is what memory says of the access.

@@ -141,7 +141,8 @@ fn of_bits(t: IntType, bits: u64) -> Value
 /// amount, then ShiftResult with the exact result.
 pub fn shift(way: Shift, t: IntType, a: i128, amount: i128) -> Result<Value, Wrong>
     requires left { HasNumber t a }
-    ensures { (objects : List ObjectTree) (m : ObjectMemory) (u : IntType) → Answers result (binary objects m (TBinaryOp.Shift way t) (Value.Int t a) (Value.Int u amount)) }
+    ensures { (objects : List ObjectTree) (m : ObjectMemory) (u : IntType)
+        → Answers result (binary objects m (TBinaryOp.Shift way t) (Value.Int t a) (Value.Int u amount)) }
 {
     if amount < 0 || amount >= i128::from(t.width()) {
         return Err(Wrong {

@@ -64,7 +64,8 @@ pub fn check_same_object(size: u64, left: Spot, right: Spot) -> Result<(), Wrong
     requires size { 0 < size }
     requires left { IsNear left }
     requires right { IsNear right }
-    ensures { (objects : List ObjectTree) → Finds result (judge objects (looks (pair_operand (Some left) (Some right)) (plain_check WrongKind.NullUse ∷ plain_check WrongKind.Dangling ∷ pair_check size ∷ []))) }
+    ensures { (objects : List ObjectTree) → Finds result (judge objects (looks (pair_operand (Some left) (Some right))
+        (plain_check WrongKind.NullUse ∷ plain_check WrongKind.Dangling ∷ pair_check size ∷ []))) }
 {
     let kind = if is_null(left) || is_null(right) {
         WrongKind::NullUse
