@@ -2,3 +2,4 @@ pub mod Opening
 pub mod Writing
 pub mod Statics
 pub mod Kept
+pub mod Cells
