@@ -21,13 +21,13 @@
 mod class;
 mod parts;
 
-pub use class::Class;
-pub use parts::{Closing, Joint, Level, Role, Setting};
-
 ghost use Rattle.std.specs.Prelude.{◌≡◌, ◌⊎◌, List};
 ghost use Rattle.c_written.specs.declared.token.Placed.{Placed};
 ghost use Rattle.c_written.specs.WrittenFile.{FileTree};
 ghost use Rattle.c_grammar.specs.Refused.{IsFile, IsRefused, Why};
+
+pub use class::Class;
+pub use parts::{Closing, Joint, Level, Role, Setting};
 
 /// Tokens of which none is refused are one file at most.
 pub fn one_file()
