@@ -11,8 +11,8 @@ use Rattle.c_written.specs.declared.token.Punctuator.TheVariants as signs
 use Rattle.c_written.specs.declared.token.Token.{Token}
 use Rattle.c_written.specs.declared.token.Token.TheVariants as kinds
 use Rattle.c_written.specs.declared.written.Expr.{Expr}
-use Rattle.c_written.specs.declared.written.Expr.TheVariants as variants
 use Rattle.c_written.specs.Written.{expr_tree, ExprTree, ExprTrees, Word, Call}
+use Rattle.c_written.specs.WrittenParts.{as_word}
 use Rattle.c_grammar.specs.Parts.{Scene, Part, Value, ExprPart, Run, More, Assignment, Cast, Suffixes, AnExpr, Arguments, MoreArguments}
 use Rattle.c_grammar.specs.Process.{Process, give, token, part}
 use Rattle.c_grammar.specs.declared.class.Class.TheVariants.{Sign as sign}
@@ -152,11 +152,15 @@ suffix_comes base ts suffixes.Arrow e f g = e
 suffix_comes base ts (suffixes.Step way) e f g = e
 suffix_comes base ts suffixes.Nothing e f g = absurd (let h : true ≡ false = f in cc)
 
--- an expression whose tree is a word is one
-pub no_other : (e : Expr) → is_word (expr_tree e) ≡ true → ((at : Pos) (name : List ℕ) → e ≡ variants.Word at name → ⊥) → ⊥
-unfolding expr_tree
-no_other (variants.Word at name) h k = k at name refl
-no_other _ h k = let f : false ≡ true = h in cc
+-- what a word gives is the word
+pub word_is : (e : ExprTree) {told : Pos × List ℕ} → as_word e ≡ Some told → e ≡ Word told.0 told.1
+word_is (Word at name) {told} h = subst (λ (v : Pos × List ℕ). Word at name ≡ Word v.0 v.1) (let i : Some (at, name) ≡ Some told = h in cc) refl
+word_is _ {told} h = absurd (let i : None ≡ Some told = h in cc)
+
+-- a word gives one
+pub word_given : (e : ExprTree) → is_word e ≡ true → as_word e ≡ None → ⊥
+word_given (Word at name) h k = let i : Some (at, name) ≡ None = k in cc
+word_given _ h k = let i : false ≡ true = h in cc
 
 -- no joint of the level comes
 pub no_joint : {h : Option Joint} (r : Option Joint) → ((j : Joint) → r ≡ Some j → ⊥) → r ≡ h → h ≡ None

@@ -134,9 +134,9 @@ pub fn word_of(base: Box<Expr>) -> (Pos, Name)
     requires { is_word (boxed_expr base) ≡ true }
     ensures { boxed_expr base ≡ Word result.0 result.1 }
 {
-    match Box::into_inner(base) {
-        Expr::Word { pos, name } => (pos, name),
-        _ => unreachable!(),
+    match Box::into_inner(base).into_word() {
+        Some(word) => word,
+        None => unreachable!(),
     }
 }
 

@@ -15,16 +15,15 @@ use Rattle.c_written.specs.declared.written.MemberDecl.TheVariants as lines
 use Rattle.c_written.proofs.WrittenTrees.{spec_typedef_name, memberdecl_members}
 use Rattle.c_written.specs.Written as trees
 use Rattle.c_written.specs.Written.{SpecTree, SpecTrees, no_specs, more_specs, specs_then, DeclaratorTree, DeclaratorTrees, declarators_then, MemberDeclTree, MemberDeclTrees, memberdecls_then, EnumeratorTree, EnumeratorTrees, enumerators_then, spec_tree, specs_tree, memberdecl_tree, declarators_tree}
-use Rattle.c_grammar.specs.declared.parts.Role.TheVariants.{OfMember}
-use Rattle.c_grammar.specs.Parts.{Scene, Spec, Structure, StructureTagged, Enumeration, EnumerationTagged, Declarator, ASpec, ADeclarator, MoreSpecs, Members, MoreMembers, MoreDeclarators, Enumerators, MoreEnumerators, NextEnumerator, EnumeratorValue}
+use Rattle.c_grammar.specs.Parts.{Scene, Spec, Structure, StructureTagged, Enumeration, EnumerationTagged, ASpec, MoreSpecs, Members, MoreMembers, MoreDeclarators, Enumerators, MoreEnumerators, NextEnumerator, EnumeratorValue}
 use Rattle.c_grammar.specs.Process.{give, part}
 use Rattle.c_grammar.specs.declared.class.Class.TheVariants.{Sign as sign}
 use Rattle.c_grammar.specs.Classes.{names_type}
 use Rattle.c_grammar.specs.Grammar.{type_rule}
 use Rattle.c_grammar.specs.TypeRules as types
-use Rattle.c_grammar.specs.Ahead.{is_colon, spec_ahead}
+use Rattle.c_grammar.specs.Ahead.{is_colon}
 use Rattle.c_grammar.specs.Made.{has_type, is_type}
-use Rattle.c_grammar.specs.Refused.{first_is, part_construct}
+use Rattle.c_grammar.specs.Refused.{first_is}
 use Rattle.c_grammar.specs.Choice.{choose, name_choice, is_right_brace, is_semicolon}
 use Rattle.c_grammar.specs.Descent.{Outcome, Done, Stop, Goes, Follows, is_done}
 use Rattle.c_parse_steps.specs.declared.type_kind.SpecKind.{SpecKind}
@@ -35,7 +34,7 @@ use Rattle.c_parse_steps.specs.Answers.{Takes, Gives, given, halted}
 use Rattle.c_parse_steps.specs.declared.fault.Fault.{Fault}
 use Rattle.c_parse_steps.specs.Kinds.{spec_at, spec_of, spec_of_word, tag_at, tag_of}
 use Rattle.c_parse_steps.proofs.Choices.{Chosen}
-use Rattle.c_parse_steps.proofs.Steps.{halts, by, take, here, stops_here, if_true, if_false, unborne}
+use Rattle.c_parse_steps.proofs.Steps.{halts, by, take, here, stops_here, if_false}
 
 abbrev at_token : Pos → Token → List Placed → List Placed
 at_token at k ts = record { pos = at; token = k } ∷ ts

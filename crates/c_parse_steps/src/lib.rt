@@ -28,7 +28,6 @@ mod type_kind;
 mod type_names;
 mod type_node;
 
-pub use class::fits;
 pub use context::Context;
 pub use copy::{boxed_name_of, byte_of, bytes_of, constant_of, name_of, push_bytes};
 pub use expr_node::{

@@ -1,4 +1,5 @@
--- Where what is written stands.
+-- Where what is written stands, and what a word is.
+use Rattle.std.specs.Prelude.{ℕ, List, Option, Some, None}
 use Rattle.c_written.specs.declared.place.Pos.{Pos}
 use Rattle.c_written.specs.Written.{ExprTree, SpecTree}
 use Rattle.c_written.specs.Written as written
@@ -27,6 +28,11 @@ expr_pos (written.Cond at condition first second) = at
 expr_pos (written.Assign at left right) = at
 expr_pos (written.Compound at op left right) = at
 expr_pos (written.Comma at left right) = at
+
+-- the place and the name of a word, and nothing of another expression
+abbrev pub as_word : ExprTree → Option (Pos × List ℕ)
+as_word (written.Word at name) = Some (at, name)
+as_word _ = None
 
 abbrev pub spec_pos : SpecTree → Pos
 spec_pos (written.Storage at word) = at

@@ -11,10 +11,23 @@ use std::marker::Model;
 
 /// An initialiser: an expression, or a list between braces.
 #[cycle(initialisers)]
-#[derive(Drop)]
 pub enum Init {
     Value { value: Expr },
     Braces { pos: Pos, items: Inits },
+}
+
+// As those of expressions.
+impl Drop for Init {
+    #[cycle(initialisers)]
+    fn drop(self) {
+        match self {
+            Init::Value { value: _value } => {}
+            Init::Braces {
+                pos: _,
+                items: _items,
+            } => {}
+        }
+    }
 }
 
 /// The items of a list between braces in their order.

@@ -28,7 +28,6 @@ pub struct ForHead {
 /// A statement. Its place is that of its first token, but for one that is an expression, which has
 /// the place of that. What is large stands in a box, so that a statement that is small takes little.
 #[cycle(blocks)]
-#[derive(Drop)]
 pub enum Stmt {
     Label {
         pos: Pos,
@@ -115,6 +114,79 @@ pub enum BlockItem {
 #[derive(Drop)]
 pub struct BlockItems {
     items: Vec<BlockItem>,
+}
+
+// As those of expressions.
+impl Drop for Stmt {
+    #[cycle(blocks)]
+    fn drop(self) {
+        match self {
+            Stmt::Label {
+                pos: _,
+                name: _name,
+                body: _body,
+            } => {}
+            Stmt::Case {
+                pos: _,
+                value: _value,
+                body: _body,
+            } => {}
+            Stmt::Default {
+                pos: _,
+                body: _body,
+            } => {}
+            Stmt::Block {
+                pos: _,
+                items: _items,
+            } => {}
+            Stmt::Empty { pos: _ } => {}
+            Stmt::Expression {
+                pos: _,
+                value: _value,
+            } => {}
+            Stmt::If {
+                pos: _,
+                condition: _condition,
+                then: _then,
+            } => {}
+            Stmt::IfElse {
+                pos: _,
+                condition: _condition,
+                then: _then,
+                otherwise: _otherwise,
+            } => {}
+            Stmt::Switch {
+                pos: _,
+                value: _value,
+                body: _body,
+            } => {}
+            Stmt::While {
+                pos: _,
+                condition: _condition,
+                body: _body,
+            } => {}
+            Stmt::DoWhile {
+                pos: _,
+                body: _body,
+                condition: _condition,
+            } => {}
+            Stmt::For {
+                pos: _,
+                head: _head,
+                body: _body,
+            } => {}
+            Stmt::Goto {
+                pos: _,
+                label: _label,
+            } => {}
+            Stmt::Continue { pos: _ } => {}
+            Stmt::Break { pos: _ } => {}
+            Stmt::Return {
+                pos: _,
+                value: _value,
+            } => {}
+        }
+    }
 }
 
 /// What stands in a file: a declaration, or a function with its body. The place of a function is

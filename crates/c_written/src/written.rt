@@ -4,7 +4,7 @@
 
 ghost use Rattle.std.specs.Prelude.{◌≡◌};
 ghost use Rattle.c_written.specs.Written.{expr_tree, spec_tree, declarators_from, declarators_tree, enumerators_from, enumerators_tree, exprs_from, exprs_tree, memberdecls_from, memberdecls_tree, no_exprs, no_params, params_from, params_tree, specs_from, specs_tree};
-ghost use Rattle.c_written.specs.WrittenParts.{expr_pos, spec_pos};
+ghost use Rattle.c_written.specs.WrittenParts.{expr_pos, as_word, spec_pos};
 
 use crate::{Bytes, Constant, Name, Pos, StepWay};
 use std::alloc::Global;
@@ -89,7 +89,6 @@ pub struct Tag {
 
 /// An expression.
 #[cycle(written)]
-#[derive(Drop)]
 pub enum Expr {
     Word {
         pos: Pos,
@@ -200,7 +199,6 @@ pub enum Expr {
 
 /// One of the words and types that begin a declaration.
 #[cycle(written)]
-#[derive(Drop)]
 pub enum Spec {
     Storage {
         pos: Pos,
@@ -304,6 +302,138 @@ pub enum Declarator {
         pos: Pos,
         inner: Box<Declarator>,
     },
+}
+
+// Letting go of a node is a call of this crate, so that the crates above need not prove again that it ends: it goes as
+// deep as the nesting, and along a chain of declarators by a loop.
+impl Drop for Expr {
+    #[cycle(written)]
+    fn drop(self) {
+        match self {
+            Expr::Word {
+                pos: _,
+                name: _name,
+            } => {}
+            Expr::Number {
+                pos: _,
+                constant: _,
+            } => {}
+            Expr::Character { pos: _, byte: _ } => {}
+            Expr::Strings {
+                pos: _,
+                bytes: _bytes,
+            } => {}
+            Expr::Enclosed {
+                pos: _,
+                inner: _inner,
+            } => {}
+            Expr::Index {
+                pos: _,
+                base: _base,
+                index: _index,
+            } => {}
+            Expr::Call {
+                pos: _,
+                name: _name,
+                args: _args,
+            } => {}
+            Expr::Dot {
+                pos: _,
+                base: _base,
+                member: _member,
+            } => {}
+            Expr::Arrow {
+                pos: _,
+                base: _base,
+                member: _member,
+            } => {}
+            Expr::PostStep {
+                pos: _,
+                way: _,
+                operand: _operand,
+            } => {}
+            Expr::PreStep {
+                pos: _,
+                way: _,
+                operand: _operand,
+            } => {}
+            Expr::Unary {
+                pos: _,
+                op: _,
+                operand: _operand,
+            } => {}
+            Expr::SizeofExpr {
+                pos: _,
+                operand: _operand,
+            } => {}
+            Expr::SizeofType {
+                pos: _,
+                specs: _specs,
+                declarator: _declarator,
+            } => {}
+            Expr::Cast {
+                pos: _,
+                specs: _specs,
+                declarator: _declarator,
+                operand: _operand,
+            } => {}
+            Expr::Binary {
+                pos: _,
+                op: _,
+                left: _left,
+                right: _right,
+            } => {}
+            Expr::Cond {
+                pos: _,
+                condition: _condition,
+                then: _then,
+                otherwise: _otherwise,
+            } => {}
+            Expr::Assign {
+                pos: _,
+                left: _left,
+                right: _right,
+            } => {}
+            Expr::Compound {
+                pos: _,
+                op: _,
+                left: _left,
+                right: _right,
+            } => {}
+            Expr::Comma {
+                pos: _,
+                left: _left,
+                right: _right,
+            } => {}
+        }
+    }
+}
+
+impl Drop for Spec {
+    #[cycle(written)]
+    fn drop(self) {
+        match self {
+            Spec::Storage { pos: _, word: _ } => {}
+            Spec::Const { pos: _ } => {}
+            Spec::Basic { pos: _, word: _ } => {}
+            Spec::TypedefName {
+                pos: _,
+                name: _name,
+            } => {}
+            Spec::Struct { pos: _, tag: _tag } => {}
+            Spec::StructBody {
+                pos: _,
+                tag: _tag,
+                members: _members,
+            } => {}
+            Spec::Enum { pos: _, tag: _tag } => {}
+            Spec::EnumBody {
+                pos: _,
+                tag: _tag,
+                enumerators: _enumerators,
+            } => {}
+        }
+    }
 }
 
 // By a loop over the declarator inside, so that a long chain of forms takes no stack. What else a form holds,
@@ -425,6 +555,18 @@ impl Expr {
             | Expr::Assign { pos, .. }
             | Expr::Compound { pos, .. }
             | Expr::Comma { pos, .. } => *pos,
+        }
+    }
+}
+
+impl Expr {
+    /// The place and the name of a word, and nothing of another expression: `a` gives `a`, `(a)` nothing.
+    pub fn into_word(self) -> Option<(Pos, Name)>
+        ensures { result ≡ as_word (expr_tree self) }
+    {
+        match self {
+            Expr::Word { pos, name } => Some((pos, name)),
+            _ => None,
         }
     }
 }

@@ -3,7 +3,6 @@ use Rattle.c_parse_steps.specs.Views.{scene_of}
 use Rattle.c_written.specs.WrittenDecl.{init_tree, inits_from}
 use Rattle.c_grammar.specs.Parts.{Initialiser, Initialisers, MoreInitialisers, NextInitialiser}
 use Rattle.std.proofs.Common.{refl, sym, ◌∙◌, arith}
-use Rattle.std.specs.Prelude.{Ok, Err}
 use Rattle.c_written.proofs.WrittenDeclTrees.{init_braces}
 use Rattle.c_parse_steps.proofs.Steps.{borne, if_false, if_true, starved, unborne}
 use Rattle.c_parse_decls.proofs.Starts.{brace_first}

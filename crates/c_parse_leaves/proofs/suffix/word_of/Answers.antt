@@ -1,12 +1,12 @@
 use Rattle.std.proofs.Common.{sym, ap, ◌∙◌}
+use Rattle.c_written.specs.declared.written.Expr.{Expr}
 use Rattle.c_written.specs.Written.{expr_tree}
-use Rattle.c_written.proofs.WrittenTrees.{expr_word}
-use Rattle.c_grammar.specs.Made.{is_word}
-use Rattle.c_parse_leaves.proofs.ExprSteps.{no_other}
+use Rattle.c_written.specs.WrittenParts.{as_word}
+use Rattle.c_parse_leaves.proofs.ExprSteps.{word_is, word_given}
 use Rattle.c_parse_leaves.proofs.suffix.word_of.Goals as goal
 
 pub returns : goal.returns
-returns c = ap expr_tree (sym c.into_inner.ensures ∙ c.in-Word.is) ∙ expr_word c.in-Word.pos c.in-Word.name
+returns c = word_is (expr_tree c.args.base.value) (ap (λ (v : Expr). as_word (expr_tree v)) (sym c.into_inner.ensures) ∙ sym c.in-Some.ensures)
 
 pub unreachable-requires : goal.unreachable-requires
-unreachable-requires c = no_other c.into_inner.result (ap (λ v. is_word (expr_tree v)) c.into_inner.ensures ∙ c.requires) (λ at name e. c.in_default.not-Word at name e)
+unreachable-requires c = word_given (expr_tree c.args.base.value) c.requires (ap (λ (v : Expr). as_word (expr_tree v)) (sym c.into_inner.ensures) ∙ sym c.in-None.ensures)
