@@ -32,10 +32,10 @@ pub use alarm::{
 };
 pub use c_written::{
     AssignOp, BinaryOp, BlockItem, BlockItems, Bytes, Constant, Construct, Decl, Declarator,
-    Declarators, Enumerator, Enumerators, Expr, Exprs, File, ForStart, Init, InitDeclarator,
-    InitDeclarators, Inits, IntType, Keyword, Mark, Marks, MemberDecl, MemberDecls, Name, Names,
-    Numbers, Outer, Outers, Param, Params, Placed, PlacedList, Places, Pos, Punctuator, Spec,
-    Specs, StepWay, Stmt, StorageWord, Tag, Token, Tokens, TypeWord, UnaryOp,
+    Declarators, Enumerator, Enumerators, Expr, Exprs, File, ForHead, ForStart, Init,
+    InitDeclarator, InitDeclarators, Inits, IntType, Keyword, Mark, Marks, MemberDecl, MemberDecls,
+    Name, Names, Numbers, Outer, Outers, Param, Params, Placed, PlacedList, Places, Pos,
+    Punctuator, Spec, Specs, StepWay, Stmt, StorageWord, Tag, Token, Tokens, TypeWord, UnaryOp,
 };
 pub use op::Op;
 pub use operator::{
