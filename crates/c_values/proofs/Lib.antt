@@ -3,3 +3,4 @@ pub mod Outcomes
 pub mod Settled
 pub mod Accesses
 pub mod Judging
+pub mod Tried
