@@ -1,7 +1,7 @@
 -- Values as bytes.
 use Rattle.std.specs.Prelude.{ℕ, ◌≡◌, ◌==◌, Bool, true, false, if◌then◌else◌, List, [], ◌∷◌, Option, Some, None, option_map}
 use Rattle.std.specs.Int.{byte_len}
-use Rattle.c_syntax.specs.Operand.{LoadMark, Whole, Broken}
+use Rattle.c_syntax.specs.Operand.{LoadMark, HasValue, Broken}
 use Rattle.c_syntax.specs.Operand as operand
 use Rattle.block_mem.specs.declared.types.Byte.{Byte}
 use Rattle.block_mem.specs.declared.types.Byte.TheVariants.{Undef, Num, Frag}
@@ -58,10 +58,10 @@ value_of (scalars.Int t) bs = option_map (λ m. values.Int t (number_in t m)) (n
 value_of scalars.Pointer bs = pointer_of bs
 
 -- bytes that have values hold one of their type, or none
-abbrev pub whole_or_broken : Option Value → LoadMark
-whole_or_broken None = Broken
-whole_or_broken (Some v) = Whole
+abbrev pub value_or_broken : Option Value → LoadMark
+value_or_broken None = Broken
+value_or_broken (Some v) = HasValue
 
 -- the mark of a load: a byte has no value, or they hold a value of the type, or neither
 abbrev pub mark_of : Scalar → List Byte → LoadMark
-mark_of ty bs = if has_undef bs then operand.Undef else whole_or_broken (value_of ty bs)
+mark_of ty bs = if has_undef bs then operand.Undef else value_or_broken (value_of ty bs)

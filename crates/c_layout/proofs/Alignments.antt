@@ -10,8 +10,8 @@ use Rattle.c_written.specs.declared.int_type.IntType.TheVariants as ints
 use Rattle.c_written.specs.Integer.{bytes}
 use Rattle.c_syntax.specs.Types.{CTypeTree, Void, Int, Pointer, Array, Struct, Function}
 use Rattle.c_syntax.specs.Program.{MemberTree, StructDefTree}
-use Rattle.c_layout.specs.Layout.{Space, padded, members_end, strictest, struct_space, space_by, members_of, stored, member_spaces, laid_out, size_in, align_in, offset_at}
-use Rattle.c_layout.specs.Rank.{held, Falls, NoneHoldsItself}
+use Rattle.c_layout.specs.Layout.{Space, padded, members_end, strictest, struct_space, space_by, members_of, in_table, member_spaces, laid_out, size_in, align_in, offset_at}
+use Rattle.c_layout.specs.Heights.{held, Falls, NoneHoldsItself}
 use Rattle.c_layout.specs.LaidOut.{IsLaidOut}
 use Rattle.c_layout.specs.ProperTypes.{PartAt, whole, element, member}
 use Rattle.c_layout.proofs.Unfolding.{some_map}
@@ -108,11 +108,11 @@ struct_alignment (first ∷ rest) p = p
 laid_out_alignment : (structs : List StructDefTree) (rank : ℕ → ℕ) → Falls structs rank → IsLaidOut structs → (depth n : ℕ) → rank n < depth → IsAlignment (laid_out structs n).align
 laid_out_alignment structs rank falls is zero n below = absurd (omega arith)
 laid_out_alignment structs rank falls is (suc depth) n below =
-    struct_alignment (member_spaces structs n) (fold_alignment (λ member. space_by (stored structs) member.ty) (members_of structs n) 1 one
+    struct_alignment (member_spaces structs n) (fold_alignment (λ member. space_by (in_table structs) member.ty) (members_of structs n) 1 one
     (λ i d lt.
     let ty = (slice_index_or (members_of structs n) i d).ty in
-    type_alignment (stored structs) ty
-    (some_map (held ty) (λ k. rank k < rank n) (λ k. IsAlignment (stored structs k).align)
+    type_alignment (in_table structs) ty
+    (some_map (held ty) (λ k. rank k < rank n) (λ k. IsAlignment (in_table structs k).align)
     (λ k lower. subst (λ space. IsAlignment space.align) (sym (is.spaces k)) (laid_out_alignment structs rank falls is depth k (omega arith)))
     (falls n i d lt))))
 
@@ -121,7 +121,7 @@ alignment : (structs : List StructDefTree) → IsLaidOut structs → NoneHoldsIt
 alignment structs is founded ty =
     type_alignment (laid_out structs) ty
     (some_of (held ty) (λ k. IsAlignment (laid_out structs k).align)
-    (λ k. laid_out_alignment structs founded.rank founded.falls is (suc (founded.rank k)) k (omega arith)))
+    (λ k. laid_out_alignment structs founded.height founded.falls is (suc (founded.height k)) k (omega arith)))
 
 goes_up : (a : ℕ) (spaces : List Space) → a ≤ fold (λ align space. max align space.align) a spaces
 goes_up a [] = omega arith
@@ -161,16 +161,16 @@ size_multiple structs p (Array of is_const n) s e =
 size_multiple structs p (Struct n) s e = struct_multiple (member_spaces structs n) s (p (Struct n)) e
 size_multiple structs p (Function n) s e = absurd (cc)
 
-member_below : (structs : List StructDefTree) → IsLaidOut structs → (ty : CTypeTree) (n k : ℕ) → slice_get (member_spaces structs n) k ≡ Some (space_by (stored structs) ty) → align_in structs ty ≤ align_in structs (Struct n)
+member_below : (structs : List StructDefTree) → IsLaidOut structs → (ty : CTypeTree) (n k : ℕ) → slice_get (member_spaces structs n) k ≡ Some (space_by (in_table structs) ty) → align_in structs ty ≤ align_in structs (Struct n)
 member_below structs is ty n k there =
-    let below = is_below 1 (member_spaces structs n) k (space_by (stored structs) ty) there in
+    let below = is_below 1 (member_spaces structs n) k (space_by (in_table structs) ty) there in
     let same = ap (λ x. x.align) (stored_same structs is ty) in
-    let full = ap (λ x. x.align) (struct_full structs n k (space_by (stored structs) ty) there) in
+    let full = ap (λ x. x.align) (struct_full structs n k (space_by (in_table structs) ty) there) in
     omega arith
 
-member_divides : (structs : List StructDefTree) → IsLaidOut structs → ((ty : CTypeTree) → IsAlignment (align_in structs ty)) → (ty : CTypeTree) (n k offset : ℕ) → slice_get (member_spaces structs n) k ≡ Some (space_by (stored structs) ty) → offset_at (member_spaces structs n) k ≡ Some offset → offset % align_in structs ty ≡ 0
+member_divides : (structs : List StructDefTree) → IsLaidOut structs → ((ty : CTypeTree) → IsAlignment (align_in structs ty)) → (ty : CTypeTree) (n k offset : ℕ) → slice_get (member_spaces structs n) k ≡ Some (space_by (in_table structs) ty) → offset_at (member_spaces structs n) k ≡ Some offset → offset % align_in structs ty ≡ 0
 member_divides structs is p ty n k offset there at =
-    let from = offset_is (member_spaces structs n) k (space_by (stored structs) ty) offset there at in
+    let from = offset_is (member_spaces structs n) k (space_by (in_table structs) ty) offset there at in
     let same = ap (λ x. x.align) (stored_same structs is ty) in
     ap (λ x. x % align_in structs ty) (from ∙ ap (padded (members_end (take k (member_spaces structs n)))) same)
     ∙ divides_padded (p ty) (members_end (take k (member_spaces structs n)))
@@ -183,7 +183,7 @@ aligned structs is p (element of part is_const n k s inner at lt es q ea) =
     (rest.0, ap (λ x. x % align_in structs part) ea ∙ divides_sum (p part) (k * s) inner start rest.1)
 aligned structs is p (member ty part n k offset inner at em eo q ea) =
     let rest = aligned structs is p q in
-    let there = member_space (stored structs) (members_of structs n) k ty em in
+    let there = member_space (in_table structs) (members_of structs n) k ty em in
     let below = member_below structs is ty n k there in
     let start = divides (p part) (p ty) rest.0 offset (member_divides structs is p ty n k offset there eo) in
     (omega arith, ap (λ x. x % align_in structs part) ea ∙ divides_sum (p part) offset inner start rest.1)

@@ -5,8 +5,8 @@ use Rattle.std.proofs.lemmas.Option.{slice_get_within}
 use Rattle.std.proofs.Math.Nat.{mul-le-mul_right}
 use Rattle.c_syntax.specs.Types.{CTypeTree, Array, Struct}
 use Rattle.c_syntax.specs.Program.{MemberTree, StructDefTree}
-use Rattle.c_layout.specs.Layout.{Space, padded, member_end, members_end, strictest, space_by, spaces_by, members_of, stored, member_spaces, laid_out, space_of, size_in, offset_at}
-use Rattle.c_layout.specs.Rank.{held}
+use Rattle.c_layout.specs.Layout.{Space, padded, member_end, members_end, strictest, space_by, spaces_by, members_of, in_table, member_spaces, laid_out, space_of, size_in, offset_at}
+use Rattle.c_layout.specs.Heights.{held}
 use Rattle.c_layout.specs.LaidOut.{IsLaidOut}
 use Rattle.c_layout.specs.ProperTypes.{PartAt, whole, element, member}
 use Rattle.c_layout.proofs.Spaces.{struct_space-full}
@@ -17,8 +17,8 @@ pub some_of : (o : Option ℕ) (P : ℕ → Type 0) → ((k : ℕ) → P k) → 
 some_of None P f = tt
 some_of (Some k) P f = f k
 
-pub stored_same : (structs : List StructDefTree) → IsLaidOut structs → (ty : CTypeTree) → space_by (stored structs) ty ≡ space_of structs ty
-stored_same structs is ty = space_by-held (stored structs) (laid_out structs) ty (some_of (held ty) (λ k. stored structs k ≡ laid_out structs k) is.spaces)
+pub stored_same : (structs : List StructDefTree) → IsLaidOut structs → (ty : CTypeTree) → space_by (in_table structs) ty ≡ space_of structs ty
+stored_same structs is ty = space_by-held (in_table structs) (laid_out structs) ty (some_of (held ty) (λ k. in_table structs k ≡ laid_out structs k) is.spaces)
 
 pub member_space : (struct : ℕ → Space) (members : List MemberTree) (k : ℕ) (ty : CTypeTree) → IsSomeAnd (slice_get members k) (λ m. m.ty ≡ ty) → slice_get (spaces_by struct members) k ≡ Some (space_by struct ty)
 member_space struct [] k ty h = absurd h
@@ -71,10 +71,10 @@ within (Some s) offset inner part top h below = omega arith
 some_and : (o : Option ℕ) (n : ℕ) (P : ℕ → Type 0) → o ≡ Some n → P n → IsSomeAnd o P
 some_and o n P e p = subst (λ x. IsSomeAnd x P) (sym e) p
 
-member_ends : (structs : List StructDefTree) → IsLaidOut structs → (ty : CTypeTree) (n k offset inner part : ℕ) → slice_get (member_spaces structs n) k ≡ Some (space_by (stored structs) ty) → offset_at (member_spaces structs n) k ≡ Some offset → IsSomeAnd (size_in structs ty) (λ s. inner + part ≤ s) → IsSomeAnd (size_in structs (Struct n)) (λ s. (offset + inner) + part ≤ s)
+member_ends : (structs : List StructDefTree) → IsLaidOut structs → (ty : CTypeTree) (n k offset inner part : ℕ) → slice_get (member_spaces structs n) k ≡ Some (space_by (in_table structs) ty) → offset_at (member_spaces structs n) k ≡ Some offset → IsSomeAnd (size_in structs ty) (λ s. inner + part ≤ s) → IsSomeAnd (size_in structs (Struct n)) (λ s. (offset + inner) + part ≤ s)
 member_ends structs is ty n k offset inner part there at h =
     let spaces = member_spaces structs n in
-    let space = space_by (stored structs) ty in
+    let space = space_by (in_table structs) ty in
     let fits = subst (λ x. IsSomeAnd x.size (λ s. inner + part ≤ s)) (sym (stored_same structs is ty)) h in
     let below = member_inside spaces k space offset there at in
     let ends = within space.size offset inner part (members_end spaces) fits below in
@@ -87,4 +87,4 @@ inside structs is size (element of part is_const n k s inner at lt es p ea) e =
     (element_inside n k (size_in structs of) s inner size es lt (inside structs is size p e))
 inside structs is size (member ty part n k offset inner at em eo p ea) e =
     subst (λ x. IsSomeAnd (size_in structs (Struct n)) (λ top. x + size ≤ top)) (sym ea)
-    (member_ends structs is ty n k offset inner size (member_space (stored structs) (members_of structs n) k ty em) eo (inside structs is size p e))
+    (member_ends structs is ty n k offset inner size (member_space (in_table structs) (members_of structs n) k ty em) eo (inside structs is size p e))

@@ -7,14 +7,14 @@ use Rattle.c_syntax.specs.TypedExpr.{Const}
 use Rattle.c_syntax.specs.TypedStmt.{TStmtTree, Store}
 use Rattle.c_syntax.specs.Program.{TFunctionTree}
 use Rattle.c_layout.specs.TypedNodes.{in_block, IsTypedStmt, AreTypedItems, IsTypedExpr, IsTypedPlace}
-use Rattle.c_layout.specs.WellTyped.{IsWellTyped, body_spot}
+use Rattle.c_layout.specs.WellTyped.{IsWellTyped, body_standing}
 use Rattle.c_layout.specs.Samples.{function, main_function, main_with, column, variable, int, returns_call, named_twice, holds_incomplete, stores_twice, declares_inside, reads_const, points_to_function, reads_input}
 
 nameless : TFunctionTree
 nameless = function [] None
 
 -- the statement in such a main is typed, as an item of the block of object 0
-statement_typed : (object : ObjectTree) (statement : TStmtTree) → IsWellTyped (main_with object statement) → IsTypedStmt (in_block (0 ∷ []) (body_spot (main_with object statement) (main_function statement))) statement
+statement_typed : (object : ObjectTree) (statement : TStmtTree) → IsWellTyped (main_with object statement) → IsTypedStmt (in_block (0 ∷ []) (body_standing (main_with object statement) (main_function statement))) statement
 unfolding IsTypedStmt AreTypedItems
 statement_typed object statement w = (w.functions 0 nameless (omega arith)).body.typed.0
 

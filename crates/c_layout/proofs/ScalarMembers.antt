@@ -7,7 +7,7 @@ use Rattle.std.proofs.lemmas.Bool.Decides.{nat_tests}
 use Rattle.c_syntax.specs.declared.program.Member.{Member}
 use Rattle.c_syntax.specs.Types.{CTypeTree, Struct}
 use Rattle.c_syntax.specs.Program.{MemberTree, StructDefTree, member_tree}
-use Rattle.c_layout.specs.Layout.{Space, member_end, space_by, members_of, stored, member_spaces, size_in, offset_at}
+use Rattle.c_layout.specs.Layout.{Space, member_end, space_by, members_of, in_table, member_spaces, size_in, offset_at}
 use Rattle.c_layout.specs.LaidOut.{IsLaidOut}
 use Rattle.c_layout.specs.ProperTypes.{IsProperType, PartAt, whole, member as in_member}
 use Rattle.c_layout.specs.Tables.{IsTypedTable, IsTypedMember}
@@ -54,7 +54,7 @@ offset_told structs is n k m e = sym (is.offsets n k) ∙ ap (option_map (λ x. 
 rising : (structs : List StructDefTree) → IsLaidOut structs → (n j k : ℕ) (a b : MemberTree) → j < k → slice_get (members_of structs n) j ≡ Some a → slice_get (members_of structs n) k ≡ Some b → a.offset + unwrap_or (size_in structs a.ty) 0 ≤ b.offset
 rising structs is n j k a b lt ea eb =
     let spaces = member_spaces structs n in
-    let struct = stored structs in
+    let struct = in_table structs in
     let sa = member_space struct (members_of structs n) j a.ty (has_type (members_of structs n) j a ea) in
     let sb = member_space struct (members_of structs n) k b.ty (has_type (members_of structs n) k b eb) in
     let oa = offset_is spaces j (space_by struct a.ty) a.offset sa (offset_told structs is n j a ea) in

@@ -7,7 +7,7 @@ use Rattle.c_syntax.specs.Types.{CTypeTree, ctype_tree, Void, Int, Pointer, Arra
 use Rattle.c_syntax.specs.Program.{StructDefTree}
 use Rattle.c_layout.specs.Layout.{size_in}
 use Rattle.c_layout.specs.Kept.{element}
-use Rattle.c_layout.specs.Rank.{held, Falls}
+use Rattle.c_layout.specs.Heights.{held, Falls}
 use Rattle.c_layout.specs.ProperTypes.{IsProperType, PartAt, whole, element as in_element, member as in_member}
 use Rattle.c_layout.specs.RowTypes.{IsScalar}
 use Rattle.c_layout.specs.Scalars.{IsScalarAt, HasNoParts, HaveSame, IsMemberType}

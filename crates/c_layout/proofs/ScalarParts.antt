@@ -8,7 +8,7 @@ use Rattle.c_written.specs.declared.int_type.IntType.TheVariants as ints
 use Rattle.c_written.specs.Integer.{bytes}
 use Rattle.c_syntax.specs.Types.{CTypeTree, Void, Int, Pointer, Array, Struct, Function}
 use Rattle.c_syntax.specs.Program.{StructDefTree}
-use Rattle.c_layout.specs.Layout.{Space, space_by, stored, laid_out, size_in}
+use Rattle.c_layout.specs.Layout.{Space, space_by, in_table, laid_out, size_in}
 use Rattle.c_layout.specs.Kept.{kept, element, element_count, element_space}
 use Rattle.c_layout.specs.LaidOut.{IsLaidOut}
 use Rattle.c_layout.specs.ProperTypes.{IsProperType, IsTold, PartAt, whole, element as in_element, member as in_member}
@@ -193,16 +193,16 @@ kept_none None e = refl
 kept_none (Some y) e = absurd (cc)
 
 -- what the code reads of an element
-read_size : (structs : List StructDefTree) → IsLaidOut structs → (ty own : CTypeTree) (o : Option ℕ) → own ≡ element ty → o ≡ option_map kept (element_space (stored structs) own).size → o ≡ option_map kept (size_in structs (element ty))
+read_size : (structs : List StructDefTree) → IsLaidOut structs → (ty own : CTypeTree) (o : Option ℕ) → own ≡ element ty → o ≡ option_map kept (element_space (in_table structs) own).size → o ≡ option_map kept (size_in structs (element ty))
 read_size structs is ty own o e k =
-    k ∙ ap (λ x. option_map kept (element_space (stored structs) x).size) e
-    ∙ ap (λ space. option_map kept space.size) (element_own (stored structs) ty ∙ stored_same structs is (element ty))
+    k ∙ ap (λ x. option_map kept (element_space (in_table structs) x).size) e
+    ∙ ap (λ space. option_map kept space.size) (element_own (in_table structs) ty ∙ stored_same structs is (element ty))
 
-pub read_some : (structs : List StructDefTree) → IsLaidOut structs → (ty own : CTypeTree) (o : Option ℕ) (z : ℕ) → IsProperType structs ty → own ≡ element ty → o ≡ option_map kept (element_space (stored structs) own).size → o ≡ Some z → size_in structs (element ty) ≡ Some z
+pub read_some : (structs : List StructDefTree) → IsLaidOut structs → (ty own : CTypeTree) (o : Option ℕ) (z : ℕ) → IsProperType structs ty → own ≡ element ty → o ≡ option_map kept (element_space (in_table structs) own).size → o ≡ Some z → size_in structs (element ty) ≡ Some z
 read_some structs is ty own o z proper e k some =
     kept_same (size_in structs (element ty)) z (λ y. told_size structs (element ty) y (proper_element structs ty proper)) (sym some ∙ read_size structs is ty own o e k)
 
-pub read_none : (structs : List StructDefTree) → IsLaidOut structs → (ty own : CTypeTree) (o : Option ℕ) → own ≡ element ty → o ≡ option_map kept (element_space (stored structs) own).size → o ≡ None → size_in structs (element ty) ≡ None
+pub read_none : (structs : List StructDefTree) → IsLaidOut structs → (ty own : CTypeTree) (o : Option ℕ) → own ≡ element ty → o ≡ option_map kept (element_space (in_table structs) own).size → o ≡ None → size_in structs (element ty) ≡ None
 read_none structs is ty own o e k none = kept_none (size_in structs (element ty)) (sym none ∙ read_size structs is ty own o e k)
 
 -- an offset behind the last element

@@ -14,7 +14,7 @@ use Rattle.c_layout.specs.Samples.{returns_call, nested, outer_call}
 pub empty_table : IsTypedTable []
 empty_table = record {
   named = λ k d h. absurd (omega arith);
-  founded = record { rank = λ n. n; bounded = λ n h. h; falls = λ n k d h. absurd (omega arith) };
+  founded = record { height = λ n. n; bounded = λ n h. h; falls = λ n k d h. absurd (omega arith) };
   members = λ k d h. absurd (omega arith);
   told = λ n. tt;
   laid_out = record { spaces = λ n. refl; offsets = λ n k. refl };

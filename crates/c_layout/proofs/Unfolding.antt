@@ -3,8 +3,8 @@ use Rattle.std.proofs.Common.{◌≡◌, ℕ, zero, suc, ◌<◌, List, [], ◌�
 use Rattle.std.specs.Prelude.{Option, Some, None, IfSome, All, slice_index_or}
 use Rattle.c_syntax.specs.Types.{CTypeTree, Void, Int, Pointer, Array, Struct, Function}
 use Rattle.c_syntax.specs.Program.{MemberTree, StructDefTree}
-use Rattle.c_layout.specs.Layout.{Space, array_space, struct_space, space_by, members_of, stored, laid_out, struct_within}
-use Rattle.c_layout.specs.Rank.{held, Falls}
+use Rattle.c_layout.specs.Layout.{Space, array_space, struct_space, space_by, members_of, in_table, laid_out, struct_within}
+use Rattle.c_layout.specs.Heights.{held, Falls}
 use Rattle.c_layout.specs.LaidOut.{IsLaidOut, MeansUnfolded}
 
 pub some_map : (o : Option ℕ) (P Q : ℕ → Type 0) → ((k : ℕ) → P k → Q k) → IfSome o P → IfSome o Q
@@ -31,11 +31,11 @@ laid_out-within : (structs : List StructDefTree) (rank : ℕ → ℕ) → Falls 
 unfolding struct_within
 laid_out-within structs rank falls is zero n below = absurd (omega arith)
 laid_out-within structs rank falls is (suc depth) n below =
-    ap struct_space (same_map (λ member. space_by (stored structs) member.ty) (λ member. space_by (struct_within depth structs) member.ty) (members_of structs n)
+    ap struct_space (same_map (λ member. space_by (in_table structs) member.ty) (λ member. space_by (struct_within depth structs) member.ty) (members_of structs n)
     (λ i d lt.
     let ty = (slice_index_or (members_of structs n) i d).ty in
-    space_by-held (stored structs) (struct_within depth structs) ty
-    (some_map (held ty) (λ k. rank k < rank n) (λ k. stored structs k ≡ struct_within depth structs k)
+    space_by-held (in_table structs) (struct_within depth structs) ty
+    (some_map (held ty) (λ k. rank k < rank n) (λ k. in_table structs k ≡ struct_within depth structs k)
     (λ k lower. is.spaces k ∙ laid_out-within structs rank falls is depth k (omega arith))
     (falls n i d lt))))
 

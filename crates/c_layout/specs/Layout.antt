@@ -75,12 +75,12 @@ told [] space = no_space
 told (first ∷ rest) space = space
 
 -- what the table tells of a struct: the size and the alignment that are stored there
-abbrev pub stored : List StructDefTree → ℕ → Space
-stored structs n = unwrap_or (option_map (λ def. told def.members (record { size = Some def.size; align = def.align })) (slice_get structs n)) no_space
+abbrev pub in_table : List StructDefTree → ℕ → Space
+in_table structs n = unwrap_or (option_map (λ def. told def.members (record { size = Some def.size; align = def.align })) (slice_get structs n)) no_space
 
 -- what the members of a struct take, where a struct among them takes what the table tells
 abbrev pub member_spaces : List StructDefTree → ℕ → List Space
-member_spaces structs n = spaces_by (stored structs) (members_of structs n)
+member_spaces structs n = spaces_by (in_table structs) (members_of structs n)
 
 -- a struct, laid out from its members
 abbrev pub laid_out : List StructDefTree → ℕ → Space

@@ -1,6 +1,6 @@
 pub mod Conversion
 pub mod Layout
-pub mod Rank
+pub mod Heights
 pub mod LaidOut
 pub mod Kept
 pub mod RowTypes

@@ -4,7 +4,7 @@ use Rattle.c_syntax.specs.Types.{CTypeTree, Struct}
 use Rattle.c_syntax.specs.Program.{MemberTree, StructDefTree}
 use Rattle.c_layout.specs.Layout.{members_of, size_in, align_in}
 use Rattle.c_layout.specs.LaidOut.{IsLaidOut}
-use Rattle.c_layout.specs.Rank.{AreNamed, NoneHoldsItself}
+use Rattle.c_layout.specs.Heights.{AreNamed, NoneHoldsItself}
 use Rattle.c_layout.specs.ProperTypes.{IsProperType, IsTold, PartAt}
 
 -- a member is of a complete type, which has at least one byte (C11 6.7.2.1p3)

@@ -153,7 +153,7 @@ ReturnRow scope result None = result ≡ Void
 ReturnRow scope result (Some value) = IsTypedExpr scope true value × StoreRow result (given_type value)
 
 -- where a statement stands: the objects of the block that it is an item of, and whether it may be a break, a continue or a case
-pub record Spot : Type 0 where
+pub record Standing : Type 0 where
   pub scope : Scope
   pub block : List ℕ
   pub result : CTypeTree
@@ -162,20 +162,20 @@ pub record Spot : Type 0 where
   pub cases : Bool
 
 -- the items of a block that lists these objects
-abbrev pub in_block : List ℕ → Spot → Spot
-in_block objects spot = record spot {
-  scope = record { program = spot.scope.program; live = objects ++ spot.scope.live };
+abbrev pub in_block : List ℕ → Standing → Standing
+in_block objects standing = record standing {
+  scope = record { program = standing.scope.program; live = objects ++ standing.scope.live };
   block = objects;
   cases = false;
 }
 
 -- the items of a switch whose block lists these objects
-abbrev pub in_switch : List ℕ → Spot → Spot
-in_switch objects spot = record (in_block objects spot) { breaks = true; cases = true }
+abbrev pub in_switch : List ℕ → Standing → Standing
+in_switch objects standing = record (in_block objects standing) { breaks = true; cases = true }
 
 -- the body of a loop
-abbrev pub in_loop : Spot → Spot
-in_loop spot = record spot { breaks = true; continues = true; cases = false }
+abbrev pub in_loop : Standing → Standing
+in_loop standing = record standing { breaks = true; continues = true; cases = false }
 
 -- a block, which each substatement of an `if` and a loop is
 abbrev pub IsBlock : TStmtTree → Type 0
@@ -206,30 +206,30 @@ pub record SwitchRow (value : CTypeTree) (items : TStmtTrees) : Type 0 where
 
 -- every node of a statement has the types that it asks for, and stands where it may
 unfoldable mutual
-  pub IsTypedStmt : Spot → TStmtTree → Type 0
-  IsTypedStmt spot (Empty at) = Unit {0}
-  IsTypedStmt spot (Expr at value) = IsTypedExpr spot.scope false value
-  IsTypedStmt spot (Block at kind objects items) = AreTypedItems (in_block objects spot) items
-  IsTypedStmt spot (Declare at object inits zeroes_rest) = Contains spot.block object × AreTypedInits spot.scope object inits
-  IsTypedStmt spot (Static at object) = IsSomeAnd (slice_get spot.scope.program.objects object) (λ o. IsTrue o.is_static)
-  IsTypedStmt spot (If at condition first second) =
-      IsTypedCondition spot.scope condition × IsBlock first × IsTypedStmt spot first × IsBlock second × IsTypedStmt spot second
-  IsTypedStmt spot (While at condition body) = IsTypedCondition spot.scope condition × IsBlock body × IsTypedStmt (in_loop spot) body
-  IsTypedStmt spot (DoWhile at body condition) = IsTypedCondition spot.scope condition × IsBlock body × IsTypedStmt (in_loop spot) body
-  IsTypedStmt spot (For at objects head condition step body) =
-      AreHead head × AreTypedItems (in_block objects spot) head
-      × IfSome condition (IsTypedCondition (in_block objects spot).scope) × IfSome step (IsTypedExpr (in_block objects spot).scope false)
-      × IsBlock body × IsTypedStmt (in_loop (in_block objects spot)) body
-  IsTypedStmt spot (Switch at value kind objects items) =
-      IsTypedExpr spot.scope true value × SwitchRow (given_type value) items × AreTypedItems (in_switch objects spot) items
-  IsTypedStmt spot (Break at) = IsTrue spot.breaks
-  IsTypedStmt spot (Continue at) = IsTrue spot.continues
-  IsTypedStmt spot (Goto at label) = Unit {0}
-  IsTypedStmt spot (Return at value) = ReturnRow spot.scope spot.result value
-  IsTypedStmt spot (Label at label) = Unit {0}
-  IsTypedStmt spot (Case at value) = IsTrue spot.cases
-  IsTypedStmt spot (Default at) = IsTrue spot.cases
+  pub IsTypedStmt : Standing → TStmtTree → Type 0
+  IsTypedStmt standing (Empty at) = Unit {0}
+  IsTypedStmt standing (Expr at value) = IsTypedExpr standing.scope false value
+  IsTypedStmt standing (Block at kind objects items) = AreTypedItems (in_block objects standing) items
+  IsTypedStmt standing (Declare at object inits zeroes_rest) = Contains standing.block object × AreTypedInits standing.scope object inits
+  IsTypedStmt standing (Static at object) = IsSomeAnd (slice_get standing.scope.program.objects object) (λ o. IsTrue o.is_static)
+  IsTypedStmt standing (If at condition first second) =
+      IsTypedCondition standing.scope condition × IsBlock first × IsTypedStmt standing first × IsBlock second × IsTypedStmt standing second
+  IsTypedStmt standing (While at condition body) = IsTypedCondition standing.scope condition × IsBlock body × IsTypedStmt (in_loop standing) body
+  IsTypedStmt standing (DoWhile at body condition) = IsTypedCondition standing.scope condition × IsBlock body × IsTypedStmt (in_loop standing) body
+  IsTypedStmt standing (For at objects head condition step body) =
+      AreHead head × AreTypedItems (in_block objects standing) head
+      × IfSome condition (IsTypedCondition (in_block objects standing).scope) × IfSome step (IsTypedExpr (in_block objects standing).scope false)
+      × IsBlock body × IsTypedStmt (in_loop (in_block objects standing)) body
+  IsTypedStmt standing (Switch at value kind objects items) =
+      IsTypedExpr standing.scope true value × SwitchRow (given_type value) items × AreTypedItems (in_switch objects standing) items
+  IsTypedStmt standing (Break at) = IsTrue standing.breaks
+  IsTypedStmt standing (Continue at) = IsTrue standing.continues
+  IsTypedStmt standing (Goto at label) = Unit {0}
+  IsTypedStmt standing (Return at value) = ReturnRow standing.scope standing.result value
+  IsTypedStmt standing (Label at label) = Unit {0}
+  IsTypedStmt standing (Case at value) = IsTrue standing.cases
+  IsTypedStmt standing (Default at) = IsTrue standing.cases
 
-  pub AreTypedItems : Spot → TStmtTrees → Type 0
-  AreTypedItems spot none = Unit {0}
-  AreTypedItems spot (more item rest) = IsTypedStmt spot item × AreTypedItems spot rest
+  pub AreTypedItems : Standing → TStmtTrees → Type 0
+  AreTypedItems standing none = Unit {0}
+  AreTypedItems standing (more item rest) = IsTypedStmt standing item × AreTypedItems standing rest

@@ -12,7 +12,7 @@ use Rattle.c_layout.specs.Tables.{IsTypedTable}
 use Rattle.c_layout.specs.ProperTypes.{IsProperType}
 use Rattle.c_layout.specs.RowTypes.{IsScalar, has_const_elements, is_literal, is_declared_const}
 use Rattle.c_layout.specs.Jumps.{labels_of, gotos_of, listed_of}
-use Rattle.c_layout.specs.TypedNodes.{Spot, IsBlock, IsTypedStmt, object_type}
+use Rattle.c_layout.specs.TypedNodes.{Standing, IsBlock, IsTypedStmt, object_type}
 
 -- C11 6.2.5p20
 abbrev pub is_array : CTypeTree → Bool
@@ -27,8 +27,8 @@ pub record IsTypedObject (structs : List StructDefTree) (object : ObjectTree) : 
   pub literal : IsTrue (is_literal object) → IsTrue object.is_static × (object.name ≡ codes "string")
 
 -- the outermost block of a function's body
-abbrev pub body_spot : TProgramTree → TFunctionTree → Spot
-body_spot program function = record {
+abbrev pub body_standing : TProgramTree → TFunctionTree → Standing
+body_standing program function = record {
   scope = record { program = program; live = function.params };
   block = [];
   result = function.result;
@@ -40,7 +40,7 @@ body_spot program function = record {
 -- the body of a function, with its jumps (C11 6.8.1p3, 6.8.6.1p1)
 pub record IsTypedBody (program : TProgramTree) (function : TFunctionTree) (body : TStmtTree) : Type 0 where
   pub block : IsBlock body
-  pub typed : IsTypedStmt (body_spot program function) body
+  pub typed : IsTypedStmt (body_standing program function) body
   pub labels_distinct : AllPairs (λ a b. a ≢ b) (labels_of body)
   pub gotos_there : All (Contains (labels_of body)) (gotos_of body)
 

@@ -5,10 +5,10 @@ ghost use Rattle.std.specs.Prelude.{◌≡◌, ℕ, ◌+◌, ◌*◌, ◌^◌, �
 ghost use Rattle.c_syntax.specs.Types.{ctype_tree};
 ghost use Rattle.c_syntax.specs.Program.{StructDefTree, member_tree, structdef_tree};
 ghost use Rattle.c_layout.specs.Layout as layout;
-ghost use Rattle.c_layout.specs.Layout.{align_in, laid_out, offset_named, padded, size_in, sized, space_by, space_of, spaces_by, stored, strictest, struct_space, told};
+ghost use Rattle.c_layout.specs.Layout.{align_in, laid_out, offset_named, padded, size_in, sized, space_by, space_of, spaces_by, in_table, strictest, struct_space, told};
 ghost use Rattle.c_layout.specs.Kept.{IsKept, element, element_count, element_space, kept};
 ghost use Rattle.c_layout.specs.LaidOut.{IsLaidOut, MeansUnfolded};
-ghost use Rattle.c_layout.specs.Rank.{NoneHoldsItself};
+ghost use Rattle.c_layout.specs.Heights.{NoneHoldsItself};
 ghost use Rattle.c_layout.specs.Tables.{IsTypedTable, PartsAreAligned, PartsLieInside, StructsHaveBytes};
 
 use c_syntax::{CType, Member, StructDef, StructDefs};
@@ -141,7 +141,7 @@ fn element_room(ty: &CType, structs: &[StructDef]) -> Room
 
 // What a struct with these members takes.
 fn members_room(members: &[Member], structs: &[StructDef]) -> Room
-    ensures { IsKept result (struct_space (spaces_by (stored (map structdef_tree structs.now)) (map member_tree members.now))) }
+    ensures { IsKept result (struct_space (spaces_by (in_table (map structdef_tree structs.now)) (map member_tree members.now))) }
 {
     if members.is_empty() {
         return no_room();
@@ -156,8 +156,8 @@ fn members_room(members: &[Member], structs: &[StructDef]) -> Room
 
 // Where the last of the members ends, and their strictest alignment.
 fn members_end(members: &[Member], structs: &[StructDef]) -> (u64, u64)
-    ensures end { result.0 ≡ kept (layout.members_end (spaces_by (stored (map structdef_tree structs.now)) (map member_tree members.now))) }
-    ensures strictest { result.1 ≡ strictest (spaces_by (stored (map structdef_tree structs.now)) (map member_tree members.now)) }
+    ensures end { result.0 ≡ kept (layout.members_end (spaces_by (in_table (map structdef_tree structs.now)) (map member_tree members.now))) }
+    ensures strictest { result.1 ≡ strictest (spaces_by (in_table (map structdef_tree structs.now)) (map member_tree members.now)) }
 {
     let mut end = 0;
     let mut align: u64 = 1;
@@ -171,14 +171,14 @@ fn members_end(members: &[Member], structs: &[StructDef]) -> (u64, u64)
 
 // What a member takes, where a struct takes what the table tells.
 fn member_room(ty: &CType, structs: &[StructDef]) -> Room
-    ensures { IsKept result (space_by (stored (map structdef_tree structs.now)) (ctype_tree ty.now)) }
+    ensures { IsKept result (space_by (in_table (map structdef_tree structs.now)) (ctype_tree ty.now)) }
 {
     array_room(count_of(ty), told_room(element_of(ty), structs))
 }
 
 // What such a member takes that is no array.
 pub(crate) fn told_room(ty: &CType, structs: &[StructDef]) -> Room
-    ensures { IsKept result (element_space (stored (map structdef_tree structs.now)) (ctype_tree ty.now)) }
+    ensures { IsKept result (element_space (in_table (map structdef_tree structs.now)) (ctype_tree ty.now)) }
 {
     match ty {
         CType::Int(t) => scalar_room(u64::from(t.bytes())),
@@ -190,7 +190,7 @@ pub(crate) fn told_room(ty: &CType, structs: &[StructDef]) -> Room
 
 // What the table tells of a struct.
 fn stored_room(structs: &[StructDef], n: u64) -> Room
-    ensures { IsKept result (stored (map structdef_tree structs.now) n) }
+    ensures { IsKept result (in_table (map structdef_tree structs.now) n) }
 {
     match structs.get(n as usize) {
         None => no_room(),

@@ -10,7 +10,7 @@ use Rattle.c_syntax.specs.declared.alarm.Check.{Check}
 use Rattle.c_syntax.specs.declared.alarm.WrongKind.{WrongKind}
 use Rattle.c_syntax.specs.declared.alarm.WrongKind.TheVariants as kinds
 use Rattle.c_syntax.specs.Types.{ObjectTree}
-use Rattle.c_syntax.specs.Operand.{Operand, Number, Point, Points, Mark, End, LoadMark, Undef, Whole, Broken, CallEnd}
+use Rattle.c_syntax.specs.Operand.{Operand, Number, Point, Points, Mark, End, LoadMark, Undef, HasValue, Broken, CallEnd}
 use Rattle.c_syntax.specs.Operand as operands
 
 -- the number lies between two ends, each of which may be missing
@@ -34,7 +34,7 @@ IsSpotIn objects set (spots.At o d) = HasObject objects set o × IsBetween set.l
 -- the mark is one of those shown
 abbrev pub IsMarkIn : Bool → Bool → Bool → LoadMark → Type 0
 IsMarkIn undef value broken Undef = IsTrue undef
-IsMarkIn undef value broken Whole = IsTrue value
+IsMarkIn undef value broken HasValue = IsTrue value
 IsMarkIn undef value broken Broken = IsTrue broken
 
 -- the end is one of those shown

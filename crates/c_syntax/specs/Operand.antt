@@ -7,7 +7,7 @@ use Rattle.c_syntax.specs.declared.alarm.Example.TheVariants as examples
 -- what a load meets in the bytes that it reads: a byte without a value, a value of its type, or neither
 pub data LoadMark : Type 0 where
   Undef : LoadMark
-  Whole : LoadMark
+  HasValue : LoadMark
   Broken : LoadMark
 
 -- how a function ended: with a value, or without

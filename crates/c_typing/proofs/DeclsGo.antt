@@ -10,7 +10,7 @@ use Rattle.c_written.specs.WrittenDecl as inits
 use Rattle.c_written.specs.WrittenDecl.{InitTree, InitTrees, DeclTree, InitDeclaratorTree}
 use Rattle.c_syntax.specs.declared.op.Op.TheVariants as ops
 use Rattle.c_syntax.specs.Types.{CTypeTree, Array}
-use Rattle.c_typing.specs.World.{World, Form, Whole, Unsized, Callable, Meaning, Object, Missing, Parameter, Function, TypeName, Enumeration, Binding, Linked, Refusal, no_rule, NotConstant, ObjectTooLarge, Unsupported, Outcome, Typed, Refused}
+use Rattle.c_typing.specs.World.{World, Form, Plain, Unsized, Callable, Meaning, Object, Missing, Parameter, Function, TypeName, Enumeration, Binding, Linked, Refusal, no_rule, NotConstant, ObjectTooLarge, Unsupported, Outcome, Typed, Refused}
 use Rattle.c_typing.specs.Names as names
 use Rattle.c_typing.specs.Operands.{is_unsized}
 use Rattle.c_typing.specs.Rows.{Stored}
@@ -124,7 +124,7 @@ local_object w named ty c is_static size =
     reaches.after _ _ _ (reaches.object w _) (reaches.after _ _ _ (reaches.counted _ size) (reaches.named _ named.pos named.name _))
 
 pub local_declared : (w : World) (named : DeclaredName) (form : Form) (is_static has_init : Bool) → Goes w (decls.local_declared w named form is_static has_init)
-local_declared w named (Whole ty c) is_static has_init =
+local_declared w named (Plain ty c) is_static has_init =
     if_sized_in named.pos ty _ (λ size. unless_declared named.pos _ (within_limits named.pos size w (typed (local_object w named ty c is_static size))))
 local_declared w named (Unsized ty c) is_static has_init =
     unless_declared named.pos _ (goes_unless (not has_init) (NotConstant named.pos) (typed (local_object w named (Array ty c 0) false is_static 0)))
@@ -174,12 +174,12 @@ file_declared w named ty c how =
     (λ l. file_object w named (decls.composite_type w ty l) c how l)))
 
 pub file_form : (w : World) (named : DeclaredName) (form : Form) (how : FileObject) → Goes w (decls.file_form w named form how)
-file_form w named (Whole ty c) how = if_sized_in named.pos ty _ (λ size. file_declared w named ty c how)
+file_form w named (Plain ty c) how = if_sized_in named.pos ty _ (λ size. file_declared w named ty c how)
 file_form w named (Unsized ty c) how = file_declared w named (Array ty c 0) false how
 file_form w named (Callable params result) how = refused
 
 pub typedef_declared : (w : World) (named : DeclaredName) (form : Form) → Goes w (decls.typedef_declared w named form)
-typedef_declared w named (Whole ty c) = unless_declared named.pos _ (typed (reaches.named w named.pos named.name _))
+typedef_declared w named (Plain ty c) = unless_declared named.pos _ (typed (reaches.named w named.pos named.name _))
 typedef_declared w named (Unsized ty c) = unless_declared named.pos _ refused
 typedef_declared w named (Callable params result) = unless_declared named.pos _ (typed (reaches.named w named.pos named.name _))
 
@@ -190,8 +190,8 @@ no_object (Refused q) p = refused
 pub entity_declared : (w : World) (around : Context) (storage : List StorageWord) (steps : List Step) (named : DeclaredName) (has_init : Bool) (form : Form) → Goes w (decls.entity_declared w around storage steps named has_init form)
 entity_declared w around storage steps named has_init (Callable types result) =
     goes_unless has_init (no_rule w named.pos ops.Init (unknown_function w) None) (no_object _ (function_declared w around named _ types result false))
-entity_declared w around storage steps named has_init (Whole ty c) =
-    goes_if (around.in_block && not (decls.is_word Extern storage)) (local_declared w named (Whole ty c) _ has_init) (file_form w named (Whole ty c) (decls.file_object_of around storage named.name has_init))
+entity_declared w around storage steps named has_init (Plain ty c) =
+    goes_if (around.in_block && not (decls.is_word Extern storage)) (local_declared w named (Plain ty c) _ has_init) (file_form w named (Plain ty c) (decls.file_object_of around storage named.name has_init))
 entity_declared w around storage steps named has_init (Unsized ty c) =
     goes_if (around.in_block && not (decls.is_word Extern storage)) (local_declared w named (Unsized ty c) _ has_init) (file_form w named (Unsized ty c) (decls.file_object_of around storage named.name has_init))
 

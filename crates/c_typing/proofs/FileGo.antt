@@ -12,7 +12,7 @@ use Rattle.c_written.specs.WrittenFile.{StmtTree, BlockItemTrees, ForStartTree, 
 use Rattle.c_syntax.specs.Types.{CTypeTree, Void, Int, Pointer, Array, Struct, Function}
 use Rattle.c_syntax.specs.TypedExpr.{TExprTree}
 use Rattle.c_syntax.specs.TypedStmt.{TStmtTree, TStmtTrees}
-use Rattle.c_typing.specs.World.{World, Form, Whole, Unsized, Callable, Binding, TagBinding, Outcome, Typed, Refused, Then, Is, goes_on, stops}
+use Rattle.c_typing.specs.World.{World, Form, Plain, Unsized, Callable, Binding, TagBinding, Outcome, Typed, Refused, Then, Is, goes_on, stops}
 use Rattle.c_typing.specs.Names.{opened, closed}
 use Rattle.c_typing.specs.Constants.{constant_value}
 use Rattle.c_typing.specs.Specifiers as specifiers
@@ -182,7 +182,7 @@ definition_of w around named [] form = no_head
 definition_of w around named (PointerTo c ∷ rest) form = no_head
 definition_of w around named (ArrayOf at n ∷ rest) form = no_head
 definition_of w around named (OpenArray ∷ rest) form = no_head
-definition_of w around named (FunctionOf params names tags ∷ rest) (Whole ty c) = no_head
+definition_of w around named (FunctionOf params names tags ∷ rest) (Plain ty c) = no_head
 definition_of w around named (FunctionOf params names tags ∷ rest) (Unsized ty c) = no_head
 definition_of w around named (FunctionOf params names tags ∷ rest) (Callable types result) =
     definition_begins named result params names tags _ (function_declared w around named params types result true)

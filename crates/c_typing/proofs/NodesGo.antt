@@ -6,7 +6,7 @@ use Rattle.c_written.specs.declared.written.UnaryOp.{UnaryOp}
 use Rattle.c_written.specs.declared.written.UnaryOp.TheVariants as prefixes
 use Rattle.c_syntax.specs.Types.{CTypeTree}
 use Rattle.c_syntax.specs.TypedExpr.{TExprTree, Assume, Assert, TLvalueTree, TExprTrees, none, more}
-use Rattle.c_typing.specs.World.{World, Form, Whole, Unsized, Callable, Meaning, Object, Missing, Parameter, TypeName, Enumeration, Refusal, ObjectTooLarge, TotalTooLarge, Outcome, Typed, Refused}
+use Rattle.c_typing.specs.World.{World, Form, Plain, Unsized, Callable, Meaning, Object, Missing, Parameter, TypeName, Enumeration, Refusal, ObjectTooLarge, TotalTooLarge, Outcome, Typed, Refused}
 use Rattle.c_typing.specs.Names as names
 use Rattle.c_typing.specs.World as world
 use Rattle.c_typing.specs.Operands.{OperandTree, Place, Value}
@@ -73,12 +73,12 @@ pub conditional : (w : World) (at : Pos) (test a b : TExprTree) → Goes w (node
 conditional w at test a b = goes_if _ (given _ _ w) refused
 
 pub size_of_form : (w : World) (at : Pos) (form : Form) → Goes w (nodes.size_of_form w at form)
-size_of_form w at (Whole ty is_const) = given _ _ w
+size_of_form w at (Plain ty is_const) = given _ _ w
 size_of_form w at (Unsized ty is_const) = refused
 size_of_form w at (Callable params result) = refused
 
 pub cast : (w : World) (at : Pos) (form : Form) (e : TExprTree) → Goes w (nodes.cast w at form e)
-cast w at (Whole ty is_const) e = given _ _ w
+cast w at (Plain ty is_const) e = given _ _ w
 cast w at (Unsized ty is_const) e = refused
 cast w at (Callable params result) e = refused
 

@@ -4,7 +4,7 @@ use Rattle.c_written.specs.declared.place.Pos.{Pos}
 use Rattle.c_written.specs.declared.written.Tag.{Tag}
 use Rattle.c_written.specs.Written as written
 use Rattle.c_syntax.specs.Types.{CTypeTree, Void, Int, Pointer, Array, Struct, Function}
-use Rattle.c_typing.specs.World.{World, Form, Whole, Unsized, Callable, Meaning, Object, Missing, Parameter, TypeName, Enumeration, TagMeaning, StructTag, EnumTag, OpenEnumTag, TagBinding, Refusal, ObjectTooLarge, Unsupported, Outcome, Typed, Refused}
+use Rattle.c_typing.specs.World.{World, Form, Plain, Unsized, Callable, Meaning, Object, Missing, Parameter, TypeName, Enumeration, TagMeaning, StructTag, EnumTag, OpenEnumTag, TagBinding, Refusal, ObjectTooLarge, Unsupported, Outcome, Typed, Refused}
 use Rattle.c_written.specs.declared.construct.Construct.TheVariants as constructs
 use Rattle.c_layout.specs.RowTypes.{has_const_elements}
 use Rattle.c_typing.specs.World as world
@@ -114,7 +114,7 @@ if_sized r outcome None f = refused
 if_sized r outcome (Some n) f = f n
 
 pub pointer_form : (w : World) (at : Pos) (is_const : Bool) (form : Form) → Goes w (declarators.pointer_form w at is_const form)
-pointer_form w at is_const (Whole ty c) = goes_same
+pointer_form w at is_const (Plain ty c) = goes_same
 pointer_form w at is_const (Unsized ty c) = refused
 pointer_form w at is_const (Callable params result) = refused
 
@@ -122,12 +122,12 @@ pub sized_array : (w : World) (size_at : Pos) (n : ℕ) (ty : CTypeTree) (c : Bo
 sized_array w size_at n ty c size = goes_if _ refused goes_same
 
 pub array_form : (w : World) (at size_at : Pos) (n : ℕ) (form : Form) → Goes w (declarators.array_form w at size_at n form)
-array_form w at size_at n (Whole ty c) = if_sized _ _ _ (sized_array w size_at n ty c)
+array_form w at size_at n (Plain ty c) = if_sized _ _ _ (sized_array w size_at n ty c)
 array_form w at size_at n (Unsized ty c) = refused
 array_form w at size_at n (Callable params result) = refused
 
 pub open_form : (w : World) (at : Pos) (form : Form) → Goes w (declarators.open_form w at form)
-open_form w at (Whole ty c) = if_sized _ _ _ (λ size. goes_same)
+open_form w at (Plain ty c) = if_sized _ _ _ (λ size. goes_same)
 open_form w at (Unsized ty c) = refused
 open_form w at (Callable params result) = refused
 
@@ -140,7 +140,7 @@ result_form w at params (Struct n) = refused
 result_form w at params (Function n) = goes_same
 
 pub function_form : (w : World) (at : Pos) (params : List CTypeTree) (form : Form) → Goes w (declarators.function_form w at params form)
-function_form w at params (Whole ty c) = result_form w at params ty
+function_form w at params (Plain ty c) = result_form w at params ty
 function_form w at params (Unsized ty c) = refused
 function_form w at params (Callable types result) = refused
 
@@ -160,7 +160,7 @@ laid w at [] base = goes_same
 laid w at (step ∷ rest) base = after_step w at step _
 
 pub sized_name : {w : World} (first : Pos) (o : Outcome Form) → Goes w o → Goes w (typing.sized_name first o)
-sized_name first (Typed (Whole ty c) w) p = p
+sized_name first (Typed (Plain ty c) w) p = p
 sized_name first (Typed (Unsized ty c) w) p = refused
 sized_name first (Typed (Callable params result) w) p = p
 sized_name first (Refused r) p = p
@@ -190,7 +190,7 @@ member_sized w named ty is_const done size =
     (goes_unless (is_const || has_const_elements ty) (Unsupported named.pos constructs.ConstMember) goes_same))
 
 pub member_of : (w : World) (named : DeclaredName) (form : Form) (done : List MemberMade) → Goes w (typing.member_of w named form done)
-member_of w named (Whole ty c) done = if_sized _ _ _ (member_sized w named ty c done)
+member_of w named (Plain ty c) done = if_sized _ _ _ (member_sized w named ty c done)
 member_of w named (Unsized ty c) done = refused
 member_of w named (Callable params result) done = refused
 
@@ -222,7 +222,7 @@ parameter_sized w at name k (Array of d n) c = unless_named_before w name (typed
 parameter_sized w at name k (Function n) c = unless_named_before w name (typed (with_parameter w name _))
 
 pub parameter_of : (w : World) (at : Pos) (name : Option DeclaredName) (k : ℕ) (form : Form) → Goes w (typing.parameter_of w at name k form)
-parameter_of w at name k (Whole ty c) = if_sized _ _ _ (λ size. parameter_sized w at name k ty c)
+parameter_of w at name k (Plain ty c) = if_sized _ _ _ (λ size. parameter_sized w at name k ty c)
 parameter_of w at name k (Unsized ty c) = unless_named_before w name refused
 parameter_of w at name k (Callable params result) = unless_named_before w name refused
 

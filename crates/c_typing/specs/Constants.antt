@@ -95,7 +95,8 @@ pub data Address : Type 0 where
 
 -- an address in an object, from its start to one past its end; of an array whose size comes later the start alone (C11 6.6p9, this profile)
 abbrev pub inside : List ObjectTree → ℕ → ℤ → Option Address
-inside objects n offset = option_and_then (λ object. if int_le (pos 0) offset && int_le offset (pos object.size) then Some (Inside n offset) else None) (slice_get objects n)
+inside objects n offset =
+    option_and_then (λ object. if int_le (pos 0) offset && int_le offset (pos object.size) then Some (Inside n offset) else None) (slice_get objects n)
 
 -- an address that is moved by bytes
 abbrev pub moved_address : List ObjectTree → Option Address → Option ℤ → Option Address

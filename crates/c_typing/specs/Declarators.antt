@@ -4,7 +4,7 @@ use Rattle.c_written.specs.declared.place.Pos.{Pos}
 use Rattle.c_written.specs.declared.construct.Construct.TheVariants as constructs
 use Rattle.c_syntax.specs.declared.op.Op.TheVariants as ops
 use Rattle.c_syntax.specs.Types.{CTypeTree, Pointer, Array, Struct, Function}
-use Rattle.c_typing.specs.World.{World, Form, Whole, Unsized, Callable, Binding, TagBinding, Refusal, no_rule, NotConstant, ObjectTooLarge, Unsupported, Outcome, Typed, Refused}
+use Rattle.c_typing.specs.World.{World, Form, Plain, Unsized, Callable, Binding, TagBinding, Refusal, no_rule, NotConstant, ObjectTooLarge, Unsupported, Outcome, Typed, Refused}
 use Rattle.c_typing.specs.Operands.{complete_size}
 
 -- a name that a declarator has, and its place
@@ -42,7 +42,7 @@ unknown_function w = Function (length w.functions)
 
 -- a type as refusals print it
 abbrev pub shown : World → Form → CTypeTree
-shown w (Whole ty is_const) = ty
+shown w (Plain ty is_const) = ty
 shown w (Unsized of is_const) = Array of is_const 0
 shown w (Callable params result) = unknown_function w
 
@@ -56,24 +56,24 @@ unless_incomplete w at ty outcome = if_sized (no_rule w at ops.Init ty None) out
 
 -- a pointer to what the rest of the declarator says (C11 6.7.6.1p1)
 abbrev pub pointer_form : World → Pos → Bool → Form → Outcome Form
-pointer_form w at is_const (Whole ty target_is_const) = Typed (Whole (Pointer ty target_is_const) is_const) w
+pointer_form w at is_const (Plain ty target_is_const) = Typed (Plain (Pointer ty target_is_const) is_const) w
 pointer_form w at is_const (Unsized of target_is_const) = Refused (NotConstant at)
 pointer_form w at is_const (Callable params result) = Refused (Unsupported at constructs.FunctionPointer)
 
 -- an array whose size is told takes at most 2 to the 40 bytes (this profile)
 abbrev pub sized_array : World → Pos → ℕ → CTypeTree → Bool → ℕ → Outcome Form
 sized_array w size_at n of is_const size =
-    if nat_lt (2 ^ 40) (n * size) then Refused (ObjectTooLarge size_at (2 ^ 40)) else Typed (Whole (Array of is_const n) false) w
+    if nat_lt (2 ^ 40) (n * size) then Refused (ObjectTooLarge size_at (2 ^ 40)) else Typed (Plain (Array of is_const n) false) w
 
 -- an array of what the rest says (C11 6.7.6.2p1)
 abbrev pub array_form : World → Pos → Pos → ℕ → Form → Outcome Form
-array_form w at size_at n (Whole ty is_const) = unless_incomplete w at ty (sized_array w size_at n ty is_const)
+array_form w at size_at n (Plain ty is_const) = unless_incomplete w at ty (sized_array w size_at n ty is_const)
 array_form w at size_at n (Unsized of is_const) = Refused (NotConstant at)
 array_form w at size_at n (Callable params result) = Refused (Unsupported at constructs.FunctionPointer)
 
 -- an array without size, which only the outermost one may be (C11 6.7.6.2p4)
 abbrev pub open_form : World → Pos → Form → Outcome Form
-open_form w at (Whole ty is_const) = unless_incomplete w at ty (λ size. Typed (Unsized ty is_const) w)
+open_form w at (Plain ty is_const) = unless_incomplete w at ty (λ size. Typed (Unsized ty is_const) w)
 open_form w at (Unsized of is_const) = Refused (NotConstant at)
 open_form w at (Callable params result) = Refused (Unsupported at constructs.FunctionPointer)
 
@@ -84,7 +84,7 @@ result_form w at params (Struct n) = Refused (Unsupported at constructs.StructBy
 result_form w at params ty = Typed (Callable params ty) w
 
 abbrev pub function_form : World → Pos → List CTypeTree → Form → Outcome Form
-function_form w at params (Whole ty is_const) = result_form w at params ty
+function_form w at params (Plain ty is_const) = result_form w at params ty
 function_form w at params result = Refused (no_rule w at ops.Init (shown w result) None)
 
 abbrev pub types_of_params : List ParameterTree → List CTypeTree
@@ -108,6 +108,6 @@ laid w at (step ∷ rest) base = after_step w at step (laid w at rest base)
 
 -- the type of a parameter: an array is a pointer to its element (C11 6.7.6.3p7)
 abbrev pub parameter_type : Form → Form
-parameter_type (Whole (Array of is_const n) outer) = Whole (Pointer of is_const) false
-parameter_type (Unsized of is_const) = Whole (Pointer of is_const) false
+parameter_type (Plain (Array of is_const n) outer) = Plain (Pointer of is_const) false
+parameter_type (Unsized of is_const) = Plain (Pointer of is_const) false
 parameter_type form = form

@@ -16,7 +16,7 @@ use Rattle.c_syntax.specs.TypedStmt as stmts
 use Rattle.c_layout.specs.Layout.{size_in}
 use Rattle.c_layout.specs.RowTypes.{has_const_elements}
 use Rattle.c_layout.specs.WellTyped.{is_array}
-use Rattle.c_typing.specs.World.{World, Form, Whole, Unsized, Callable, Meaning, Object, Missing, Function, TypeName, Binding, Linked, no_rule, Redeclared, NotConstant, ObjectTooLarge, Unsupported, Outcome, Typed, Refused, Then, Is, unless}
+use Rattle.c_typing.specs.World.{World, Form, Plain, Unsized, Callable, Meaning, Object, Missing, Function, TypeName, Binding, Linked, no_rule, Redeclared, NotConstant, ObjectTooLarge, Unsupported, Outcome, Typed, Refused, Then, Is, unless}
 use Rattle.c_typing.specs.SameTypes.{is_same_truth, is_same, are_same}
 use Rattle.c_typing.specs.Names.{input_type, is_reserved, first_here, unless_declared, with_name, linked_as, object_limit, within_limits, with_initial}
 use Rattle.c_typing.specs.Operands.{is_unsized}
@@ -184,7 +184,7 @@ pub data Declares : Type 0 where
   NoObject : Declares
 
 abbrev pub local_declared : World → DeclaredName → Form → Bool → Bool → Outcome Declares
-local_declared w named (Whole ty is_const) is_static has_init =
+local_declared w named (Plain ty is_const) is_static has_init =
     unless_incomplete w named.pos ty (λ size. unless_declared named.pos (first_here w named.pos named.name)
     (within_limits named.pos size w (Typed (AnObject (local_now w named ty is_static false)) (local_object w named ty is_const is_static size))))
 local_declared w named (Unsized of is_const) is_static has_init =
@@ -219,7 +219,9 @@ abbrev pub sized_object : CTypeTree → ℕ → ObjectTree → ObjectTree
 sized_object ty size object = record object { ty = ty; size = size }
 
 abbrev pub with_sized : World → ℕ → CTypeTree → ℕ → World
-with_sized w n ty size = record w { objects = unwrap_or (option_map (λ object. set w.objects n (sized_object ty size object)) (slice_get w.objects n)) w.objects }
+with_sized w n ty size = record w {
+  objects = unwrap_or (option_map (λ object. set w.objects n (sized_object ty size object)) (slice_get w.objects n)) w.objects;
+}
 
 abbrev pub has_initial : World → Meaning → Bool
 has_initial w (Object n) = is_some (find (λ initial. initial.object == n) w.initial)
@@ -310,7 +312,7 @@ file_declared w named ty is_const how =
 
 -- incomplete types come first
 abbrev pub file_form : World → DeclaredName → Form → FileObject → Outcome Declares
-file_form w named (Whole ty is_const) how = unless_incomplete w named.pos ty (λ size. file_declared w named ty is_const how)
+file_form w named (Plain ty is_const) how = unless_incomplete w named.pos ty (λ size. file_declared w named ty is_const how)
 file_form w named (Unsized of is_const) how = file_declared w named (Array of is_const 0) false how
 file_form w named (Callable params result) how = Refused (no_rule w named.pos ops.Init (unknown_function w) None)
 

@@ -19,6 +19,7 @@ use Rattle.c_syntax.specs.Types.{CTypeTree, Int, Array, ObjectTree}
 use Rattle.c_syntax.specs.TypedExpr.{TExprTree, Const}
 use Rattle.c_syntax.specs.TypedParts.{texpr_type}
 use Rattle.c_syntax.specs.TypedStmt.{TInitTree, Store, Copy}
+use Rattle.c_syntax.specs.Program.{StructDefTree}
 use Rattle.c_typing.specs.World.{World, no_rule, NotConstant, Refusal, Outcome, Typed, Refused, Then, Is, unless}
 use Rattle.c_typing.specs.Constants.{constant_value, Address, Inside, static_address}
 use Rattle.c_typing.specs.Rows.{Stored, Scalar, Copied, is_scalar, stored_row}
@@ -105,7 +106,8 @@ Either true one other o = one o
 Either false one other o = other o
 
 -- with this in the part that an item without braces fills
-pub record Into {A : Type 0} (structs : _) (takes : CTypeTree → Bool) (part : Part) (a : Aggregates) (next : Part → Aggregates → Outcome A → Type 0) (o : Outcome A) : Type 0 where
+pub record Into {A : Type 0} (structs : List StructDefTree) (takes : CTypeTree → Bool) (part : Part) (a : Aggregates)
+    (next : Part → Aggregates → Outcome A → Type 0) (o : Outcome A) : Type 0 where
   pub part2 : Part
   pub after : Aggregates
   pub fills : Fills structs takes part a part2 after

@@ -9,7 +9,7 @@ use Rattle.c_syntax.specs.declared.program.InitByte.{InitByte}
 use Rattle.c_syntax.specs.declared.program.InitByte.TheVariants.{Num}
 use Rattle.c_syntax.specs.Types.{CTypeTree, Int, Array, ObjectTree}
 use Rattle.c_syntax.specs.Program.{MemberTree, StructDefTree}
-use Rattle.c_layout.specs.Layout.{Space, struct_space, spaces_by, stored}
+use Rattle.c_layout.specs.Layout.{Space, struct_space, spaces_by, in_table}
 use Rattle.c_typing.specs.World.{World, Meaning, Linked, TagBinding, TagMeaning, StructTag, EnumTag, OpenEnumTag, Outcome, Typed, Refused, Undeclared, Redeclared, ObjectTooLarge, TotalTooLarge, unless}
 
 -- the names by which an input is read, with their types (this profile)
@@ -146,7 +146,7 @@ tag_of structs n = unwrap_or (option_map (λ def. def.tag) (slice_get structs n)
 -- the struct is complete from its `}` on (C11 6.7.2.1p8)
 abbrev pub with_members : World → ℕ → List MemberTree → World
 with_members w n members =
-    record w { structs = set w.structs n (struct_of (tag_of w.structs n) members (struct_space (spaces_by (stored w.structs) members))) }
+    record w { structs = set w.structs n (struct_of (tag_of w.structs n) members (struct_space (spaces_by (in_table w.structs) members))) }
 
 -- `enum E` names an enumeration that is defined before (C11 6.7.2.3p3, this profile)
 abbrev pub enum_from_outside : World → Tag → Option TagMeaning → Outcome (⊤)

@@ -25,7 +25,7 @@ use Rattle.c_syntax.specs.TypedParts.{texpr_type, tlvalue_type, tlvalue_is_const
 use Rattle.c_layout.specs.Conversion.{literal_type_of}
 use Rattle.c_layout.specs.RowTypes.{is_declared_const}
 use Rattle.c_layout.specs.WellTyped.{is_array}
-use Rattle.c_typing.specs.World.{World, Form, Whole, Unsized, Callable, Meaning, Object, Missing, Parameter, TypeName, Enumeration, Refusal, no_rule, Undeclared, NotConstant, NotLvalue, Unsupported, Outcome, Typed, Refused, unless}
+use Rattle.c_typing.specs.World.{World, Form, Plain, Unsized, Callable, Meaning, Object, Missing, Parameter, TypeName, Enumeration, Refusal, no_rule, Undeclared, NotConstant, NotLvalue, Unsupported, Outcome, Typed, Refused, unless}
 use Rattle.c_typing.specs.World as world
 use Rattle.c_typing.specs.Names.{input_type, is_assume, is_assert, is_reserved, meaning_of, within_limits, with_literal, literal_type}
 use Rattle.c_typing.specs.Operands.{OperandTree, Place, Value, value_of, not_used, is_unsized, complete_size}
@@ -203,15 +203,17 @@ abbrev pub size_of : World → Pos → CTypeTree → Outcome OperandTree
 size_of w at ty = given (no_rule w at ops.Sizeof ty None) (option_map (λ size. Const at ints.ULong (pos size)) (complete_size w.structs ty)) w
 
 abbrev pub size_of_form : World → Pos → Form → Outcome OperandTree
-size_of_form w at (Whole ty is_const) = size_of w at ty
+size_of_form w at (Plain ty is_const) = size_of w at ty
 size_of_form w at form = Refused (no_rule w at ops.Sizeof (unknown_function w) None)
 
 -- a cast that no row has: between an integer and a pointer it is a construct that is left out (this profile)
 abbrev pub no_cast : World → Pos → CTypeTree → TExprTree → Refusal
-no_cast w at target e = if is_pointer_integer target (texpr_type e) then Unsupported at constructs.PointerInteger else no_rule w at ops.Cast target (Some (texpr_type e))
+no_cast w at target e =
+    if is_pointer_integer target (texpr_type e) then Unsupported at constructs.PointerInteger
+    else no_rule w at ops.Cast target (Some (texpr_type e))
 
 abbrev pub cast : World → Pos → Form → TExprTree → Outcome OperandTree
-cast w at (Whole target is_const) e = given (no_cast w at target e) (cast_row at target (texpr_type e) e) w
+cast w at (Plain target is_const) e = given (no_cast w at target e) (cast_row at target (texpr_type e) e) w
 cast w at form e = Refused (no_rule w at ops.Cast (unknown_function w) (Some (texpr_type e)))
 
 -- ---- calls
@@ -235,7 +237,8 @@ passed_one refusal (Some e) rest = with_passed e rest
 
 -- each argument as by `=` (C11 6.5.2.2p7)
 unfoldable pub passed : World → Pos → List CTypeTree → TExprTrees → Passed
-passed w at (param ∷ params) (more e rest) = passed_one (no_rule w at ops.Call param (Some (texpr_type e))) (store_row param (texpr_type e) e) (passed w at params rest)
+passed w at (param ∷ params) (more e rest) =
+    passed_one (no_rule w at ops.Call param (Some (texpr_type e))) (store_row param (texpr_type e) e) (passed w at params rest)
 passed w at params args = Passes none
 
 abbrev pub call_node : World → Pos → ℕ → CTypeTree → Passed → Outcome OperandTree

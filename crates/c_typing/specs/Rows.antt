@@ -198,7 +198,8 @@ pub data Stored : Type 0 where
 
 -- a value that is stored as this type, by `=` or an initialiser: a scalar as by its row, or a complete struct of the same type (C11 6.5.16.1p1)
 abbrev pub stored_row : List StructDefTree → CTypeTree → CTypeTree → TExprTree → Option Stored
-stored_row structs (Struct m) (Struct n) e = if is_same (Struct m) (Struct n) then option_map (λ extent. Copied extent e) (extent_of structs (Struct m)) else None
+stored_row structs (Struct m) (Struct n) e =
+    if is_same (Struct m) (Struct n) then option_map (λ extent. Copied extent e) (extent_of structs (Struct m)) else None
 stored_row structs target ty e = option_map Scalar (store_row target ty e)
 
 -- an operator and the value that it takes beside what stands in the place

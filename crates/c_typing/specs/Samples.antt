@@ -39,7 +39,8 @@ struct_plus_int = record {
         pos = col 16;
         specs = written.more_specs
             (written.StructBody (col 16) (Some (record { pos = col 23; name = codes "S" }))
-            (written.more_members (written.Members (col 25) (int_specs 25) (written.more_declarators (written.Name (col 29) (codes "k")) written.no_declarators))
+            (written.more_members (written.Members (col 25) (int_specs 25)
+            (written.more_declarators (written.Name (col 29) (codes "k")) written.no_declarators))
             written.no_members))
             written.no_specs;
         inits = record { declarator = written.Name (col 32) (codes "s"); init = None } ∷ [];
@@ -59,7 +60,8 @@ listed_struct = record {
             (written.StructBody (col 1) (Some (record { pos = col 8; name = codes "S" }))
             (written.more_members (written.Members (col 10) (int_specs 10)
             (written.more_declarators (written.Name (col 14) (codes "c")) written.no_declarators))
-            (written.more_members (written.Members (col 16) (int_specs 16) (written.more_declarators (written.Name (col 20) (codes "k")) written.no_declarators))
+            (written.more_members (written.Members (col 16) (int_specs 16)
+            (written.more_declarators (written.Name (col 20) (codes "k")) written.no_declarators))
             written.no_members)))
             written.no_specs;
         inits = record {

@@ -61,7 +61,8 @@ unfoldable mutual
   settled_stmt objects (While at condition body) = While at (settled_expr objects condition) (settled_stmt objects body)
   settled_stmt objects (DoWhile at body condition) = DoWhile at (settled_stmt objects body) (settled_expr objects condition)
   settled_stmt objects (For at numbers head condition step body) =
-      For at numbers (settled_stmts objects head) (option_map (settled_expr objects) condition) (option_map (settled_expr objects) step) (settled_stmt objects body)
+      For at numbers (settled_stmts objects head) (option_map (settled_expr objects) condition)
+      (option_map (settled_expr objects) step) (settled_stmt objects body)
   settled_stmt objects (Switch at value kind numbers items) = Switch at (settled_expr objects value) kind numbers (settled_stmts objects items)
   settled_stmt objects (Break at) = Break at
   settled_stmt objects (Continue at) = Continue at

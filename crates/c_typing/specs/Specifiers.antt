@@ -8,7 +8,7 @@ use Rattle.c_written.specs.declared.written.TypeWord.{TypeWord}
 use Rattle.c_written.specs.declared.written.TypeWord.TheVariants as words
 use Rattle.c_syntax.specs.Types.{CTypeTree, Void, Int, Array}
 use Rattle.c_layout.specs.WellTyped.{is_array}
-use Rattle.c_typing.specs.World.{World, Form, Whole, Unsized, Callable, Outcome, Typed, Refused, Undeclared}
+use Rattle.c_typing.specs.World.{World, Form, Plain, Unsized, Callable, Outcome, Typed, Refused, Undeclared}
 
 -- the words and the types of specs so far
 pub record SpecsTree : Type 0 where
@@ -97,12 +97,12 @@ with_const_elements ty const = ty
 
 -- a type, const where it is or where the word `const` stands beside it; const of a function is ignored (this profile)
 abbrev pub qualified : Bool → Form → Form
-qualified const (Whole ty is_const) = if is_array ty then Whole (with_const_elements ty const) false else Whole ty (is_const || const)
+qualified const (Plain ty is_const) = if is_array ty then Plain (with_const_elements ty const) false else Plain ty (is_const || const)
 qualified const (Unsized of is_const) = if is_array of then Unsized (with_const_elements of const) false else Unsized of (is_const || const)
 qualified const (Callable params result) = Callable params result
 
 abbrev pub whole_type : Option CTypeTree → Option Form
-whole_type ty = option_map (λ t. Whole t false) ty
+whole_type ty = option_map (λ t. Plain t false) ty
 
 -- the type that specs name: by their type words, or by one struct, enumeration or typedef name (C11 6.7.2p2)
 abbrev pub named_type : List TypeWord → List Form → Option Form

@@ -166,7 +166,8 @@ unfoldable mutual
   TypesStmt w around (files.Expression at e) o = Then (Dropped w e) (λ x w1. Is (Typed (one (Expr at x)) w1)) o
   TypesStmt w around (files.If at condition first) o =
       Then (Condition (opened w) at condition) (λ c w1.
-      Then (OfSubstatement w1 (stmt_pos first) (λ v. TypesStmt v (inside_block around) first)) (λ a w2. Is (Typed (one (If at c a (no_else at))) (closed w w2)))) o
+      Then (OfSubstatement w1 (stmt_pos first) (λ v. TypesStmt v (inside_block around) first)) (λ a w2.
+      Is (Typed (one (If at c a (no_else at))) (closed w w2)))) o
   TypesStmt w around (files.IfElse at condition first second) o =
       Then (Condition (opened w) at condition) (λ c w1.
       Then (OfSubstatement w1 (stmt_pos first) (λ v. TypesStmt v (inside_block around) first)) (λ a w2.

@@ -13,9 +13,9 @@ use Rattle.c_syntax.specs.declared.operator.StepTime.TheVariants as times
 use Rattle.c_syntax.specs.Types.{CTypeTree, Int, Struct}
 use Rattle.c_syntax.specs.TypedExpr.{TExprTree, TExprTrees, none, texprs_then}
 use Rattle.c_syntax.specs.Program.{MemberTree}
-use Rattle.c_layout.specs.Layout.{padded, members_end, spaces_by, stored, align_in}
+use Rattle.c_layout.specs.Layout.{padded, members_end, spaces_by, in_table, align_in}
 use Rattle.c_layout.specs.RowTypes.{has_const_elements}
-use Rattle.c_typing.specs.World.{World, Form, Whole, Unsized, Callable, Meaning, Parameter, TypeName, Enumeration, no_rule, Undeclared, NotConstant, ObjectTooLarge, Unsupported, Outcome, Typed, Refused, Then, Is, unless}
+use Rattle.c_typing.specs.World.{World, Form, Plain, Unsized, Callable, Meaning, Parameter, TypeName, Enumeration, no_rule, Undeclared, NotConstant, ObjectTooLarge, Unsupported, Outcome, Typed, Refused, Then, Is, unless}
 use Rattle.c_typing.specs.Names.{meaning_of, first_here, unless_declared, opened, closed, with_name, struct_named, struct_opened, with_members, enum_named, enum_opened, enum_closed}
 use Rattle.c_typing.specs.Constants.{constant_value}
 use Rattle.c_typing.specs.Operands.{OperandTree, value_of, operand_type}
@@ -50,7 +50,7 @@ typedef_named w at found = Refused (Undeclared at)
 
 -- an enumerated type is int (this profile)
 abbrev pub enumerated : SpecPart
-enumerated = TypePart (Whole (Int ints.Int) false)
+enumerated = TypePart (Plain (Int ints.Int) false)
 
 -- an enumeration constant, which is an int (C11 6.7.2.2p2 and p3); the next one has the value behind it
 abbrev pub is_int : ℤ → Bool
@@ -81,7 +81,7 @@ members_made done = map (λ m. m.member) done
 
 -- a struct from its members, at its `}`
 abbrev pub struct_made : World → ℕ → List MemberMade → Outcome SpecPart
-struct_made w n done = Typed (TypePart (Whole (Struct n) false)) (with_members w n (members_made done))
+struct_made w n done = Typed (TypePart (Plain (Struct n) false)) (with_members w n (members_made done))
 
 -- the place of the first member of this name
 abbrev pub member_named : List MemberMade → List ℕ → Option Pos
@@ -89,7 +89,7 @@ member_named done name = option_map (λ m. m.pos) (find (λ m. bytes_eq m.member
 
 -- where the next member stands (C11 6.7.2.1p15)
 abbrev pub next_offset : World → List MemberMade → CTypeTree → ℕ
-next_offset w done ty = padded (members_end (spaces_by (stored w.structs) (members_made done))) (align_in w.structs ty)
+next_offset w done ty = padded (members_end (spaces_by (in_table w.structs) (members_made done))) (align_in w.structs ty)
 
 abbrev pub with_member : World → DeclaredName → CTypeTree → List MemberMade → List MemberMade
 with_member w named ty done =
@@ -103,7 +103,7 @@ member_sized w named ty is_const done size =
     (unless (is_const || has_const_elements ty) (Unsupported named.pos constructs.ConstMember) (Typed (with_member w named ty done) w)))
 
 abbrev pub member_of : World → DeclaredName → Form → List MemberMade → Outcome (List MemberMade)
-member_of w named (Whole ty is_const) done = unless_incomplete w named.pos ty (member_sized w named ty is_const done)
+member_of w named (Plain ty is_const) done = unless_incomplete w named.pos ty (member_sized w named ty is_const done)
 member_of w named (Unsized of is_const) done = Refused (Unsupported named.pos constructs.FlexibleArray)
 member_of w named (Callable params result) done = Refused (no_rule w named.pos ops.Init (unknown_function w) None)
 
@@ -139,7 +139,7 @@ parameter_sized w at named k ty is_const =
     unless_named_before w named (Typed (parameter_tree at named ty is_const) (with_parameter w named (Parameter k ty is_const)))
 
 abbrev pub parameter_of : World → Pos → Option DeclaredName → ℕ → Form → Outcome ParameterTree
-parameter_of w at named k (Whole ty is_const) = unless_incomplete w at ty (λ size. parameter_sized w at named k ty is_const)
+parameter_of w at named k (Plain ty is_const) = unless_incomplete w at ty (λ size. parameter_sized w at named k ty is_const)
 parameter_of w at named k form = unless_named_before w named (Refused (Unsupported at constructs.FunctionPointer))
 
 abbrev pub parameter_laid : Pos → Option DeclaredName → ℕ → Outcome Form → Outcome ParameterTree
@@ -191,9 +191,12 @@ unfoldable mutual
   Types w (written.PreStep at way operand) o = Then (Types w operand) (λ x w1. Is (nodes.stepped w1 at times.Before way x)) o
   Types w (written.Unary at op a) o = Then (Types w a) (λ x w1. Is (nodes.unary w1 at op x)) o
   Types w (written.SizeofExpr at a) o = Then (Types w a) (λ x w1. Is (nodes.size_of w1 at (operand_type x))) o
-  Types w (written.SizeofType at specs declarator) o = Then (OfTypeName (first_of at specs) (TypesSpecs w false no_specs_yet specs) (λ v. TypesDeclarator v declarator)) (λ form w1. Is (nodes.size_of_form w1 at form)) o
+  Types w (written.SizeofType at specs declarator) o =
+      Then (OfTypeName (first_of at specs) (TypesSpecs w false no_specs_yet specs) (λ v. TypesDeclarator v declarator))
+      (λ form w1. Is (nodes.size_of_form w1 at form)) o
   Types w (written.Cast at specs declarator a) o =
-      Then (OfTypeName (first_of at specs) (TypesSpecs w false no_specs_yet specs) (λ v. TypesDeclarator v declarator)) (λ form w1. Then (Valued (Types w1 a)) (λ e w2. Is (nodes.cast w2 at form e))) o
+      Then (OfTypeName (first_of at specs) (TypesSpecs w false no_specs_yet specs) (λ v. TypesDeclarator v declarator))
+      (λ form w1. Then (Valued (Types w1 a)) (λ e w2. Is (nodes.cast w2 at form e))) o
   Types w (written.Binary at op a b) o = Then (Valued (Types w a)) (λ x w1. Then (Valued (Types w1 b)) (λ y w2. Is (nodes.binary w2 at op x y))) o
   Types w (written.Cond at c a b) o =
       Then (Valued (Types w c)) (λ z w1. Then (Valued (Types w1 a)) (λ x w2. Then (Valued (Types w2 b)) (λ y w3. Is (nodes.conditional w3 at z x y)))) o
@@ -216,7 +219,7 @@ unfoldable mutual
   TypesSpec w alone (written.Const at) o = Is (Typed ConstPart w) o
   TypesSpec w alone (written.Basic at word) o = Is (Typed (WordPart word) w) o
   TypesSpec w alone (written.TypedefName at name) o = Is (typedef_named w at (meaning_of w name)) o
-  TypesSpec w alone (written.Struct at tag) o = Then (Is (struct_named w alone tag)) (λ n w1. Is (Typed (TypePart (Whole (Struct n) false)) w1)) o
+  TypesSpec w alone (written.Struct at tag) o = Then (Is (struct_named w alone tag)) (λ n w1. Is (Typed (TypePart (Plain (Struct n) false)) w1)) o
   TypesSpec w alone (written.StructBody at tag members) o =
       Then (Is (struct_opened w tag)) (λ n w1. Then (TypesMembers w1 [] members) (λ done w2. Is (struct_made w2 n done))) o
   TypesSpec w alone (written.Enum at tag) o = Then (Is (enum_named w tag)) (λ unit w1. Is (Typed enumerated w1)) o

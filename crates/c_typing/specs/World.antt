@@ -10,7 +10,7 @@ use Rattle.c_syntax.specs.Program.{StructDefTree, TFunctionTree}
 -- a type as a declaration gives it: one of objects (or void), and whether it is const; an array of such elements whose size is not told;
 -- or that of a function with these parameters and this result (C11 6.2.5p1)
 pub data Form : Type 0 where
-  Whole : CTypeTree → Bool → Form
+  Plain : CTypeTree → Bool → Form
   Unsized : CTypeTree → Bool → Form
   Callable : List CTypeTree → CTypeTree → Form
 

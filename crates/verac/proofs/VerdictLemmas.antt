@@ -14,7 +14,7 @@ use Rattle.verac.specs.declared.refusal.Refusal.TheVariants as refusals
 use Rattle.constant_form.specs.Tree.{ProgramTree}
 use Rattle.constant_form.specs.Form.{IsForm}
 use Rattle.verac.specs.Program.{IsSource, IsProgram}
-use Rattle.verac.specs.Verdict.{IsUnparsed, IsUnbuilt, IsRefused}
+use Rattle.verac.specs.Verdict.{IsUnparsed, IsUnbuilt, IsRefusedFor}
 use Rattle.constant_form.proofs.FormLemmas.{one_form}
 
 abbrev pub OneCut : Type 0
@@ -50,7 +50,7 @@ one_program cuts files bytes a b is other =
     let same : found ≡ file = one_source cuts files bytes found file found_source source in
     one_form file a b form (subst (λ (f : FileTree). IsForm f b) same found_form)
 
-pub not_both : OneCut → NotCutAndUncut → OneFile → NotFileAndRefused → (bytes : List ℕ) (program : ProgramTree) (r : Refusal) → length bytes ≤ 4194304 → IsProgram bytes program → IsRefused bytes r → ⊥
+pub not_both : OneCut → NotCutAndUncut → OneFile → NotFileAndRefused → (bytes : List ℕ) (program : ProgramTree) (r : Refusal) → length bytes ≤ 4194304 → IsProgram bytes program → IsRefusedFor bytes r → ⊥
 not_both cuts whole files parsed bytes program refusals.FileTooLarge small is large = absurd (omega arith)
 not_both cuts whole files parsed bytes program (refusals.Lexing reason at) small is (low, uncut) = let (file, (ts, cut, source), form) = is.read in whole 0 bytes ts at reason cut uncut
 not_both cuts whole files parsed bytes program (refusals.Syntax at) small is (low, r) = let (file, source, form) = is.read in not_unparsed cuts parsed bytes file Syntax at source r
@@ -76,7 +76,7 @@ data Kind (bytes : List ℕ) (r : Refusal) : Type 0 where
   large : 4194304 < length bytes → r ≡ refusals.FileTooLarge → Kind bytes r
   small : length bytes ≤ 4194304 → Cause bytes r → Kind bytes r
 
-kind_of : (bytes : List ℕ) (r : Refusal) → IsRefused bytes r → Kind bytes r
+kind_of : (bytes : List ℕ) (r : Refusal) → IsRefusedFor bytes r → Kind bytes r
 kind_of bytes refusals.FileTooLarge is = large is refl
 kind_of bytes (refusals.Lexing reason at) (low, is) = small low (uncut reason at is refl)
 kind_of bytes (refusals.Syntax at) (low, is) = small low (unparsed Syntax at is refl)
@@ -107,5 +107,5 @@ one_kind cuts uncuts whole refusal parsed bytes a b (large many e) (small few c)
 one_kind cuts uncuts whole refusal parsed bytes a b (small few c) (large many f) = absurd (omega arith)
 one_kind cuts uncuts whole refusal parsed bytes a b (small few c) (small less d) = one_cause cuts uncuts whole refusal parsed bytes a b c d
 
-pub one_verdict : OneCut → OneUncut → NotCutAndUncut → OneRefusal → NotFileAndRefused → (bytes : List ℕ) (a b : Refusal) → IsRefused bytes a → IsRefused bytes b → a ≡ b
+pub one_verdict : OneCut → OneUncut → NotCutAndUncut → OneRefusal → NotFileAndRefused → (bytes : List ℕ) (a b : Refusal) → IsRefusedFor bytes a → IsRefusedFor bytes b → a ≡ b
 one_verdict cuts uncuts whole refusal parsed bytes a b is also = one_kind cuts uncuts whole refusal parsed bytes a b (kind_of bytes a is) (kind_of bytes b also)

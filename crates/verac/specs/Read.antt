@@ -5,14 +5,14 @@ use Rattle.verac.specs.declared.program.Read.TheVariants as reads
 use Rattle.verac.specs.declared.refusal.Refusal.{Refusal}
 use Rattle.constant_form.specs.Tree.{ProgramTree, expr_tree, returning, HasConstants}
 use Rattle.verac.specs.Program.{IsProgram}
-use Rattle.verac.specs.Verdict.{IsRefused}
+use Rattle.verac.specs.Verdict.{IsRefusedFor}
 
 -- the bytes are this program, no other, and not refused
 pub record IsOneProgram (bytes : List ℕ) (program : ProgramTree) : Type 0 where
   pub is : IsProgram bytes program
   pub only : (other : ProgramTree) → IsProgram bytes other → other ≡ program
-  pub accepted : (r : Refusal) → IsRefused bytes r → ⊥
+  pub accepted : (r : Refusal) → IsRefusedFor bytes r → ⊥
 
 abbrev pub Tells : List ℕ → Read → Type 0
 Tells bytes (reads.Program e) = IsOneProgram bytes (returning (expr_tree e)) × HasConstants (expr_tree e)
-Tells bytes (reads.Refused r) = IsRefused bytes r
+Tells bytes (reads.Refused r) = IsRefusedFor bytes r

@@ -22,10 +22,10 @@ abbrev pub IsUnbuilt : List ℕ → Type 0
 IsUnbuilt bytes = (file : FileTree) × IsSource bytes file × ((program : ProgramTree) → IsForm file program → ⊥)
 
 -- the first of these for which the bytes are refused: their number, a place that is not cut into tokens, a token, and a form that is not built yet
-abbrev pub IsRefused : List ℕ → Refusal → Type 0
-IsRefused bytes refusals.FileTooLarge = 4194304 < length bytes
-IsRefused bytes (refusals.Lexing reason at) = (length bytes ≤ 4194304) × IsUncut 0 bytes at reason
-IsRefused bytes (refusals.Syntax at) = (length bytes ≤ 4194304) × IsUnparsed bytes Syntax at
-IsRefused bytes (refusals.Unsupported construct at) = (length bytes ≤ 4194304) × IsUnparsed bytes (Unsupported construct) at
-IsRefused bytes (refusals.TooDeep at) = (length bytes ≤ 4194304) × IsUnparsed bytes TooDeep at
-IsRefused bytes refusals.NotBuilt = (length bytes ≤ 4194304) × IsUnbuilt bytes
+abbrev pub IsRefusedFor : List ℕ → Refusal → Type 0
+IsRefusedFor bytes refusals.FileTooLarge = 4194304 < length bytes
+IsRefusedFor bytes (refusals.Lexing reason at) = (length bytes ≤ 4194304) × IsUncut 0 bytes at reason
+IsRefusedFor bytes (refusals.Syntax at) = (length bytes ≤ 4194304) × IsUnparsed bytes Syntax at
+IsRefusedFor bytes (refusals.Unsupported construct at) = (length bytes ≤ 4194304) × IsUnparsed bytes (Unsupported construct) at
+IsRefusedFor bytes (refusals.TooDeep at) = (length bytes ≤ 4194304) × IsUnparsed bytes TooDeep at
+IsRefusedFor bytes refusals.NotBuilt = (length bytes ≤ 4194304) × IsUnbuilt bytes

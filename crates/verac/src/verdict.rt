@@ -3,7 +3,7 @@ ghost use Rattle.std.specs.Prelude.{◌≡◌, ◌≤◌, ℕ, List, length};
 ghost use Rattle.verac.specs.declared.refusal.Refusal.{Refusal};
 ghost use Rattle.constant_form.specs.Tree.{ProgramTree};
 ghost use Rattle.verac.specs.Program.{IsProgram};
-ghost use Rattle.verac.specs.Verdict.{IsRefused};
+ghost use Rattle.verac.specs.Verdict.{IsRefusedFor};
 
 use c_grammar::{file_nor_refused, one_file, one_refusal};
 use c_lexer::{cut_nor_uncut, one_cut, one_uncut};
@@ -18,7 +18,7 @@ pub fn one_program()
 
 /// Bytes are refused for one reason at most, at one place.
 pub fn one_verdict()
-    ensures { (bytes : List ℕ) (a b : Refusal) → IsRefused bytes a → IsRefused bytes b → a ≡ b }
+    ensures { (bytes : List ℕ) (a b : Refusal) → IsRefusedFor bytes a → IsRefusedFor bytes b → a ≡ b }
 {
     one_cut();
     one_uncut();
@@ -29,7 +29,7 @@ pub fn one_verdict()
 
 /// Bytes that are a program are refused only where they are too many.
 pub fn program_nor_refused()
-    ensures { (bytes : List ℕ) (program : ProgramTree) (r : Refusal) → length bytes ≤ 4194304 → IsProgram bytes program → IsRefused bytes r → ⊥ }
+    ensures { (bytes : List ℕ) (program : ProgramTree) (r : Refusal) → length bytes ≤ 4194304 → IsProgram bytes program → IsRefusedFor bytes r → ⊥ }
 {
     one_cut();
     cut_nor_uncut();

@@ -2,7 +2,7 @@ use Rattle.std.proofs.Common.{◌<◌, ◌≤◌, max, map, take, length, ap, sy
 use Rattle.std.specs.Prelude.{fold}
 use Rattle.c_syntax.specs.Types.{ctype_tree}
 use Rattle.c_syntax.specs.Program.{member_tree, structdef_tree}
-use Rattle.c_layout.specs.Layout.{member_end, space_by, spaces_by, stored, strictest}
+use Rattle.c_layout.specs.Layout.{member_end, space_by, spaces_by, in_table, strictest}
 use Rattle.c_layout.specs.Kept.{kept}
 use Rattle.c_layout.proofs.Keeping.{kept_twice}
 use Rattle.c_layout.proofs.Spaces.{fold_members, take_spaces}
@@ -10,7 +10,7 @@ use Rattle.c_layout.proofs.layout.members_end.Goals as goal
 
 pub loop-member-preserved : goal.loop-member-preserved
 loop-member-preserved c =
-    let struct = stored (map structdef_tree c.args.structs.now) in
+    let struct = in_table (map structdef_tree c.args.structs.now) in
     let members = c.args.members.now in
     let i = c.loop-member.member-index in
     let m = c.member-item.result in
@@ -29,12 +29,12 @@ loop-member-preserved c =
 
 pub returns-clause-end : goal.returns-clause-end
 returns-clause-end c =
-    let struct = stored (map structdef_tree c.args.structs.now) in
+    let struct = in_table (map structdef_tree c.args.structs.now) in
     let done : length c.args.members.now ≤ c.loop-member.member-index = omega arith in
     c.loop-member.invariant.end ∙ ap (λ spaces. kept (fold member_end 0 spaces)) (take_spaces struct c.args.members.now c.loop-member.member-index done)
 
 pub returns-clause-strictest : goal.returns-clause-strictest
 returns-clause-strictest c =
-    let struct = stored (map structdef_tree c.args.structs.now) in
+    let struct = in_table (map structdef_tree c.args.structs.now) in
     let done : length c.args.members.now ≤ c.loop-member.member-index = omega arith in
     c.loop-member.invariant.align ∙ ap strictest (take_spaces struct c.args.members.now c.loop-member.member-index done)

@@ -3,7 +3,7 @@ use Rattle.std.specs.Prelude.{Some}
 use Rattle.std.proofs.lemmas.Grind.{common_steps}
 use Rattle.std.proofs.lemmas.List.{length-map}
 use Rattle.c_syntax.specs.Program.{member_tree, structdef_tree}
-use Rattle.c_layout.specs.Layout.{members_end, padded, spaces_by, stored, struct_space}
+use Rattle.c_layout.specs.Layout.{members_end, padded, spaces_by, in_table, struct_space}
 use Rattle.c_layout.specs.Kept.{kept}
 use Rattle.c_layout.proofs.Keeping.{kept_twice}
 use Rattle.c_layout.proofs.Spaces.{kept_as, struct_space-full}
@@ -11,7 +11,7 @@ use Rattle.c_layout.proofs.layout.members_room.Goals as goal
 
 pub returns : goal.returns
 returns c =
-    let struct = stored (map structdef_tree c.args.structs.now) in
+    let struct = in_table (map structdef_tree c.args.structs.now) in
     let spaces = spaces_by struct (map member_tree c.args.members.now) in
     let some : 0 < length c.args.members.now = grind (arith, common_steps) in
     let full : 0 < length spaces = simp length-map some in

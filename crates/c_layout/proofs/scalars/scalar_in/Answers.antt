@@ -34,7 +34,7 @@ overflow_sub-left c =
     let structs = map structdef_tree c.args.structs.now in
     let is = sym c.in-Some.ensures.innermost ∙ ap ctype_tree c.in-Struct.is ∙ ctype_struct c.in-Struct.n in
     let founded = c.requires.table.founded in
-    let low = deep_of_struct structs (ctype_tree c.loop-element.ty.now) c.in-Struct.n c.loop-element.left is c.loop-element.invariant.deep founded.rank founded.falls founded.bounded in
+    let low = deep_of_struct structs (ctype_tree c.loop-element.ty.now) c.in-Struct.n c.loop-element.left is c.loop-element.invariant.deep founded.height founded.falls founded.bounded in
     omega arith
 
 pub loop-element-smaller : goal.loop-element-smaller
@@ -42,7 +42,7 @@ loop-element-smaller c =
     let structs = map structdef_tree c.args.structs.now in
     let is = sym c.in-Some.ensures.innermost ∙ ap ctype_tree c.in-Struct.is ∙ ctype_struct c.in-Struct.n in
     let founded = c.requires.table.founded in
-    let low = deep_of_struct structs (ctype_tree c.loop-element.ty.now) c.in-Struct.n c.loop-element.left is c.loop-element.invariant.deep founded.rank founded.falls founded.bounded in
+    let low = deep_of_struct structs (ctype_tree c.loop-element.ty.now) c.in-Struct.n c.loop-element.left is c.loop-element.invariant.deep founded.height founded.falls founded.bounded in
     omega arith
 
 pub loop-element-preserved : goal.loop-element-preserved

@@ -26,12 +26,12 @@ held (Array of is_const n) = held of
 held (Struct n) = Some n
 held (Function n) = None
 
--- the rank falls from a struct to those that its members hold
+-- the height falls from a struct to those that its members hold
 abbrev pub Falls : List StructDefTree → (ℕ → ℕ) → Type 0
-Falls structs rank = (n : ℕ) → All (λ member. IfSome (held member.ty) (λ k. rank k < rank n)) (members_of structs n)
+Falls structs height = (n : ℕ) → All (λ member. IfSome (held member.ty) (λ k. height k < height n)) (members_of structs n)
 
--- no struct holds itself, directly or through others: each has a rank, of as many as there are structs, that falls
+-- no struct holds itself, directly or through others: each has a height, of as many as there are structs, that falls
 pub record NoneHoldsItself (structs : List StructDefTree) : Type 0 where
-  pub rank : ℕ → ℕ
-  pub bounded : (n : ℕ) → n < length structs → rank n < length structs
-  pub falls : Falls structs rank
+  pub height : ℕ → ℕ
+  pub bounded : (n : ℕ) → n < length structs → height n < length structs
+  pub falls : Falls structs height
