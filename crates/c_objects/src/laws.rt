@@ -1,6 +1,8 @@
 // What every memory of objects keeps.
-ghost use Rattle.std.specs.Prelude.{◌≡◌, ◌<◌, ℕ, List, length, None, Some};
+ghost use Rattle.std.specs.Prelude.{◌≡◌, ◌<◌, ℕ, List, length, IsSome, None, Some};
 ghost use Rattle.c_syntax.specs.Types.{ObjectTree};
+ghost use Rattle.c_syntax.specs.Program.{TProgramTree};
+ghost use Rattle.c_layout.specs.WellTyped.{IsStaticObject, IsWellTyped};
 ghost use Rattle.c_syntax.specs.TypedStmt.{TInitTree};
 ghost use Rattle.block_mem.specs.declared.types.Scalar.{Scalar};
 ghost use Rattle.block_mem.specs.declared.types.Value.{Value};
@@ -8,8 +10,9 @@ ghost use Rattle.block_mem.specs.Bytes.{IsOf};
 ghost use Rattle.block_mem.specs.Proper.{IsMade};
 ghost use Rattle.c_values.specs.Places as spots;
 ghost use Rattle.c_values.specs.Places.{place_of};
-ghost use Rattle.c_objects.specs.Kept.{IsKept};
+ghost use Rattle.c_objects.specs.Kept.{IsKept, KeepsObjects};
 ghost use Rattle.c_objects.specs.Opening.{no_objects, opened, shut, undefined};
+ghost use Rattle.c_objects.specs.Statics.{AreEightBits, AreWholeInitials, FitInitials, opened_statics, start};
 ghost use Rattle.c_objects.specs.Writing.{copied_at, rest, stored_at};
 
 /// Each block has the size and the mark of its object, and is that object's place while it lives; pieces name
@@ -29,4 +32,18 @@ pub fn memory_keeps()
         → IsKept objects n }
     ensures rest { (objects : List ObjectTree) (m : spots.ObjectMemory) (x : ℕ) (inits : List TInitTree) (n : spots.ObjectMemory) → IsKept objects m
         → rest m x inits ≡ Some n → IsKept objects n }
+{}
+
+/// The memory at the start of a run of a well typed program, whose initial bytes have eight bits as each in the
+/// code has: each object of static duration has a block, of its size and with its mark, and pieces name blocks
+/// that were made. Pointers are whole where the initial bytes have each pointer whole, which well typing alone
+/// does not ask of them. What `start` asks for is so.
+pub fn start_keeps()
+    ensures fits { (program : TProgramTree) → IsWellTyped program → FitInitials (opened_statics program.objects) program.initial }
+    ensures placed { (program : TProgramTree) → IsWellTyped program → AreEightBits program.initial → (x : ℕ) → IsStaticObject program x
+        → IsSome (place_of (start program.objects program.initial) x) }
+    ensures kept { (program : TProgramTree) → IsWellTyped program → AreEightBits program.initial
+        → KeepsObjects program.objects (start program.objects program.initial) }
+    ensures whole { (program : TProgramTree) → IsWellTyped program → AreEightBits program.initial → AreWholeInitials program.initial
+        → IsKept program.objects (start program.objects program.initial) }
 {}
