@@ -6,3 +6,4 @@ pub mod Writes
 pub mod Initials
 pub mod Beginning
 pub mod Starting
+pub mod Reading
