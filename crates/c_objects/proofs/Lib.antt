@@ -7,3 +7,4 @@ pub mod Initials
 pub mod Beginning
 pub mod Starting
 pub mod Reading
+pub mod OneScalar

@@ -1,7 +1,7 @@
 -- Numbers and spots of cells, as loads give them.
-use Rattle.std.proofs.Common.{◌≡◌, ℕ, ℤ, zero, suc, ◌+◌, ◌-◌, ◌*◌, ◌<◌, ◌≤◌, ◌^◌, pos, negsuc, Bool, true, false, refl, sym, subst, ap, ◌∙◌, arith, List, [], ◌∷◌}
+use Rattle.std.proofs.Common.{◌≡◌, ℕ, ℤ, suc, ◌+◌, ◌-◌, ◌*◌, ◌<◌, ◌≤◌, ◌^◌, pos, Bool, true, false, refl, sym, subst, ap, ◌∙◌, arith, List, [], ◌∷◌}
 use Rattle.std.proofs.Common.{length, Option, Some, None, inl, inr, ◌⊎◌, to_z}
-use Rattle.std.specs.Prelude.{◌-ℤ◌, ◌==◌, ◌&&◌, ◌↔◌, ltb, nat_le, if◌then◌else◌, IfSome, IsSomeAnd, slice_get, option_map, option_and_then, Result, Ok, Err}
+use Rattle.std.specs.Prelude.{◌-ℤ◌, ◌==◌, ◌↔◌, ltb, nat_le, if◌then◌else◌, IsSomeAnd, slice_get, option_map, option_and_then, Result, Ok, Err}
 use Rattle.std.specs.Int.{byte_len, cast_signed}
 use mir.Syntax.{Width}
 use mir.Val.{bits, hbits}
@@ -18,6 +18,7 @@ use Rattle.c_syntax.specs.declared.alarm.WrongKind.TheVariants.{Indeterminate, F
 use Rattle.c_syntax.specs.Types.{CTypeTree, ObjectTree}
 use Rattle.c_syntax.specs.Types as types
 use Rattle.c_syntax.specs.Program.{StructDefTree}
+use Rattle.c_layout.specs.LaidOut.{IsLaidOut}
 use Rattle.c_layout.specs.Scalars.{IsScalarAt}
 use Rattle.block_mem.specs.declared.types.Byte.{Byte}
 use Rattle.block_mem.specs.declared.types.Byte.TheVariants.{Undef, Num, Frag}
@@ -36,6 +37,7 @@ use Rattle.block_mem.proofs.Puts.{length-get}
 use Rattle.block_mem.proofs.StoreLaws.{passing}
 use Rattle.c_values.specs.Places.{ObjectMemory, place_of, spot}
 use Rattle.c_objects.specs.Cells.{with_sign, whole_number, cell_number, cell_spot, spot_loaded, is_read_signed, IsFoundAt, IsCellNumber, StandsInCell, LoadsFrom}
+use Rattle.c_objects.proofs.OneScalar.{found_at}
 
 -- ---- bytes as a number of a type
 
@@ -189,19 +191,11 @@ module _ (structs : List StructDefTree) (objects : List ObjectTree) (m : ObjectM
       → IsFoundAt structs object.ty cell.offset cell.size found → IsCellNumber structs objects m cell n ↔ (cell_number (is_read_signed found) m cell ≡ Some n)
   number_found object found n e f = (number_at object found n e f, λ h. record { object = object; is = e; found = found; scalar = f; number = h })
 
-  found_is : (whole ty : CTypeTree) (offset size : ℕ) (o : Option CTypeTree) → IsFoundAt structs whole offset size o → IsScalarAt structs whole offset size ty
-      → o ≡ Some ty
-  found_is whole ty offset size None f s = absurd (f.only ty s)
-  found_is whole ty offset size (Some x) f s = ap (λ t. Some t) (sym (f.only ty s))
-
-  pub number_typed : (t : IntType) (n : ℤ) → StandsInCell structs objects cell (types.Int t) → IsCellNumber structs objects m cell n
-      → cell_number (is_signed t) m cell ≡ Some n
-  number_typed t n h c =
+  pub number_typed : (t : IntType) (n : ℤ) → IsLaidOut structs → StandsInCell structs objects cell (types.Int t)
+      → IsCellNumber structs objects m cell n ↔ (cell_number (is_signed t) m cell ≡ Some n)
+  number_typed t n is h =
       let o = in_object (slice_get objects cell.object) (λ object. IsScalarAt structs object.ty cell.offset cell.size (types.Int t)) h in
-      let same : o.0 ≡ c.object = some_same o.0 c.object (sym o.1 ∙ c.is) in
-      let there = subst (λ (x : ObjectTree). IsScalarAt structs x.ty cell.offset cell.size (types.Int t)) same o.2 in
-      let found : c.found ≡ Some (types.Int t) = found_is c.object.ty (types.Int t) cell.offset cell.size c.found c.scalar there in
-      sym (ap (λ (x : Option CTypeTree). cell_number (is_read_signed x) m cell) found) ∙ c.number
+      number_found o.0 (Some (types.Int t)) n o.1 (found_at structs is o.0.ty cell.offset cell.size (types.Int t) o.2)
 
   pub number_one : (n k : ℤ) → IsCellNumber structs objects m cell n → IsCellNumber structs objects m cell k → n ≡ k
   number_one n k c d = some_same n k (sym c.number ∙ number_at c.object c.found k c.is c.scalar d)

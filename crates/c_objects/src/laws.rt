@@ -5,6 +5,8 @@ ghost use Rattle.c_written.specs.Integer.{is_signed};
 ghost use Rattle.c_syntax.specs.declared.alarm.Cell.{Cell};
 ghost use Rattle.c_syntax.specs.Types.{CTypeTree, Int, ObjectTree, Pointer};
 ghost use Rattle.c_syntax.specs.Program.{StructDefTree, TProgramTree};
+ghost use Rattle.c_layout.specs.Scalars.{IsScalarAt};
+ghost use Rattle.c_layout.specs.Tables.{IsTypedTable};
 ghost use Rattle.c_layout.specs.WellTyped.{IsStaticObject, IsWellTyped};
 ghost use Rattle.c_syntax.specs.TypedStmt.{TInitTree};
 ghost use Rattle.block_mem.specs.declared.types.Scalar.{Scalar};
@@ -55,14 +57,18 @@ pub fn start_keeps()
 {}
 
 /// The number of a cell is read at the integer type that stands at its offset and size in its object: a load at
-/// that type gives it, and a cell has one number at most. The spot of a cell where a pointer stands is that of
-/// the pointer that a load gives. What `scalar_at` of c_layout finds in the object's type says which.
+/// that type gives it, and a cell has one number at most. In a typed table one scalar at most stands there, which
+/// is what `scalar_at` of c_layout finds. The spot of a cell is that of the pointer that a load gives, and a
+/// pointer stands in a cell of 8 bytes.
 pub fn cells_are_read_at_their_types()
     ensures found { (structs : List StructDefTree) (objects : List ObjectTree) (m : spots.ObjectMemory) (cell : Cell) (object : ObjectTree)
         (found : Option CTypeTree) (n : ℤ) → slice_get objects cell.object ≡ Some object → IsFoundAt structs object.ty cell.offset cell.size found
         → IsCellNumber structs objects m cell n ↔ (cell_number (is_read_signed found) m cell ≡ Some n) }
+    ensures stands { (structs : List StructDefTree) (whole ty : CTypeTree) (offset size : ℕ) → IsTypedTable structs
+        → IsScalarAt structs whole offset size ty → IsFoundAt structs whole offset size (Some ty) }
     ensures typed { (structs : List StructDefTree) (objects : List ObjectTree) (m : spots.ObjectMemory) (cell : Cell) (t : IntType) (n : ℤ)
-        → StandsInCell structs objects cell (Int t) → IsCellNumber structs objects m cell n → cell_number (is_signed t) m cell ≡ Some n }
+        → IsTypedTable structs → StandsInCell structs objects cell (Int t)
+        → IsCellNumber structs objects m cell n ↔ (cell_number (is_signed t) m cell ≡ Some n) }
     ensures loaded { (structs : List StructDefTree) (objects : List ObjectTree) (m : spots.ObjectMemory) (cell : Cell) (t : IntType) (v : Value)
         → StandsInCell structs objects cell (Int t) → AreProper m.blocks → LoadsFrom m cell (scalars.Int t) v
         → (n : ℤ) × (v ≡ values.Int t n) × (cell_number (is_signed t) m cell ≡ Some n) }
