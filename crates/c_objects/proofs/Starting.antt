@@ -4,7 +4,7 @@ use Rattle.std.proofs.Common.{length, length-set, append_assoc, Option, Some, No
 use Rattle.std.specs.Prelude.{unwrap_or, IsSome, IsSomeAnd, IfSome, All, slice_get, slice_set, slice_index_or}
 use Rattle.std.proofs.lemmas.Bool.{cases_eq}
 use Rattle.std.proofs.lemmas.List.{take_more_set, append-nil, take_all, length-map}
-use Rattle.std.proofs.lemmas.List.Elements.{All-head, All-tail, All-weaker}
+use Rattle.std.proofs.lemmas.List.Elements.{All-nil, All-cons, All-head, All-tail, All-weaker}
 use Rattle.c_syntax.specs.declared.program.InitByte.{InitByte}
 use Rattle.c_syntax.specs.declared.program.InitByte.TheVariants as inits
 use Rattle.c_syntax.specs.declared.program.Initial.{Initial}
@@ -22,8 +22,9 @@ use Rattle.block_mem.proofs.Copies.{block-other, bytes-same, with-with, with-own
 use Rattle.block_mem.proofs.Whole.{whole_set}
 use Rattle.c_values.specs.Places.{ObjectMemory, place_of}
 use Rattle.c_objects.specs.Kept.{IsKept, KeepsObjects}
-use Rattle.c_objects.specs.Statics.{initial_byte, block_of, put_from, initial_at, with_initial, with_initials, opened_statics, start, HasBlock, FitsInitial}
-use Rattle.c_objects.specs.Statics.{FitInitials, HasEightBits, AreEightBits, HasPiece, AreWholeBytes, AreWholeInitials}
+use Rattle.c_objects.specs.Opening.{no_objects}
+use Rattle.c_objects.specs.Statics.{open_statics, initial_byte, block_of, put_from, initial_at, with_initial, with_initials, opened_statics, start, HasBlock, FitsInitial}
+use Rattle.c_objects.specs.Statics.{FitInitials, HasBitsIn, HasEightBits, AreEightBits, HasPiece, AreWholeBytes, AreWholeInitials}
 use Rattle.c_objects.specs.Writing.{with_blocks}
 use Rattle.c_objects.proofs.Keeping.{SameShape, same_shape}
 use Rattle.c_objects.proofs.Beginning.{opened_kept, static_placed}
@@ -230,3 +231,41 @@ module _ (program : TProgramTree) where
   pub start_fits : IsWellTyped program → FitInitials (opened_statics program.objects) program.initial
   start_fits w = All-weaker (IsTypedInitial program) (FitsInitial (opened_statics program.objects)) (fits_one (opened_statics program.objects) begun)
       program.initial w.initial
+
+-- ---- what the call of a well typed program gives
+
+bits_here : (o : Option ℕ) (b : ℕ) (P : Type 0) → o ≡ Some b → IfSome o (λ c. P) → P
+bits_here None b P e h = absurd (cc)
+bits_here (Some c) b P e h = h
+
+all_bits : (program : TProgramTree) (is : List Initial) → All (IsTypedInitial program) is → All (HasBitsIn (opened_statics program.objects)) is
+    → AreEightBits is
+all_bits program [] t h = All-nil (λ i. All HasEightBits i.bytes)
+all_bits program (i ∷ is) t h =
+    let m = opened_statics program.objects in
+    let p = static_placed program.objects i.object (All-head (IsTypedInitial program) i is t).object in
+    All-cons (λ j. All HasEightBits j.bytes) i is
+    (bits_here (place_of m i.object) p.0 (All HasEightBits i.bytes) p.1 (All-head (HasBitsIn m) i is h))
+    (all_bits program is (All-tail (IsTypedInitial program) i is t) (All-tail (HasBitsIn m) i is h))
+
+-- the code's blocks of static objects
+pub opened_by_code : {X : Type 0} (f : X → ObjectTree) (xs : List X) (new m : ObjectMemory) → new ≡ open_statics (map f xs) (map f xs) 0 m
+    → m ≡ no_objects (length xs) → new ≡ opened_statics (map f xs)
+opened_by_code f xs new m e h = e ∙ ap (open_statics (map f xs) (map f xs) 0) (h ∙ ap no_objects (sym (length-map xs f)))
+
+module _ (program : TProgramTree) (objects : List ObjectTree) (initials : List Initial) (first m : ObjectMemory) (at : first ≡ opened_statics objects)
+    (e : m ≡ with_initials first initials) (bits : All (HasBitsIn first) initials) (w : IsWellTyped program) (os : program.objects ≡ objects)
+    (is : program.initial ≡ initials) where
+  own_start : m ≡ start program.objects program.initial
+  own_start = e ∙ ap (λ x. with_initials x initials) at ∙ ap (λ x. start x initials) (sym os) ∙ ap (λ x. start program.objects x) (sym is)
+
+  own_bits : AreEightBits program.initial
+  own_bits = all_bits program program.initial w.initial
+      (subst (λ x. All (HasBitsIn (opened_statics program.objects)) x) (sym is)
+      (subst (λ x. All (HasBitsIn (opened_statics x)) initials) (sym os) (subst (λ (x : ObjectMemory). All (HasBitsIn x) initials) at bits)))
+
+  pub begins_kept : KeepsObjects program.objects m
+  begins_kept = subst (KeepsObjects program.objects) (sym own_start) (start_keeps_objects program w own_bits)
+
+  pub begins_whole : AreWholeInitials initials → IsKept program.objects m
+  begins_whole b = subst (IsKept program.objects) (sym own_start) (start_is_kept program w own_bits (subst AreWholeInitials (sym is) b))

@@ -72,6 +72,10 @@ abbrev pub HasEightBits : InitByte → Type 0
 HasEightBits (inits.Num n) = n < 256
 HasEightBits (inits.Piece object offset k) = Unit {0}
 
+-- the initial bytes of an object that lives have eight bits
+abbrev pub HasBitsIn : ObjectMemory → Initial → Type 0
+HasBitsIn m i = IfSome (place_of m i.object) (λ b. All HasEightBits i.bytes)
+
 -- the initial bytes of each object have eight bits
 abbrev pub AreEightBits : List Initial → Type 0
 AreEightBits initials = All (λ i. All HasEightBits i.bytes) initials
