@@ -1,5 +1,6 @@
 -- Initial values that are put in one after the other.
-use Rattle.std.proofs.Common.{◌≡◌, ℕ, suc, ◌+◌, ◌<◌, ◌≤◌, pos, refl, sym, subst, ap, ◌∙◌, arith, List, [], ◌∷◌, length, length-set, take, drop, drop-cons, Option}
+use Rattle.std.proofs.Common.{◌≡◌, ℕ, suc, ◌+◌, ◌<◌, ◌≤◌, pos, refl, sym, subst, ap}
+use Rattle.std.proofs.Common.{◌∙◌, arith, List, [], ◌∷◌, length, length-set, take, drop, drop-cons, Option}
 use Rattle.std.proofs.Common.{Some, None, inl, inr, ◌⊎◌}
 use Rattle.std.specs.Prelude.{All, IfSome, slice_set, slice_index_or}
 use Rattle.std.proofs.lemmas.Bool.{cases_eq, cases_lt}

@@ -23,7 +23,8 @@ use Rattle.block_mem.proofs.Whole.{whole_set}
 use Rattle.c_values.specs.Places.{ObjectMemory, place_of}
 use Rattle.c_objects.specs.Kept.{IsKept, KeepsObjects}
 use Rattle.c_objects.specs.Opening.{no_objects}
-use Rattle.c_objects.specs.Statics.{open_statics, initial_byte, block_of, put_from, initial_at, with_initial, with_initials, opened_statics, start, HasBlock, FitsInitial}
+use Rattle.c_objects.specs.Statics.{open_statics, initial_byte, block_of, put_from, initial_at, with_initial}
+use Rattle.c_objects.specs.Statics.{with_initials, opened_statics, start, HasBlock, FitsInitial}
 use Rattle.c_objects.specs.Statics.{FitInitials, HasBitsIn, HasEightBits, AreEightBits, HasPiece, AreWholeBytes, AreWholeInitials}
 use Rattle.c_objects.specs.Writing.{with_blocks}
 use Rattle.c_objects.proofs.Keeping.{SameShape, same_shape}

@@ -1,5 +1,6 @@
 -- What facts say of memory: the number and the spot of a cell, and the type as which its number is read.
-use Rattle.std.specs.Prelude.{ℕ, ℤ, pos, ◌≡◌, true, IfSome, IsSomeAnd, slice_get, ◌-ℤ◌, ◌*◌, ◌-◌, ◌^◌, ◌==◌, ◌&&◌, nat_le, Bool, if◌then◌else◌, List, length, Option, None, option_and_then, option_map, Some, Result, Ok, Err}
+use Rattle.std.specs.Prelude.{ℕ, ℤ, pos, ◌≡◌, true, IfSome, IsSomeAnd, slice_get, ◌-ℤ◌, ◌*◌, ◌-◌, ◌^◌, ◌==◌, ◌&&◌}
+use Rattle.std.specs.Prelude.{nat_le, Bool, if◌then◌else◌, List, length, Option, None, option_and_then, option_map, Some, Result, Ok, Err}
 use Rattle.c_syntax.specs.declared.alarm.Cell.{Cell}
 use Rattle.c_syntax.specs.declared.alarm.Spot.{Spot}
 use Rattle.c_syntax.specs.declared.alarm.WrongKind.{WrongKind}
@@ -36,7 +37,8 @@ spot_loaded m (Err kind) = None
 
 -- the spot of a cell: that of the pointer, or null, that a load of a pointer gives
 abbrev pub cell_spot : ObjectMemory → Cell → Option Spot
-cell_spot m cell = option_and_then (λ b. spot_loaded m (load m.blocks (record { block = b; offset = pos cell.offset }) scalars.Pointer)) (place_of m cell.object)
+cell_spot m cell =
+    option_and_then (λ b. spot_loaded m (load m.blocks (record { block = b; offset = pos cell.offset }) scalars.Pointer)) (place_of m cell.object)
 
 -- the scalar of so many bytes that stands at this offset of a type, or none
 pub record IsFoundAt (structs : List StructDefTree) (whole : CTypeTree) (offset size : ℕ) (found : Option CTypeTree) : Type 0 where

@@ -1,5 +1,6 @@
 -- Memory at the start of a run: objects of static duration live and have their initial bytes (C11 5.1.2, 6.2.4p3, 6.7.9p10).
-use Rattle.std.specs.Prelude.{ℕ, ℤ, suc, pos, ◌≡◌, ◌+◌, ◌<◌, ◌≤◌, if◌then◌else◌, slice_get, List, [], ◌∷◌, length, All, Option, None, Some, IfSome, IsSome, unwrap_or, slice_index_or}
+use Rattle.std.specs.Prelude.{ℕ, ℤ, suc, pos, ◌≡◌, ◌+◌, ◌<◌, ◌≤◌, if◌then◌else◌, slice_get, List}
+use Rattle.std.specs.Prelude.{[], ◌∷◌, length, All, Option, None, Some, IfSome, IsSome, unwrap_or, slice_index_or}
 use Rattle.c_syntax.specs.declared.program.InitByte.{InitByte}
 use Rattle.c_syntax.specs.declared.program.InitByte.TheVariants as inits
 use Rattle.c_syntax.specs.declared.program.Initial.{Initial}
