@@ -1,10 +1,11 @@
 -- Initial values that are put in one after the other.
-use Rattle.std.proofs.Common.{◌≡◌, ℕ, suc, ◌+◌, ◌<◌, ◌≤◌, pos, refl, sym, subst, ap, ◌∙◌, arith, List, [], ◌∷◌, length, length-set, drop, drop-cons, Option}
+use Rattle.std.proofs.Common.{◌≡◌, ℕ, suc, ◌+◌, ◌<◌, ◌≤◌, pos, refl, sym, subst, ap}
+use Rattle.std.proofs.Common.{◌∙◌, arith, List, [], ◌∷◌, length, length-set, take, drop, drop-cons, Option}
 use Rattle.std.proofs.Common.{Some, None, inl, inr, ◌⊎◌}
-use Rattle.std.specs.Prelude.{IfSome, slice_set, slice_index_or}
+use Rattle.std.specs.Prelude.{All, IfSome, slice_set, slice_index_or}
 use Rattle.std.proofs.lemmas.Bool.{cases_eq, cases_lt}
 use Rattle.std.proofs.lemmas.List.{get_or_past}
-use Rattle.std.proofs.lemmas.List.Elements.{All-weaker}
+use Rattle.std.proofs.lemmas.List.Elements.{All-weaker, All-more}
 use Rattle.c_syntax.specs.declared.program.InitByte.{InitByte}
 use Rattle.c_syntax.specs.declared.program.Initial.{Initial}
 use Rattle.block_mem.specs.declared.types.Byte.{Byte}
@@ -12,7 +13,7 @@ use Rattle.block_mem.specs.Block.{BlockView}
 use Rattle.block_mem.specs.Blocks.{no_block, block_at, with_bytes, set_byte}
 use Rattle.block_mem.proofs.Copies.{bytes-same, block-other}
 use Rattle.c_values.specs.Places.{ObjectMemory, place_of}
-use Rattle.c_objects.specs.Statics.{put_from, initial_byte, initial_at, with_initial, with_initials, FitsInitial, FitInitials}
+use Rattle.c_objects.specs.Statics.{put_from, initial_byte, initial_at, with_initial, with_initials, FitsInitial, FitInitials, HasBitsIn, HasEightBits}
 
 past_end : (m : List BlockView) (n : ℕ) (bs : List Byte) → length m ≤ n → block_at (with_bytes m n bs) n ≡ block_at m n
 past_end m n bs h =
@@ -65,3 +66,18 @@ more_initials first at new is k i l here h e =
       ap (λ m. with_initials m (drop (k + 1) is)) e ∙ sym (ap (λ xs. with_initials at xs) rest) ∙ h.0,
       subst (λ m. FitInitials m is) (sym e) (fit_after at i is h.1),
     )
+
+-- bytes that are put in move no object
+same_places : (m : ObjectMemory) (o : Option ℕ) (bs : List InitByte) → (initial_at m o bs).places ≡ m.places
+same_places m None bs = refl
+same_places m (Some b) bs = refl
+
+-- one more has its bits
+pub more_bits : (first at new : ObjectMemory) (is : List Initial) (k : ℕ) (i : Initial) → k < length is → slice_index_or is k i ≡ i
+    → (at.places ≡ first.places) × All (HasBitsIn first) (take k is) → new ≡ with_initial at i → HasBitsIn at i
+    → (new.places ≡ first.places) × All (HasBitsIn first) (take (k + 1) is)
+more_bits first at new is k i l here h e bits =
+    let places : new.places ≡ first.places = ap (λ (m : ObjectMemory). m.places) e ∙ same_places at (place_of at i.object) i.bytes ∙ h.0 in
+    let mine : HasBitsIn first i =
+    subst (λ (ps : List (Option ℕ)). IfSome (slice_index_or ps i.object None) (λ b. All HasEightBits i.bytes)) h.0 bits in
+    (places, All-more (HasBitsIn first) is k i l h.1 (subst (HasBitsIn first) (sym here) mine))

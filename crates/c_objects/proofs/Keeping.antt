@@ -120,7 +120,7 @@ module _ (objects : List ObjectTree) (m : ObjectMemory) (x : ℕ) (k : IsKept ob
 
 -- ---- memory in which nothing lives
 
-none_lives : (count y : ℕ) → place_of (no_objects count) y ≡ None
+pub none_lives : (count y : ℕ) → place_of (no_objects count) y ≡ None
 none_lives zero y = refl
 none_lives (suc n) zero = refl
 none_lives (suc n) (suc y) = none_lives n y

@@ -4,3 +4,7 @@ pub mod Shutting
 pub mod Zeroed
 pub mod Writes
 pub mod Initials
+pub mod Beginning
+pub mod Starting
+pub mod Reading
+pub mod OneScalar

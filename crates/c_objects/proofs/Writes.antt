@@ -1,8 +1,7 @@
 -- What is kept where bytes are written.
-use Rattle.std.proofs.Common.{◌≡◌, ℕ, zero, suc, ◌+◌, ◌<◌, ◌≤◌, ◌%◌, pos, Bool, true, false, refl, sym, subst, ap, ◌∙◌, arith, List, length, replicate, Option}
+use Rattle.std.proofs.Common.{◌≡◌, ℕ, zero, suc, ◌<◌, ◌≤◌, pos, Bool, true, false, refl, sym, subst, ◌∙◌, arith, List, length, replicate, Option}
 use Rattle.std.proofs.Common.{Some, None}
 use Rattle.std.specs.Prelude.{option_map, if◌then◌else◌}
-use Rattle.std.proofs.lemmas.Bool.{le-leb}
 use Rattle.std.proofs.lemmas.List.{length-replicate}
 use Rattle.c_written.specs.declared.int_type.IntType.TheVariants as ints
 use Rattle.c_syntax.specs.declared.alarm.WrongKind.{WrongKind}
@@ -14,14 +13,13 @@ use Rattle.block_mem.specs.declared.types.Scalar.{Scalar}
 use Rattle.block_mem.specs.declared.types.Scalar.TheVariants as scalars
 use Rattle.block_mem.specs.declared.types.Value.{Value}
 use Rattle.block_mem.specs.declared.types.Value.TheVariants as values
-use Rattle.block_mem.specs.Block.{BlockView}
 use Rattle.block_mem.specs.Blocks.{block_at, place, store, copy, wrong_access, with_undefined}
 use Rattle.block_mem.specs.Bytes.{IsOf, size_of, bytes_of}
 use Rattle.block_mem.specs.Proper.{IsMade}
 use Rattle.block_mem.proofs.Laws.{length-stored}
 use Rattle.block_mem.proofs.Proper.{proper-store, proper-copy, proper-undefine}
 use Rattle.block_mem.proofs.StoreLaws.{passing}
-use Rattle.block_mem.proofs.Whole.{whole-put, whole-copy, whole_set, whole-undefined}
+use Rattle.block_mem.proofs.Whole.{whole-store, whole-copy, whole_set, whole-undefined}
 use Rattle.c_values.specs.Places.{ObjectMemory, place_of}
 use Rattle.c_objects.specs.Kept.{IsKept}
 use Rattle.c_objects.specs.Opening.{undefined}
@@ -36,18 +34,6 @@ allowed : (w : Option WrongKind) (m : Option ObjectMemory) (n : ObjectMemory) �
 allowed None m n h = (refl, h)
 allowed (Some kind) m n h = absurd (cc)
 
-bytes_inside : (m : List BlockView) (b k n : ℕ) → (block_at m b).live ≡ true → k + n ≤ length (block_at m b).bytes
-    → wrong_access m (record { block = b; offset = pos k }) n 1 false ≡ None
-bytes_inside m b k n e h =
-    let one : k % 1 ≡ 0 = omega arith in
-    rw e (rw (le-leb (k + n) (length (block_at m b).bytes) h) (rw one refl))
-
--- an access that is allowed at its alignment is one at any place
-unaligned : (m : List BlockView) (at : pointers.Pointer) (n align : ℕ) → wrong_access m at n align false ≡ None → wrong_access m at n 1 false ≡ None
-unaligned m at n align h =
-    let p = passing m at n align false h in
-    ap (λ x. wrong_access m (record { block = at.block; offset = x }) n 1 false) p.offset ∙ bytes_inside m at.block (place at) n p.live p.inside
-
 module _ (objects : List ObjectTree) (m : ObjectMemory) (k : IsKept objects m) where
   kept_store : (at : pointers.Pointer) (ty : Scalar) (v : Value) (align : ℕ) → at.block < length m.blocks → IsOf ty v → IsMade (length m.blocks) v
       → wrong_access m.blocks at (size_of ty) align false ≡ None
@@ -57,7 +43,7 @@ module _ (objects : List ObjectTree) (m : ObjectMemory) (k : IsKept objects m) w
       kept_blocks objects m (store m.blocks at v) k (same_shape m.blocks at.block _ made
       (length-stored (block_at m.blocks at.block).bytes (place at) (bytes_of v)))
       (proper-store m.blocks at ty v made typed own p.inside k.proper)
-      ((whole-put m.blocks at ty v made typed (unaligned m.blocks at (size_of ty) align h)).whole k.whole)
+      ((whole-store m.blocks at ty v made typed p.inside).whole k.whole)
 
   pub kept_stored : (ty : Scalar) (to v : Value) (n : ObjectMemory) → IsMade (length m.blocks) to → IsOf ty v → IsMade (length m.blocks) v
       → stored_at m ty to v ≡ Some n → IsKept objects n

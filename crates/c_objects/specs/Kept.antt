@@ -25,6 +25,15 @@ pub record IsKept (objects : List ObjectTree) (m : ObjectMemory) : Type 0 where
   pub proper : AreProper m.blocks
   pub whole : AreWhole m.blocks
 
+-- the same, but that pointers may be in parts
+pub record KeepsObjects (objects : List ObjectTree) (m : ObjectMemory) : Type 0 where
+  pub owned : length m.owners ≡ length m.blocks
+  pub counted : length m.places ≡ length objects
+  pub fits : (b : ℕ) → b < length m.blocks → Fits objects m b
+  pub placed : (x b : ℕ) → place_of m x ≡ Some b → IsPlaced m x b
+  pub lives : (b : ℕ) → b < length m.blocks → (block_at m.blocks b).live ≡ true → place_of m (owner_of m b) ≡ Some b
+  pub proper : AreProper m.blocks
+
 -- no object has more than 2 to the 62 bytes, so that each offset that a check allows fits a pointer
 abbrev pub AreSmall : List ObjectTree → Type 0
 AreSmall objects = (x : ℕ) → IfSome (slice_get objects x) (λ object. object.size ≤ 2 ^ 62)

@@ -1,5 +1,6 @@
 -- Memory at the start of a run: objects of static duration live and have their initial bytes (C11 5.1.2, 6.2.4p3, 6.7.9p10).
-use Rattle.std.specs.Prelude.{ℕ, suc, pos, ◌≤◌, if◌then◌else◌, List, [], ◌∷◌, length, All, Option, None, Some, IfSome, IsSome, unwrap_or, slice_index_or}
+use Rattle.std.specs.Prelude.{ℕ, ℤ, suc, pos, ◌≡◌, ◌+◌, ◌<◌, ◌≤◌, if◌then◌else◌, slice_get, List}
+use Rattle.std.specs.Prelude.{[], ◌∷◌, length, All, Option, None, Some, IfSome, IsSome, unwrap_or, slice_index_or}
 use Rattle.c_syntax.specs.declared.program.InitByte.{InitByte}
 use Rattle.c_syntax.specs.declared.program.InitByte.TheVariants as inits
 use Rattle.c_syntax.specs.declared.program.Initial.{Initial}
@@ -55,7 +56,7 @@ opened_statics objects = open_statics objects objects 0 (no_objects (length obje
 abbrev pub start : List ObjectTree → List Initial → ObjectMemory
 start objects initials = with_initials (opened_statics objects) initials
 
--- the object that a piece points to has a block, and a number has eight bits
+-- the object that a piece points to has a block
 abbrev pub HasBlock : List (Option ℕ) → InitByte → Type 0
 HasBlock places (inits.Num n) = Unit {0}
 HasBlock places (inits.Piece object offset k) = IsSome (slice_index_or places object None)
@@ -66,3 +67,30 @@ FitsInitial m i = IfSome (place_of m i.object) (λ b. length i.bytes ≤ length 
 
 abbrev pub FitInitials : ObjectMemory → List Initial → Type 0
 FitInitials m initials = All (λ i. FitsInitial m i) initials
+
+-- a number among initial bytes has eight bits (C11 3.6), as each in the code has
+abbrev pub HasEightBits : InitByte → Type 0
+HasEightBits (inits.Num n) = n < 256
+HasEightBits (inits.Piece object offset k) = Unit {0}
+
+-- the initial bytes of an object that lives have eight bits
+abbrev pub HasBitsIn : ObjectMemory → Initial → Type 0
+HasBitsIn m i = IfSome (place_of m i.object) (λ b. All HasEightBits i.bytes)
+
+-- the initial bytes of each object have eight bits
+abbrev pub AreEightBits : List Initial → Type 0
+AreEightBits initials = All (λ i. All HasEightBits i.bytes) initials
+
+-- place q among initial bytes holds piece k of a pointer
+abbrev pub HasPiece : List InitByte → ℕ → ℕ → ℤ → ℕ → Type 0
+HasPiece bs q object offset k = slice_get bs q ≡ Some (inits.Piece object offset k)
+
+-- each piece among initial bytes stands among the eight of its pointer, 0 to 7 in their order
+abbrev pub AreWholeBytes : List InitByte → Type 0
+AreWholeBytes bs =
+    (q object : ℕ) (offset : ℤ) (k : ℕ) → HasPiece bs q object offset k
+    → (first : ℕ) × (first + k ≡ q) × ((j : ℕ) → j < 8 → HasPiece bs (first + j) object offset j)
+
+-- the pointers in the initial bytes of each object are whole
+abbrev pub AreWholeInitials : List Initial → Type 0
+AreWholeInitials initials = All (λ i. AreWholeBytes i.bytes) initials

@@ -1,9 +1,12 @@
 // Memory at the start of a run.
 ghost use Rattle.std.specs.Prelude.{◌≡◌, ◌<◌, ◌≤◌, ◌^◌, pos, All, IfOk, IsSome, length, map, OnOk};
 ghost use Rattle.c_syntax.specs.Types.{object_tree};
+ghost use Rattle.c_syntax.specs.Program.{TProgramTree};
+ghost use Rattle.c_layout.specs.WellTyped.{IsWellTyped};
 ghost use Rattle.block_mem.specs.Blocks.{block_at, set_byte};
+ghost use Rattle.c_objects.specs.Kept.{IsKept, KeepsObjects};
 ghost use Rattle.c_objects.specs.Statics as statics;
-ghost use Rattle.c_objects.specs.Statics.{FitInitials, FitsInitial, HasBlock, initial_byte};
+ghost use Rattle.c_objects.specs.Statics.{AreWholeInitials, FitInitials, FitsInitial, HasBitsIn, HasBlock, HasEightBits, initial_byte};
 ghost use Rattle.block_mem.specs.Proper.{IsProper};
 ghost use Rattle.c_values.specs.Places.{place_of};
 ghost use Rattle.c_objects.specs.Writing.{with_blocks};
@@ -15,14 +18,20 @@ use std::alloc::{AllocError as NoMemory, Global};
 
 impl ObjectMemory {
     /// The memory at the start of a run: each object of static duration lives, in the order of their
-    /// numbers, and has its initial bytes. The blocks of all are there before any byte is put in.
+    /// numbers, and has its initial bytes. The blocks of all are there before any byte is put in. Of a
+    /// well typed program it is one that calls keep; pointers in it are whole where the initial bytes
+    /// have each pointer whole.
     pub fn start(
         alloc: Global,
         objects: &[Object],
         initials: &[Initial],
     ) -> Result<ObjectMemory, NoMemory>
         requires { FitInitials (statics.opened_statics (map object_tree objects.now)) initials.now }
-        ensures { IfOk result (λ m. m ≡ statics.start (map object_tree objects.now) initials.now) }
+        ensures start { IfOk result (λ m. m ≡ statics.start (map object_tree objects.now) initials.now) }
+        ensures kept { IfOk result (λ m. (program : TProgramTree) → IsWellTyped program → program.objects ≡ map object_tree objects.now
+            → program.initial ≡ initials.now → KeepsObjects program.objects m) }
+        ensures whole { IfOk result (λ m. (program : TProgramTree) → IsWellTyped program → program.objects ≡ map object_tree objects.now
+            → program.initial ≡ initials.now → AreWholeInitials initials.now → IsKept program.objects m) }
     {
         let mut memory = ObjectMemory::new(alloc, objects.len())?;
         memory.open_statics(objects)?;
@@ -33,7 +42,8 @@ impl ObjectMemory {
     // Puts in the initial bytes of objects, in their order.
     fn put_initials(&mut self, initials: &[Initial])
         requires { FitInitials self.old initials.now }
-        ensures { self.new ≡ statics.with_initials self.old initials.now }
+        ensures put { self.new ≡ statics.with_initials self.old initials.now }
+        ensures bits { All (HasBitsIn self.old) initials.now }
     {
         for initial in initials {
             self.put_initial(initial);
@@ -56,7 +66,8 @@ impl ObjectMemory {
     // Puts in the initial bytes of an object.
     fn put_initial(&mut self, initial: &Initial)
         requires { FitsInitial self.old initial.now }
-        ensures { self.new ≡ statics.with_initial self.old initial.now }
+        ensures put { self.new ≡ statics.with_initial self.old initial.now }
+        ensures bits { HasBitsIn self.old initial.now }
     {
         if let Some(block) = self.place(initial.object) {
             self.put_bytes(block, initial.bytes.as_slice());
@@ -67,7 +78,8 @@ impl ObjectMemory {
         requires made { block < length self.old.blocks }
         requires inside { length bytes.now ≤ length (block_at self.old.blocks block).bytes }
         requires named { All (λ byte. HasBlock self.old.places byte) bytes.now }
-        ensures { self.new ≡ statics.with_initial_bytes self.old block bytes.now }
+        ensures put { self.new ≡ statics.with_initial_bytes self.old block bytes.now }
+        ensures bits { All HasEightBits bytes.now }
     {
         for (offset, byte) in bytes.iter().enumerate() {
             self.put_byte(block, offset, *byte);
@@ -79,7 +91,8 @@ impl ObjectMemory {
         requires inside { offset < length (block_at self.old.blocks block).bytes }
         requires small { offset < 2 ^ 63 }
         requires named { HasBlock self.old.places byte }
-        ensures { self.new ≡ with_blocks self.old (set_byte self.old.blocks (record { block = block; offset = pos offset }) (initial_byte self.old byte)) }
+        ensures put { self.new ≡ with_blocks self.old (set_byte self.old.blocks (record { block = block; offset = pos offset }) (initial_byte self.old byte)) }
+        ensures bits { HasEightBits byte }
     {
         let byte = self.initial_byte(byte);
         let at = Pointer {
@@ -94,6 +107,7 @@ impl ObjectMemory {
         requires { HasBlock self.now.places byte }
         ensures byte { result ≡ initial_byte self.now byte }
         ensures proper { IsProper (length self.now.blocks) result }
+        ensures bits { HasEightBits byte }
     {
         match byte {
             InitByte::Num(number) => Byte::Num(number),
