@@ -6,7 +6,7 @@ use Rattle.std.proofs.Math.Nat.{add-mul-mod_self_right, mod-eq_of_lt}
 use Rattle.c_syntax.specs.Types.{CTypeTree, Void, Int, Pointer, Array, Struct, Function}
 use Rattle.c_syntax.specs.Program.{MemberTree, StructDefTree}
 use Rattle.c_layout.specs.LaidOut.{IsLaidOut}
-use Rattle.c_layout.specs.Layout.{Space, member_end, space_by, members_of, stored, member_spaces, size_in, offset_at}
+use Rattle.c_layout.specs.Layout.{Space, member_end, space_by, members_of, in_table, member_spaces, size_in, offset_at}
 use Rattle.c_layout.specs.ProperTypes.{PartAt, whole, element as in_element, member as in_member}
 use Rattle.c_layout.specs.RowTypes.{IsScalar}
 use Rattle.c_layout.specs.Scalars.{IsScalarAt, HasNoParts}
@@ -45,7 +45,7 @@ module _ (structs : List StructDefTree) (is : IsLaidOut structs) where
   apart : (n j k a b : ℕ) (ta tb : CTypeTree) → IsMember n j a ta → IsMember n k b tb → j < k → a + unwrap_or (size_in structs ta) 0 ≤ b
   apart n j k a b ta tb f g lt =
       let spaces = member_spaces structs n in
-      let struct = stored structs in
+      let struct = in_table structs in
       let sa = member_space struct (members_of structs n) j ta f.there in
       let sb = member_space struct (members_of structs n) k tb g.there in
       let oa = offset_is spaces j (space_by struct ta) a sa f.begins in
