@@ -15,7 +15,9 @@ pub record IsWithin (m : List BlockView) (t : Transfer) : Type 0 where
 
 -- memory with one byte put in: the one that a copy takes at this index
 abbrev pub with_one : List BlockView → Transfer → ℕ → List BlockView
-with_one m t i = with_bytes m t.to_block (slice_set (block_at m t.to_block).bytes (t.to + i) (taken_byte t.from t.count (t.from + i) (slice_index_or (block_at m t.from_block).bytes (t.from + i) Undef)))
+with_one m t i = with_bytes m t.to_block
+    (slice_set (block_at m t.to_block).bytes (t.to + i)
+    (taken_byte t.from t.count (t.from + i) (slice_index_or (block_at m t.from_block).bytes (t.from + i) Undef)))
 
 -- memory with all bytes that a copy takes put in, and no pointer cut
 abbrev pub moved : List BlockView → Transfer → List BlockView

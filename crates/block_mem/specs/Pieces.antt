@@ -30,7 +30,8 @@ by_place f q (b ∷ bs) = f q b ∷ by_place f (suc q) bs
 abbrev pub is_cut : ℕ → ℕ → ℕ → ℕ → Bool
 is_cut at n q k = nat_lt 0 n && nat_lt k 8 && (nat_lt q at || nat_le (at + n) q) && nat_lt (at + k) (q + 8) && nat_lt q (at + n + k)
 
--- the byte of place q after the n bytes at `at` were overwritten: a piece that is left of a pointer of which they had a piece is Undef (this profile, "pointers in parts")
+-- the byte of place q after the n bytes at `at` were overwritten: a piece that is left of a pointer of which they had a piece is Undef (this profile,
+-- "pointers in parts")
 abbrev pub cut_byte : ℕ → ℕ → ℕ → Byte → Byte
 cut_byte at n q Undef = Undef
 cut_byte at n q (Num m) = Num m

@@ -1,4 +1,5 @@
--- Stored pointers that are whole, and what a write leaves of those that it overwrites in part, told by their contents. A pointer has the pieces 0 to 7; a piece of any other number, which only a byte put in by itself can be, belongs to none, and no write or copy cuts it.
+-- Stored pointers that are whole, and what a write leaves of those that it overwrites in part, told by their contents. A pointer has the pieces 0 to 7; a
+-- piece of any other number, which only a byte put in by itself can be, belongs to none, and no write or copy cuts it.
 use Rattle.std.specs.Prelude.{ℕ, ◌≡◌, ◌+◌, ◌<◌, ◌≤◌, ◌⊎◌, List, slice_index_or}
 use Rattle.block_mem.specs.declared.types.Byte.{Byte}
 use Rattle.block_mem.specs.declared.types.Byte.TheVariants.{Undef, Frag}
@@ -51,4 +52,5 @@ AreWhole m = (b : ℕ) → PointersAreWhole (block_at m b).bytes
 -- a write of n bytes where all pointers are whole leaves them whole, and of a pointer that it overwrites in part nothing
 pub record KeepsWhole (old new : List BlockView) (at : Pointer) (n : ℕ) : Type 0 where
   pub whole : AreWhole old → AreWhole new
-  pub left : AreWhole old → (q : ℕ) → IsOutside (place at) n q → IsLeft (block_at old at.block).bytes (place at) n q (slice_index_or (block_at new at.block).bytes q Undef)
+  pub left : AreWhole old → (q : ℕ) → IsOutside (place at) n q
+      → IsLeft (block_at old at.block).bytes (place at) n q (slice_index_or (block_at new at.block).bytes q Undef)

@@ -124,7 +124,8 @@ impl Memory {
         requires made { at.block < length self.old }
         requires typed { IsOf ty v }
         requires block { IsMade (length self.old) v }
-        ensures answer { MatchResult result (λ _. wrong_access self.old at (size_of ty) (size_of ty) true ≡ None) (λ k. wrong_access self.old at (size_of ty) (size_of ty) true ≡ Some k) }
+        ensures answer { MatchResult result (λ _. wrong_access self.old at (size_of ty) (size_of ty) true ≡ None)
+            (λ k. wrong_access self.old at (size_of ty) (size_of ty) true ≡ Some k) }
         ensures ok { OnOk result (self.new ≡ store self.old at v) }
         ensures err { OnErr result (self.new ≡ self.old) }
 

@@ -116,7 +116,8 @@ fn count_from(members: &[Member], offset: u64) -> usize
 fn only_scalar(ty: &CType, offset: u64, size: u64) -> Option<&CType>
     requires { HasNoParts (ctype_tree ty.now) }
     ensures there { (structs : List StructDefTree) → IfSome result (λ found. IsScalarAt structs (ctype_tree ty.now) offset size (ctype_tree found.now)) }
-    ensures only { (structs : List StructDefTree) → EachScalar structs (ctype_tree ty.now) offset size (λ t. IsSomeAnd result (λ found. t ≡ ctype_tree found.now)) }
+    ensures only { (structs : List StructDefTree)
+        → EachScalar structs (ctype_tree ty.now) offset size (λ t. IsSomeAnd result (λ found. t ≡ ctype_tree found.now)) }
 {
     if offset == 0 && is_scalar_of(ty, size) {
         Some(ty)

@@ -69,7 +69,8 @@ pub fn lex(alloc: Global, file: u32, bytes: &[u8]) -> Result<Tokens, LexError>
     // A text that has a cut is answered with it, unless memory runs out.
     ensures only_cut { (v : Tokens) → IsCut file bytes.now v → MatchResult result (λ w. w ≡ v) (λ e. e ≡ LexError.NoMemory) }
     // A text that has an uncut is answered with it, unless memory runs out.
-    ensures only_refused { (pos : Pos) (reason : Reason) → IsUncut file bytes.now pos reason → MatchResult result (λ w. ⊥) (λ e. (e ≡ error_at reason pos) ⊎ (e ≡ LexError.NoMemory)) }
+    ensures only_refused { (pos : Pos) (reason : Reason) → IsUncut file bytes.now pos reason
+        → MatchResult result (λ w. ⊥) (λ e. (e ≡ error_at reason pos) ⊎ (e ≡ LexError.NoMemory)) }
     ensures order { IfOk result (λ v. StandInOrder v.list) }
 {
     let mut tokens: Vec<Placed> = Vec::new(alloc);

@@ -122,7 +122,8 @@ unfoldable mutual
   expr_tree (exprs.Unary' at op operand_box operand) = Unary at op (expr_tree operand)
   expr_tree (exprs.SizeofExpr' at operand_box operand) = SizeofExpr at (expr_tree operand)
   expr_tree (exprs.SizeofType' at specs_box specs_shape specs declarator_box declarator) = SizeofType at (spec_rows specs) (declarator_tree declarator)
-  expr_tree (exprs.Cast' at specs_box specs_shape specs declarator_box declarator operand_box operand) = Cast at (spec_rows specs) (declarator_tree declarator) (expr_tree operand)
+  expr_tree (exprs.Cast' at specs_box specs_shape specs declarator_box declarator operand_box operand) =
+      Cast at (spec_rows specs) (declarator_tree declarator) (expr_tree operand)
   expr_tree (exprs.Binary' at op left_box left right_box right) = Binary at op (expr_tree left) (expr_tree right)
   expr_tree (exprs.Cond' at condition_box condition first_box first second_box second) = Cond at (expr_tree condition) (expr_tree first) (expr_tree second)
   expr_tree (exprs.Assign' at left_box left right_box right) = Assign at (expr_tree left) (expr_tree right)

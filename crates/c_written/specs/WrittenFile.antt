@@ -72,7 +72,8 @@ unfoldable mutual
   stmt_tree (stmts.Switch' at value body_box body) = Switch at (expr_tree value.value) (stmt_tree body)
   stmt_tree (stmts.While' at condition body_box body) = While at (expr_tree condition.value) (stmt_tree body)
   stmt_tree (stmts.DoWhile' at body_box body condition) = DoWhile at (stmt_tree body) (expr_tree condition.value)
-  stmt_tree (stmts.For' at head body_box body) = For at (forstart_tree head.value.start) (optional_tree head.value.condition) (optional_tree head.value.step) (stmt_tree body)
+  stmt_tree (stmts.For' at head body_box body) =
+      For at (forstart_tree head.value.start) (optional_tree head.value.condition) (optional_tree head.value.step) (stmt_tree body)
   stmt_tree (stmts.Goto at label) = Goto at label
   stmt_tree (stmts.Continue at) = Continue at
   stmt_tree (stmts.Break at) = Break at

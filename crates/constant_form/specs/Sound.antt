@@ -20,8 +20,10 @@ Covers program s operand alarm = IsInShown (objects_of program) operand alarm.sh
 
 -- for all inputs, each run that goes wrong is told of, and each alarm that tells of one covers it
 pub record IsSound (program : ProgramTree) (alarms : List Alarm) : Type 0 where
-  pub misses_none : (inputs : List ℤ) (chain : List Pos) (at : Pos) (kind : WrongKind) → IsWrongAt program inputs chain at kind → Any (TellsOf chain at kind) alarms
-  pub shows : (inputs : List ℤ) (s : State) (chain : List Pos) (at : Pos) (kind : WrongKind) (operand : Operand) → GoesWrong program inputs s chain at kind operand
+  pub misses_none : (inputs : List ℤ) (chain : List Pos) (at : Pos) (kind : WrongKind) → IsWrongAt program inputs chain at kind
+      → Any (TellsOf chain at kind) alarms
+  pub shows : (inputs : List ℤ) (s : State) (chain : List Pos) (at : Pos) (kind : WrongKind) (operand : Operand)
+      → GoesWrong program inputs s chain at kind operand
       → All (λ alarm. TellsOf chain at kind alarm → Covers program s operand alarm) alarms
 
 -- an alarm shows no more than runs reach: on any inputs the run goes wrong there, with a number that is both ends of what is shown

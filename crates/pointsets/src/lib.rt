@@ -224,8 +224,10 @@ pub fn bases_are_kept()
     ensures left { (s t : BaseSet) (b : Base) → IsTrue (has_base s b) → IsTrue (has_base (joined s t) b) }
     ensures right { (s t : BaseSet) (b : Base) → IsTrue (has_base t b) → IsTrue (has_base (joined s t) b) }
     ensures covered { (s t : BaseSet) (b : Base) → IsTrue (covers_set s t) → IsTrue (has_base t b) → IsTrue (has_base s b) }
-    ensures others { (s : BaseSet) (gone : List ℕ) (n : ℕ) → has_name gone n ≡ false → IsTrue (has_base s (Base.Object n)) → IsTrue (has_base (killed s gone) (Base.Object n)) }
-    ensures ended { (s : BaseSet) (gone : List ℕ) (n : ℕ) → IsTrue (has_name gone n) → IsTrue (has_base s (Base.Object n)) → IsTrue (has_base (killed s gone) Base.Dead) }
+    ensures others { (s : BaseSet) (gone : List ℕ) (n : ℕ) → has_name gone n ≡ false → IsTrue (has_base s (Base.Object n))
+        → IsTrue (has_base (killed s gone) (Base.Object n)) }
+    ensures ended { (s : BaseSet) (gone : List ℕ) (n : ℕ) → IsTrue (has_name gone n) → IsTrue (has_base s (Base.Object n))
+        → IsTrue (has_base (killed s gone) Base.Dead) }
     ensures dead { (s : BaseSet) (gone : List ℕ) → IsTrue (has_base s Base.Dead) → IsTrue (has_base (killed s gone) Base.Dead) }
     ensures null { (s : BaseSet) (gone : List ℕ) → IsTrue (has_base s Base.Null) → IsTrue (has_base (killed s gone) Base.Null) }
 {}

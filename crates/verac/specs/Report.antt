@@ -57,7 +57,9 @@ allowed_text check = if forbids_zero check.kind then codes "not 0" else ends_tex
 
 -- the operands that are shown, of which the built form has numbers alone
 abbrev pub shown_text : Check → Shown → List ℕ
-shown_text check (shows.Number lo hi modulus rem) = codes "value in [" ++ (low_text lo ++ (codes "," ++ (high_text hi ++ (codes "]" ++ (class_text modulus rem ++ (codes "; allowed " ++ allowed_text check))))))
+shown_text check (shows.Number lo hi modulus rem) =
+    codes "value in [" ++ (low_text lo ++ (codes ","
+    ++ (high_text hi ++ (codes "]" ++ (class_text modulus rem ++ (codes "; allowed " ++ allowed_text check))))))
 shown_text check shown = []
 
 abbrev pub example_text : Example → List ℕ
@@ -69,7 +71,8 @@ abbrev pub head_text : List ℕ → Pos → List ℕ → List ℕ
 head_text name at kind = name ++ (codes ":" ++ (decimal at.line ++ (codes ":" ++ (decimal at.col ++ (codes ": " ++ (kind ++ codes " in main"))))))
 
 unfoldable pub alarm_text : List ℕ → Alarm → List ℕ
-alarm_text name a = head_text name a.pos (kind_text a.kind) ++ (codes "\n  shown: " ++ (shown_text a.check a.shown ++ (codes "\n  example: " ++ (example_text a.example ++ codes "\n"))))
+alarm_text name a = head_text name a.pos (kind_text a.kind)
+    ++ (codes "\n  shown: " ++ (shown_text a.check a.shown ++ (codes "\n  example: " ++ (example_text a.example ++ codes "\n"))))
 
 -- the text of a list of alarms
 abbrev pub text_of : List ℕ → List Alarm → List ℕ
