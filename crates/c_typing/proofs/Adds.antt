@@ -1,10 +1,17 @@
 -- A world that is reached goes on from the one before: its objects and functions keep their numbers.
-use Rattle.std.proofs.Common.{◌≡◌, sym, ◌∙◌, subst, refl}
+use Rattle.std.proofs.Common.{◌≡◌, sym, ◌∙◌, subst, ap, refl}
 use Rattle.std.specs.Prelude.{ℕ, zero, suc, Option, Some, None, option_map, unwrap_or, IsSomeAnd, List, [], ◌∷◌, ◌++◌, set, slice_get}
+use Rattle.c_syntax.specs.Types.{CTypeTree}
+use Rattle.c_syntax.specs.Program.{StructDefTree}
+use Rattle.c_written.specs.WrittenFile.{OuterTree}
 use Rattle.c_typing.specs.World.{World, Typed}
+use Rattle.c_typing.specs.Context.{Context}
+use Rattle.c_typing.specs.File.{TypesOuters, nothing_yet}
 use Rattle.c_typing.specs.Decls.{sized_object}
-use Rattle.c_typing.specs.Laws.{IsSameFunction, IsSameObject, TypingAdds}
-use Rattle.c_typing.proofs.Reaches.{Reaches, Goes, typed, stays, after, named, literal, struct, tagged, tag_changed, completed, opens, scoped, object, counted, sized, initial, linked, defined, retyped, parameters, function, function_changed, labelled, cased, in_body}
+use Rattle.c_typing.specs.Laws.{has_members, IsSameFunction, IsSameObject, IsSameStruct, TypingAdds, StructsAreLaidOut}
+use Rattle.c_typing.proofs.MadeTables.{made_nothing, founded}
+use Rattle.c_typing.proofs.Good.{Good, Frame, complete_shut}
+use Rattle.c_typing.proofs.Reaches.{Reaches, kept, Goes, typed, stays, after, named, literal, struct, new_struct, enumeration, tag_changed, body, opens, scoped, object, counted, sized, initial, linked, defined, retyped, parameters, function, function_changed, labelled, cased, in_body}
 use Rattle.c_typing.proofs.FileGo.{outers}
 
 -- what stands in a list at this number, related to an item
@@ -65,52 +72,65 @@ objects_order = record {
   next = λ x y z a b. record { name = a.name ∙ b.name; pos = a.pos ∙ b.pos; read_only = a.read_only ∙ b.read_only; is_static = a.is_static ∙ b.is_static };
 }
 
--- the objects and the functions of one world are kept in another
-record Kept (w v : World) : Type 0 where
+signatures_order : Preorder {A = List CTypeTree} ◌≡◌
+signatures_order = record { same = λ types. refl; next = λ x y z a b. a ∙ b }
+
+-- the objects, the functions and their parameters' types of one world are kept in another
+record Continued (w v : World) : Type 0 where
   objects : Keep IsSameObject w.objects v.objects
   functions : Keep IsSameFunction w.functions v.functions
+  signatures : Keep ◌≡◌ w.signatures v.signatures
 
-kept_same : (w v : World) → v.objects ≡ w.objects → v.functions ≡ w.functions → Kept w v
-kept_same w v e f = record {
-  objects = subst (λ xs. Keep IsSameObject w.objects xs) (sym e) (keep_all objects_order w.objects);
+same_functions : (w v : World) → v.functions ≡ w.functions → v.signatures ≡ w.signatures → Keep IsSameObject w.objects v.objects → Continued w v
+same_functions w v f s k = record {
+  objects = k;
   functions = subst (λ xs. Keep IsSameFunction w.functions xs) (sym f) (keep_all functions_order w.functions);
+  signatures = subst (λ xs. Keep ◌≡◌ w.signatures xs) (sym s) (keep_all signatures_order w.signatures);
 }
 
-kept_objects : (w v : World) → Keep IsSameObject w.objects v.objects → v.functions ≡ w.functions → Kept w v
-kept_objects w v k f = record { objects = k; functions = subst (λ xs. Keep IsSameFunction w.functions xs) (sym f) (keep_all functions_order w.functions) }
+all_same : (w v : World) → v.objects ≡ w.objects → v.functions ≡ w.functions → v.signatures ≡ w.signatures → Continued w v
+all_same w v e f s = same_functions w v f s (subst (λ xs. Keep IsSameObject w.objects xs) (sym e) (keep_all objects_order w.objects))
 
-kept_functions : (w v : World) → v.objects ≡ w.objects → Keep IsSameFunction w.functions v.functions → Kept w v
-kept_functions w v e k = record { objects = subst (λ xs. Keep IsSameObject w.objects xs) (sym e) (keep_all objects_order w.objects); functions = k }
+same_objects : (w v : World) → v.objects ≡ w.objects → Keep IsSameFunction w.functions v.functions → Keep ◌≡◌ w.signatures v.signatures → Continued w v
+same_objects w v e f s = record { objects = subst (λ xs. Keep IsSameObject w.objects xs) (sym e) (keep_all objects_order w.objects); functions = f; signatures = s }
 
-kept : (w v : World) → Reaches w v → Kept w v
-kept w v (stays _) = kept_same w w refl refl
-kept w v (after _ u _ r s) =
-    let one = kept w u r in let two = kept u v s in record {
-      objects = keep_then objects_order w.objects u.objects v.objects one.objects two.objects;
-      functions = keep_then functions_order w.functions u.functions v.functions one.functions two.functions;
-    }
-kept w v (named _ at name meaning) = kept_same w _ refl refl
-kept w v (literal _ at bytes) = kept_objects w _ (keep_append objects_order w.objects _) refl
-kept w v (struct _ tag) = kept_same w _ refl refl
-kept w v (tagged _ tag d meaning) = kept_same w _ refl refl
-kept w v (tag_changed _ tag d meaning) = kept_same w _ refl refl
-kept w v (completed _ n members) = kept_same w _ refl refl
-kept w v (opens _) = kept_same w _ refl refl
-kept w v (scoped _ u r) = let inner = kept _ u r in record { objects = inner.objects; functions = inner.functions }
-kept w v (object _ x) = kept_objects w _ (keep_append objects_order w.objects _) refl
-kept w v (counted _ size) = kept_same w _ refl refl
-kept w v (sized _ n ty size) =
-    kept_objects w _ (keep_change objects_order w.objects n (sized_object ty size) (λ x. record { name = refl; pos = refl; read_only = refl; is_static = refl }) _ refl) refl
-kept w v (initial _ n bytes) = kept_same w _ refl refl
-kept w v (linked _ name meaning d) = kept_same w _ refl refl
-kept w v (defined _ name now) = kept_same w _ refl refl
-kept w v (retyped _ list) = kept_same w _ refl refl
-kept w v (parameters _ params) = kept_objects w _ (keep_append objects_order w.objects _) refl
-kept w v (function _ types f) = kept_functions w _ refl (keep_append functions_order w.functions _)
-kept w v (function_changed _ n change f) = kept_functions w _ refl (keep_change functions_order w.functions n change f _ refl)
-kept w v (labelled _ labels) = kept_same w _ refl refl
-kept w v (cased _ cases default) = kept_same w _ refl refl
-kept w v (in_body _ u first names tags r) = let inner = kept _ u r in record { objects = inner.objects; functions = inner.functions }
+continued_then : (w u v : World) → Continued w u → Continued u v → Continued w v
+continued_then w u v one two = record {
+  objects = keep_then objects_order w.objects u.objects v.objects one.objects two.objects;
+  functions = keep_then functions_order w.functions u.functions v.functions one.functions two.functions;
+  signatures = keep_then signatures_order w.signatures u.signatures v.signatures one.signatures two.signatures;
+}
+
+-- the same with other names and tags
+in_scope : (w x u v : World) → x.objects ≡ w.objects → x.functions ≡ w.functions → x.signatures ≡ w.signatures → v.objects ≡ u.objects → v.functions ≡ u.functions → v.signatures ≡ u.signatures → Continued x u → Continued w v
+in_scope w x u v a b c d e f k = continued_then w x v (all_same w x a b c) (continued_then x u v k (all_same u v d e f))
+
+continued : (w v : World) → Reaches w v → Continued w v
+continued w v (stays _) = all_same w w refl refl refl
+continued w v (after _ u _ r s) = continued_then w u v (continued w u r) (continued u v s)
+continued w v (named _ at name meaning) = all_same w _ refl refl refl
+continued w v (literal _ at bytes) = same_functions w _ refl refl (keep_append objects_order w.objects _)
+continued w v (struct _ tag) = all_same w _ refl refl refl
+continued w v (new_struct _ tag d) = all_same w _ refl refl refl
+continued w v (enumeration _ tag d) = all_same w _ refl refl refl
+continued w v (tag_changed _ tag at meaning) = all_same w _ refl refl refl
+continued w v (body _ u x n members r begun s are) = continued_then w u _ (continued w u r) (continued_then u x _ (continued u x s) (all_same x _ refl refl refl))
+continued w v (opens _) = all_same w _ refl refl refl
+continued w v (scoped _ u r) = in_scope w _ u _ refl refl refl refl refl refl (continued _ u r)
+continued w v (object _ x) = same_functions w _ refl refl (keep_append objects_order w.objects _)
+continued w v (counted _ size) = all_same w _ refl refl refl
+continued w v (sized _ n ty size) =
+    same_functions w _ refl refl (keep_change objects_order w.objects n (sized_object ty size) (λ x. record { name = refl; pos = refl; read_only = refl; is_static = refl }) _ refl)
+continued w v (initial _ n bytes) = all_same w _ refl refl refl
+continued w v (linked _ name meaning d) = all_same w _ refl refl refl
+continued w v (defined _ name now) = all_same w _ refl refl refl
+continued w v (retyped _ list) = all_same w _ refl refl refl
+continued w v (parameters _ params) = same_functions w _ refl refl (keep_append objects_order w.objects _)
+continued w v (function _ types f) = same_objects w _ refl (keep_append functions_order w.functions _) (keep_append signatures_order w.signatures _)
+continued w v (function_changed _ n change f) = same_objects w _ refl (keep_change functions_order w.functions n change f _ refl) (keep_all signatures_order w.signatures)
+continued w v (labelled _ labels) = all_same w _ refl refl refl
+continued w v (cased _ cases default) = all_same w _ refl refl refl
+continued w v (in_body _ u x first names tags r aside s) = continued_then w u _ (continued w u r) (in_scope u _ x _ refl refl refl refl refl refl (continued _ x s))
 
 is_some_and : {A : Type 0} {R : A → A → Type 0} (x : A) (ys : List A) (k : ℕ) → At R x ys k → IsSomeAnd (slice_get ys k) (R x)
 is_some_and {R = R} x ys k a = subst (λ o. IsSomeAnd o (R x)) (sym a.there) a.related
@@ -118,9 +138,36 @@ is_some_and {R = R} x ys k a = subst (λ o. IsSomeAnd o (R x)) (sym a.there) a.r
 reached : {w v : World} {A : Type 0} {a : A} → Goes w (Typed a v) → Reaches w v
 reached (typed r) = r
 
+-- ---- structs
+
+pub nothing_good : Good nothing_yet
+nothing_good = record { incomplete = λ n p. absurd p; distinct = tt; made = made_nothing }
+
+-- a world that declarations reach is good
+pub good_after : (w : World) (around : Context) (list : List OuterTree) → TypesOuters nothing_yet around list (Typed tt w) → Good w
+good_after w around list t = (kept nothing_yet w (reached (outers nothing_yet around list nothing_good _ t)) nothing_good).good
+
+-- a complete struct stays as it is, and others keep their tags
+same_struct : (w v : World) → Good w → Frame w v → (n : ℕ) (def : StructDefTree) → slice_get w.structs n ≡ Some def → IsSomeAnd (slice_get v.structs n) (IsSameStruct def)
+same_struct w v good f n def e =
+    let now = f.tags n def e in subst (λ o. IsSomeAnd o (IsSameStruct def)) (sym now.1) (record {
+      tag = sym now.2;
+      whole = λ c.
+          let shut = complete_shut w good n (ap (λ o. has_members (unwrap_or (option_map (λ d. d.members) o) [])) e ∙ c) in
+          some_is def now.0 (sym (f.same n def e shut) ∙ now.1);
+    })
+
 pub typing_adds : TypingAdds
-typing_adds w v around list t =
-    let k = kept w v (reached (outers w around list _ t)) in record {
+typing_adds around before behind w v s t =
+    let good = good_after w around before s in
+    let r = reached (outers w around behind good _ t) in
+    let k = continued w v r in record {
       objects = λ n x e. is_some_and x v.objects n (k.objects n x e);
       functions = λ n f e. is_some_and f v.functions n (k.functions n f e);
+      signatures = λ n types e. let at = k.signatures n types e in at.there ∙ ap Some (sym at.related);
+      structs = same_struct w v good (kept w v r good).frame;
     }
+
+pub structs_are_laid_out : StructsAreLaidOut
+structs_are_laid_out around list w t =
+    let made = (good_after w around list t).made in record { laid_out = made.laid_out; founded = founded w.structs made }

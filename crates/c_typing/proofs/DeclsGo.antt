@@ -1,5 +1,5 @@
 -- Initialisers and declarations only make the changes of Reaches.
-use Rattle.std.specs.Prelude.{ℕ, nat_lt, Bool, true, false, not, ◌&&◌, is_some, if◌then◌else◌, Option, Some, None, List, [], ◌∷◌, length}
+use Rattle.std.specs.Prelude.{ℕ, ◌^◌, ◌==◌, nat_lt, Bool, true, false, not, ◌&&◌, is_some, if◌then◌else◌, Option, Some, None, List, [], ◌∷◌, length}
 use Rattle.c_written.specs.declared.place.Pos.{Pos}
 use Rattle.c_written.specs.declared.construct.Construct.TheVariants as constructs
 use Rattle.c_written.specs.declared.written.StorageWord.{StorageWord}
@@ -25,7 +25,7 @@ use Rattle.c_typing.specs.Context.{Context}
 use Rattle.c_typing.specs.Decls as decls
 use Rattle.c_typing.specs.Decls.{Declares, AnObject, NoObject, ObjectNow, FileObject, Made, TypesInitOf, TypesInitDeclarators, TypesDecl}
 use Rattle.c_typing.proofs.Reaches as reaches
-use Rattle.c_typing.proofs.Reaches.{Reaches, Goes, typed, refused, goes_same, goes_if, goes_unless, goes_after, AllGo, then_goes, is_goes}
+use Rattle.c_typing.proofs.Reaches.{Reaches, Goes, typed, refused, goes_same, goes_if, goes_unless, goes_after, AllGo, all_forget, then_goes, is_goes}
 use Rattle.c_typing.proofs.NodesGo.{within_limits}
 use Rattle.c_typing.proofs.TypesGo.{unless_declared, if_sized, laid, with_its_name, type_told, valued, go, go_specs, go_declarator}
 
@@ -49,7 +49,7 @@ either true f g = f
 either false f g = g
 
 pub into : {A : Type 0} {w : World} {structs : _} {takes : CTypeTree → Bool} {part : Part} {a : Aggregates} {next : Part → Aggregates → Outcome A → Type 0} → ((p : Part) (b : Aggregates) → AllGo w (next p b)) → AllGo w (Into structs takes part a next)
-into f o s = f s.part2 s.after o s.goes
+into f good o s = f s.part2 s.after good o s.goes
 
 pub with_text : (w : World) (static : Bool) (part : Part) (at : Pos) (text : List ℕ) → AllGo w (WithText w static part at text)
 with_text w static part at text =
@@ -208,7 +208,11 @@ declared w around first storage base has_init shape =
 
 pub measured : (w : World) (object : ObjectNow) (by : Initialised) → Goes w (decls.measured w object by)
 measured w object by =
-    goes_if object.measured (within_limits object.pos _ w (typed (reaches.after _ _ _ (reaches.sized w object.number _ _) (reaches.counted _ _)))) goes_same
+    let ty = decls.measured_type object.ty by.count in
+    let size = decls.size_or_zero w ty in
+    goes_if object.measured
+    (goes_unless (by.count == 0) (NotConstant object.pos) (goes_unless (nat_lt (2 ^ 40) size) (ObjectTooLarge object.pos (2 ^ 40))
+    (within_limits object.pos size w (typed {a = ty} (reaches.after _ _ _ (reaches.sized w object.number ty size) (reaches.counted _ size)))))) (goes_same {a = object.ty})
 
 pub with_static : (w : World) (object : ObjectNow) (ty : CTypeTree) (by : Initialised) → Reaches w (decls.with_static w object ty by)
 with_static w object ty by = at object.is_static
@@ -231,7 +235,7 @@ pub init_declarators : (w : World) (around : Context) (first : Pos) (storage : L
 unfolding TypesInitDeclarators
 init_declarators w around first storage base done [] = is_goes goes_same
 init_declarators w around first storage base done (item ∷ rest) =
-    then_goes (go_declarator w item.declarator) (λ shape v r. then_goes (is_goes (declared v around first storage base (is_some item.init) shape)) (λ what v2 r2.
+    then_goes (all_forget (go_declarator w item.declarator)) (λ shape v r. then_goes (is_goes (declared v around first storage base (is_some item.init) shape)) (λ what v2 r2.
     then_goes (init_of v2 what item.init) (λ made v3 r3. init_declarators v3 around first storage base _ rest)))
 
 pub decl : (w : World) (around : Context) (tree : DeclTree) → AllGo w (TypesDecl w around tree)

@@ -16,7 +16,7 @@ use Rattle.c_typing.specs.World.{World, Form, Plain, Unsized, Callable, Binding,
 use Rattle.c_typing.specs.Names.{opened, closed}
 use Rattle.c_typing.specs.Constants.{constant_value}
 use Rattle.c_typing.specs.Specifiers as specifiers
-use Rattle.c_typing.specs.Declarators.{DeclaredName, ParameterTree, Step, PointerTo, ArrayOf, OpenArray, FunctionOf}
+use Rattle.c_typing.specs.Declarators.{DeclaredName, ParameterTree, Step, PointerTo, ArrayOf, OpenArray, FunctionOf, Shape}
 use Rattle.c_typing.specs.Typing as typing
 use Rattle.c_typing.specs.Context.{Context, in_function, inside_block, inside_loop, inside_switch}
 use Rattle.c_typing.specs.Decls.{Made, nothing_made, is_word}
@@ -25,9 +25,10 @@ use Rattle.c_typing.specs.Stmts.{TypesStmt, without_cases}
 use Rattle.c_typing.specs.File as whole
 use Rattle.c_typing.specs.File.{Begun, TypesOuter, TypesOuters}
 use Rattle.c_typing.proofs.Reaches as reaches
-use Rattle.c_typing.proofs.Reaches.{Reaches, Goes, typed, refused, goes_same, goes_if, goes_unless, goes_after, AllGo, then_goes, scope_goes, is_goes}
+use Rattle.c_typing.proofs.Good.{Good, IsAside, good_in, aside_kept}
+use Rattle.c_typing.proofs.Reaches.{Reaches, Kept, kept, Goes, typed, refused, goes_same, goes_if, goes_unless, goes_after, AllGo, then_goes, scope_goes, is_goes, enters, GoesWith, typed_so, AllWith}
 use Rattle.c_typing.proofs.NodesGo.{within_limits, tested}
-use Rattle.c_typing.proofs.TypesGo.{unless_declared, laid, type_told, valued, go, go_specs, go_declarator}
+use Rattle.c_typing.proofs.TypesGo.{unless_declared, laid, type_told, AreAside, ShapeIn, asides_kept, valued, go, go_specs, go_declarator}
 use Rattle.c_typing.proofs.DeclsGo.{function_declared, decl}
 
 -- ---- statements
@@ -78,10 +79,10 @@ perhaps w f None = is_goes goes_same
 perhaps w f (Some e) = then_goes (f w e) (λ x v r. is_goes goes_same)
 
 pub substatement : (w : World) (at : Pos) {types : World → Outcome TStmtTrees → Type 0} → ((v : World) → AllGo v (types v)) → AllGo w (stmts.OfSubstatement w at types)
-substatement w at f = scope_goes (f (opened w)) (λ items v r. is_goes (typed (reaches.scoped w v r)))
+substatement w at f = scope_goes enters (f (opened w)) (λ items v r. is_goes (typed (reaches.scoped w v r)))
 
 pub block : (w : World) {types : World → Outcome Made → Type 0} (node : Made → TStmtTree) → ((v : World) → AllGo v (types v)) → AllGo w (stmts.OfBlock w types node)
-block w node f = scope_goes (f (opened w)) (λ made v r. is_goes (typed (reaches.scoped w v r)))
+block w node f = scope_goes enters (f (opened w)) (λ made v r. is_goes (typed (reaches.scoped w v r)))
 
 pub switched_by : (w : World) (at : Pos) (e : TExprTree) (ty : CTypeTree) → Goes w (stmts.switched_by w at e ty)
 switched_by w at e Void = refused
@@ -108,8 +109,12 @@ pub with_cases : {A : Type 0} {w v : World} {a : A} → Reaches (opened w) v →
 with_cases {w = w} {v = v} r = typed (reaches.after _ _ _ (reaches.scoped w v r) (reaches.cased _ w.cases w.default))
 
 -- one part after the other inside a scope that the last one closes
-pub inside : {A B : Type 0} {u w v : World} {first : Outcome A → Type 0} {next : A → World → Outcome B → Type 0} → Reaches u w → AllGo w first → ((a : A) (x : World) → Reaches u x → AllGo v (next a x)) → AllGo v (Then first next)
-inside r f g = scope_goes f (λ a x s. g a x (reaches.after _ _ _ r s))
+pub inside : {A B : Type 0} {w v : World} {first : Outcome A → Type 0} {next : A → World → Outcome B → Type 0} → Reaches (opened w) v → AllGo v first → ((a : A) (x : World) → Reaches (opened w) x → AllGo w (next a x)) → AllGo w (Then first next)
+inside {w = w} {v = v} r f g = scope_goes (λ good. (kept (opened w) v r (enters good)).good) f (λ a x s. g a x (reaches.after _ _ _ r s))
+
+-- from a switch to the statement that it has
+to_cases : {u v : World} → Reaches u v → Reaches u (opened (without_cases v))
+to_cases {v = v} r = reaches.after _ _ _ r (reaches.after _ _ _ (reaches.cased v [] None) (reaches.opens _))
 
 mutual
   unfolding TypesStmt stmts.TypesItems
@@ -125,22 +130,22 @@ mutual
   go_stmt w around (files.Empty at) = is_goes goes_same
   go_stmt w around (files.Expression at e) = then_goes (dropped w e) (λ x v r. is_goes goes_same)
   go_stmt w around (files.If at c first) =
-      scope_goes (condition (opened w) at c) (λ x v r. inside r (substatement v _ (λ u. go_stmt u (inside_block around) first)) (λ a v2 r2. is_goes (in_scope r2)))
+      scope_goes enters (condition (opened w) at c) (λ x v r. inside r (substatement v _ (λ u. go_stmt u (inside_block around) first)) (λ a v2 r2. is_goes (in_scope r2)))
   go_stmt w around (files.IfElse at c first second) =
-      scope_goes (condition (opened w) at c) (λ x v r. inside r (substatement v _ (λ u. go_stmt u (inside_block around) first)) (λ a v2 r2.
+      scope_goes enters (condition (opened w) at c) (λ x v r. inside r (substatement v _ (λ u. go_stmt u (inside_block around) first)) (λ a v2 r2.
       inside r2 (substatement v2 _ (λ u. go_stmt u (inside_block around) second)) (λ b v3 r3. is_goes (in_scope r3))))
   go_stmt w around (files.Switch at value (files.Block block_at items)) =
-      scope_goes (switch_value (opened w) at value) (λ s v r. inside (reaches.after _ _ _ r (reaches.cased v [] None))
+      scope_goes enters (switch_value (opened w) at value) (λ s v r. inside (reaches.after _ _ _ r (reaches.cased v [] None))
       (block (without_cases v) _ (λ u. go_items u (inside_switch s.ty around) nothing_made items)) (λ made v2 r2. is_goes (with_cases r2)))
   go_stmt w around (files.Switch at value body) =
-      scope_goes (switch_value (opened w) at value) (λ s v r. scope_goes (go_stmt (opened (without_cases v)) (inside_switch s.ty around) body) (λ items v2 r2.
-      is_goes (with_cases (reaches.after _ _ _ r (reaches.after _ _ _ (reaches.cased v [] None) (reaches.after _ _ _ (reaches.opens _) r2))))))
+      scope_goes enters (switch_value (opened w) at value) (λ s v r. scope_goes (λ good. (kept _ _ (to_cases r) (enters good)).good) (go_stmt (opened (without_cases v)) (inside_switch s.ty around) body) (λ items v2 r2.
+      is_goes (with_cases (reaches.after _ _ _ (to_cases r) r2))))
   go_stmt w around (files.While at c body) =
-      scope_goes (condition (opened w) at c) (λ x v r. inside r (substatement v _ (λ u. go_stmt u (inside_loop around) body)) (λ b v2 r2. is_goes (in_scope r2)))
+      scope_goes enters (condition (opened w) at c) (λ x v r. inside r (substatement v _ (λ u. go_stmt u (inside_loop around) body)) (λ b v2 r2. is_goes (in_scope r2)))
   go_stmt w around (files.DoWhile at body c) =
-      scope_goes (substatement (opened w) _ (λ u. go_stmt u (inside_loop around) body)) (λ b v r. inside r (condition v at c) (λ x v2 r2. is_goes (in_scope r2)))
+      scope_goes enters (substatement (opened w) _ (λ u. go_stmt u (inside_loop around) body)) (λ b v r. inside r (condition v at c) (λ x v2 r2. is_goes (in_scope r2)))
   go_stmt w around (files.For at s c step body) =
-      scope_goes (start (opened w) (inside_block around) s) (λ made v r. inside r (perhaps v (λ u e. condition u at e) c) (λ x v2 r2.
+      scope_goes enters (start (opened w) (inside_block around) s) (λ made v r. inside r (perhaps v (λ u e. condition u at e) c) (λ x v2 r2.
       inside r2 (perhaps v2 dropped step) (λ y v3 r3. inside r3 (substatement v3 _ (λ u. go_stmt u (inside_loop around) body)) (λ b v4 r4. is_goes (in_scope r4)))))
   go_stmt w around (files.Goto at name) = is_goes (jumped w at _)
   go_stmt w around (files.Continue at) = is_goes (allowed w at around.continues _)
@@ -155,10 +160,10 @@ mutual
 
 -- ---- functions with bodies
 
--- the head of a definition leaves the scope of its body
-pub data Heads (w : World) : Outcome Begun → Type 0 where
-  heads : (begun : Begun) (first : ℕ) (names : List Binding) (tags : List TagBinding) → Reaches w begun.outside → Heads w (Typed begun (whole.in_body begun.outside first names tags))
-  no_head : {r : _} → Heads w (Refused r)
+-- the head of a definition leaves the scope of its body, with the tags that its parameter list left aside; all from the world before its declarator
+pub data Heads (t : World) : Outcome Begun → Type 0 where
+  heads : (begun : Begun) (first : ℕ) (names : List Binding) (tags : List TagBinding) → Reaches t begun.outside → IsAside t begun.outside tags → Heads t (Typed begun (whole.in_body begun.outside first names tags))
+  no_head : {r : _} → Heads t (Refused r)
 
 pub with_counted : (params : List ParameterTree) (w : World) → Goes w (whole.with_counted w params)
 unfolding whole.with_counted
@@ -166,52 +171,81 @@ with_counted [] w = goes_same
 with_counted (param ∷ rest) w =
     within_limits param.pos _ w (goes_after (reaches.after _ _ _ (reaches.object w _) (reaches.counted _ _)) (with_counted rest _))
 
-pub body_begins : {w : World} (n first : ℕ) (named : DeclaredName) (result : CTypeTree) (params : List ParameterTree) (names : List Binding) (tags : List TagBinding) (o : Outcome ⊤) → Goes w o → Heads w (whole.body_begins n first named result params names tags o)
-body_begins n first named result params names tags (Typed unit v) (typed r) =
-    heads _ first names tags (reaches.after _ _ _ r (reaches.function_changed v n _ (λ f. record { name = refl; result = refl })))
-body_begins n first named result params names tags (Refused q) p = no_head
+-- a world behind the declarator, and the tags aside
+record Behind (t w : World) (tags : List TagBinding) : Type 0 where
+  reached : Reaches t w
+  aside : IsAside t w tags
+  good : Good w
 
-pub definition_begins : {w : World} (named : DeclaredName) (result : CTypeTree) (params : List ParameterTree) (names : List Binding) (tags : List TagBinding) (o : Outcome (Option ℕ)) → Goes w o → Heads w (whole.definition_begins w named result params names tags o)
-definition_begins named result params names tags (Typed (Some n) v) (typed r) =
-    body_begins n (length v.objects) named result params names tags _ (goes_after r (with_counted params v))
-definition_begins named result params names tags (Typed None v) p = no_head
-definition_begins named result params names tags (Refused q) p = no_head
+behind_then : {t w v : World} {tags : List TagBinding} → Behind t w tags → Reaches w v → Behind t v tags
+behind_then {t = t} {w = w} {v = v} {tags = tags} b r =
+    let k = kept w v r b.good in record { reached = reaches.after t w v b.reached r; aside = aside_kept t w v tags k.frame b.aside; good = k.good }
 
-pub definition_of : (w : World) (around : Context) (named : DeclaredName) (steps : List Step) (form : Form) → Heads w (whole.definition_of w around named steps form)
-definition_of w around named [] form = no_head
-definition_of w around named (PointerTo c ∷ rest) form = no_head
-definition_of w around named (ArrayOf at n ∷ rest) form = no_head
-definition_of w around named (OpenArray ∷ rest) form = no_head
-definition_of w around named (FunctionOf params names tags ∷ rest) (Plain ty c) = no_head
-definition_of w around named (FunctionOf params names tags ∷ rest) (Unsized ty c) = no_head
-definition_of w around named (FunctionOf params names tags ∷ rest) (Callable types result) =
-    definition_begins named result params names tags _ (function_declared w around named params types result true)
+body_begins : {t w : World} (n first : ℕ) (named : DeclaredName) (result : CTypeTree) (params : List ParameterTree) (names : List Binding) (tags : List TagBinding) (o : Outcome ⊤) → Behind t w tags → Goes w o → Heads t (whole.body_begins n first named result params names tags o)
+body_begins n first named result params names tags (Typed unit v) b (typed r) =
+    let last = behind_then b (reaches.after _ _ _ r (reaches.function_changed v n _ (λ f. record { name = refl; result = refl }))) in
+    heads _ first names tags last.reached last.aside
+body_begins n first named result params names tags (Refused q) b p = no_head
 
-pub heads_after : {u w : World} {o : Outcome Begun} → Reaches u w → Heads w o → Heads u o
-heads_after r (heads begun first names tags s) = heads begun first names tags (reaches.after _ _ _ r s)
-heads_after r no_head = no_head
+definition_begins : {t w : World} (named : DeclaredName) (result : CTypeTree) (params : List ParameterTree) (names : List Binding) (tags : List TagBinding) (o : Outcome (Option ℕ)) → Behind t w tags → Goes w o → Heads t (whole.definition_begins w named result params names tags o)
+definition_begins named result params names tags (Typed (Some n) v) b (typed r) =
+    body_begins n (length v.objects) named result params names tags _ (behind_then b r) (with_counted params v)
+definition_begins named result params names tags (Typed None v) b p = no_head
+definition_begins named result params names tags (Refused q) b p = no_head
 
-pub heads_if : {w : World} (b : Bool) {x y : Outcome Begun} → Heads w x → Heads w y → Heads w (if b then x else y)
+definition_of : (t w : World) (around : Context) (named : DeclaredName) (steps : List Step) (form : Form) → Good w → Reaches t w → AreAside t w steps → Heads t (whole.definition_of w around named steps form)
+definition_of t w around named [] form good r a = no_head
+definition_of t w around named (PointerTo c ∷ rest) form good r a = no_head
+definition_of t w around named (ArrayOf at n ∷ rest) form good r a = no_head
+definition_of t w around named (OpenArray ∷ rest) form good r a = no_head
+definition_of t w around named (FunctionOf params names tags ∷ rest) (Plain ty c) good r a = no_head
+definition_of t w around named (FunctionOf params names tags ∷ rest) (Unsized ty c) good r a = no_head
+definition_of t w around named (FunctionOf params names tags ∷ rest) (Callable types result) good r a =
+    definition_begins named result params names tags _ (record { reached = r; aside = a.0; good = good }) (function_declared w around named params types result true)
+
+heads_if : {t : World} (b : Bool) {x y : Outcome Begun} → Heads t x → Heads t y → Heads t (if b then x else y)
 heads_if true p q = p
 heads_if false p q = q
 
-pub definition_laid : {w : World} (around : Context) (named : DeclaredName) (storage : List StorageWord) (steps : List Step) (o : Outcome Form) → Goes w o → Heads w (whole.definition_laid around named storage steps o)
-definition_laid around named storage steps (Typed form v) (typed r) = heads_after r (heads_if (is_word Typedef storage) no_head (definition_of v around named steps form))
-definition_laid around named storage steps (Refused q) p = no_head
+definition_laid : (t w : World) (around : Context) (named : DeclaredName) (storage : List StorageWord) (steps : List Step) (o : Outcome Form) → Good w → Reaches t w → AreAside t w steps → Goes w o → Heads t (whole.definition_laid around named storage steps o)
+definition_laid t w around named storage steps (Typed form v) good r a (typed s) =
+    let k = kept w v s good in
+    heads_if (is_word Typedef storage) no_head (definition_of t v around named steps form k.good (reaches.after t w v r s) (asides_kept t w v steps k.frame a))
+definition_laid t w around named storage steps (Refused q) good r a p = no_head
 
-pub definition : (w : World) (around : Context) (first : Pos) (storage : List StorageWord) (steps : List Step) (base : Form) (name : Option DeclaredName) → Heads w (whole.definition_named w around first storage steps base name)
-definition w around first storage steps base None = no_head
-definition w around first storage steps base (Some named) = definition_laid around named storage steps _ (laid w named.pos steps base)
+pub definition : (t w : World) (around : Context) (first : Pos) (storage : List StorageWord) (steps : List Step) (base : Form) (name : Option DeclaredName) → Good w → Reaches t w → AreAside t w steps → Heads t (whole.definition_named w around first storage steps base name)
+definition t w around first storage steps base None good r a = no_head
+definition t w around first storage steps base (Some named) good r a = definition_laid t w around named storage steps _ good r a (laid w named.pos steps base)
 
--- a head, and what comes behind it
-pub head_goes : {w : World} {x : Outcome Begun} {next : Begun → World → Outcome ⊤ → Type 0} → Heads w x → ((begun : Begun) (v : World) → Heads w (Typed begun v) → AllGo w (next begun v)) → AllGo w (Then (Is x) next)
-head_goes {w = w} h f o (goes_on {a = begun} {w = v} p s) = f begun v (subst (λ z. Heads w z) (sym p) h) o s
-head_goes h f _ (stops p) = refused
+-- the scope of the body
+pub in_scope_of : {t : World} {begun : Begun} {v : World} → Good t → Heads t (Typed begun v) → Good v
+in_scope_of {t = t} good (heads begun first names tags r aside) = good_in t begun.outside _ tags refl refl aside (kept t begun.outside r good).good
 
 -- from the head of a definition to its end
-pub ended : {w v u : World} {begun : Begun} (brace : Pos) (made : Made) → Heads w (Typed begun v) → Reaches v u → Reaches w (whole.definition_ends begun brace made u)
-ended {u = u} {begun = begun} brace made (heads _ first names tags r) s =
-    reaches.after _ _ _ r (reaches.after _ _ _ (reaches.in_body begun.outside u first names tags s) (reaches.function_changed _ begun.number _ (λ f. record { name = refl; result = refl })))
+pub ended : {t v u : World} {begun : Begun} (brace : Pos) (made : Made) → Heads t (Typed begun v) → Reaches v u → Reaches t (whole.definition_ends begun brace made u)
+ended {u = u} {begun = begun} brace made (heads _ first names tags r aside) s =
+    reaches.after _ _ _ (reaches.in_body _ begun.outside u first names tags r aside s) (reaches.function_changed _ begun.number _ (λ f. record { name = refl; result = refl }))
+
+-- a head, its body and what comes behind it
+head_goes :
+    {t : World} {x : Outcome Begun} {items : Begun → World → Outcome Made → Type 0} (brace : Pos) → Good t → Heads t x → ((begun : Begun) (v : World) → AllGo v (items begun v))
+    → (o : Outcome ⊤) → Then (Is x) (λ begun v. Then (items begun v) (λ made u. Is (Typed (tt {0}) (whole.definition_ends begun brace made u)))) o → Goes t o
+head_goes {t = t} brace good h f o (goes_on {a = begun} {w = v} p s) =
+    let head = subst (λ z. Heads t z) (sym p) h in
+    scope_goes (λ g. in_scope_of g head) (f begun v) (λ made u r. is_goes (typed (ended brace made head r))) good o s
+head_goes brace good h f _ (stops p) = refused
+
+-- a declarator, and the definition that it heads
+definition_goes :
+    {t : World} {first : Outcome Shape → Type 0} {x : Shape → World → Outcome Begun} {items : Begun → World → Outcome Made → Type 0} (brace : Pos)
+    → AllWith t (ShapeIn t) first
+    → ((shape : Shape) (w : World) → Good w → Reaches t w → AreAside t w shape.steps → Heads t (x shape w)) → ((begun : Begun) (v : World) → AllGo v (items begun v))
+    → AllGo t (Then first (λ shape w. Then (Is (x shape w)) (λ begun v. Then (items begun v) (λ made u. Is (Typed (tt {0}) (whole.definition_ends begun brace made u))))))
+definition_goes {t = t} {x = x} brace f g h good o (goes_on {a = shape} {w = w} p s) = by (f good _ p)
+  where
+    by : GoesWith t (ShapeIn t) (Typed shape w) → Goes t o
+    by (typed_so r a) = head_goes brace good (g shape w (kept t w r good).good r a) h o s
+definition_goes brace f g h good _ (stops p) = refused
 
 -- ---- the file
 
@@ -220,9 +254,9 @@ outer w around (files.Declared d) = then_goes (decl w around d) (λ made v r. is
 outer w around (files.Function at specs declarator brace body) =
     then_goes (go_specs w _ _ specs) (λ s v r.
     then_goes (is_goes (type_told specifiers.OfDeclaration (typing.first_of at specs) s v)) (λ base v2 r2.
-    then_goes (go_declarator v2 declarator) (λ shape v3 r3.
-    head_goes (definition v3 around (typing.first_of at specs) s.storage shape.steps base shape.name) (λ begun v4 h.
-    scope_goes (go_items v4 (in_function begun.result body around) nothing_made body) (λ made v5 r5. is_goes (typed (ended brace made h r5)))))))
+    definition_goes brace (go_declarator v2 declarator)
+    (λ shape v3 good r3 a. definition v2 v3 around (typing.first_of at specs) s.storage shape.steps base shape.name good r3 a)
+    (λ begun v4. go_items v4 (in_function begun.result body around) nothing_made body)))
 
 pub outers : (w : World) (around : Context) (list : List OuterTree) → AllGo w (TypesOuters w around list)
 unfolding TypesOuters

@@ -1,4 +1,8 @@
 pub mod One
+pub mod Opens
+pub mod MadeTables
+pub mod MadeMembers
+pub mod Good
 pub mod Reaches
 pub mod NodesGo
 pub mod TypesGo
@@ -6,4 +10,6 @@ pub mod DeclsGo
 pub mod FileGo
 pub mod Adds
 pub mod OneFile
+pub mod Some
+pub mod SomeFile
 pub mod Samples

@@ -1,11 +1,11 @@
 -- How a world goes on: each change that typing makes, and what parts of the text it makes it for.
-use Rattle.std.proofs.Common.{sym, subst}
-use Rattle.std.specs.Prelude.{ℕ, Bool, true, false, if◌then◌else◌, Option, None, List, []}
+use Rattle.std.proofs.Common.{◌≡◌, refl, sym, subst}
+use Rattle.std.specs.Prelude.{ℕ, Bool, true, false, if◌then◌else◌, Option, None, Some, List, []}
 use Rattle.c_written.specs.declared.place.Pos.{Pos}
 use Rattle.c_written.specs.declared.written.Tag.{Tag}
 use Rattle.c_syntax.specs.Types.{CTypeTree}
 use Rattle.c_syntax.specs.Program.{MemberTree}
-use Rattle.c_typing.specs.World.{World, Meaning, TagMeaning, Outcome, Typed, Refused, Refusal, Then, goes_on, stops, Is, unless}
+use Rattle.c_typing.specs.World.{World, Meaning, TagMeaning, OpenEnumTag, Outcome, Typed, Refused, Refusal, Then, goes_on, stops, Is, unless}
 use Rattle.c_typing.specs.Names.{opened, closed, with_name, with_struct, with_tag, with_tag_become, with_members, with_literal, with_initial}
 use Rattle.c_syntax.specs.declared.program.InitByte.{InitByte}
 use Rattle.c_syntax.specs.Types.{ObjectTree}
@@ -15,6 +15,8 @@ use Rattle.c_typing.specs.Declarators.{DeclaredName, ParameterTree}
 use Rattle.c_typing.specs.Decls as decls
 use Rattle.c_typing.specs.File as files
 use Rattle.c_typing.specs.Laws.{IsSameFunction}
+use Rattle.c_typing.proofs.MadeTables.{AreMade}
+use Rattle.c_typing.proofs.Good.{Good, Frame, IsBegun, IsAside, with_new, frame_then, frame_same, frame_struct, frame_new, frame_enum, frame_changed, frame_closed, frame_body, frame_in, frame_shut, good_same, good_struct, good_new, good_enum, good_changed, good_closed, good_body, good_in}
 
 -- one world is had from another by the changes that typing makes
 pub data Reaches : World → World → Type 0 where
@@ -23,9 +25,10 @@ pub data Reaches : World → World → Type 0 where
   named : (w : World) (at : Pos) (name : List ℕ) (meaning : Meaning) → Reaches w (with_name w at name meaning)
   literal : (w : World) (at : Pos) (bytes : List ℕ) → Reaches w (with_literal w at bytes)
   struct : (w : World) (tag : List ℕ) → Reaches w (with_struct w tag)
-  tagged : (w : World) (tag : Tag) (defined : Option Pos) (meaning : TagMeaning) → Reaches w (with_tag w tag defined meaning)
-  tag_changed : (w : World) (tag : List ℕ) (defined : Option Pos) (meaning : TagMeaning) → Reaches w (with_tag_become w tag defined meaning)
-  completed : (w : World) (n : ℕ) (members : List MemberTree) → Reaches w (with_members w n members)
+  new_struct : (w : World) (tag : Tag) (defined : Option Pos) → Reaches w (with_new w tag defined)
+  enumeration : (w : World) (tag : Tag) (defined : Option Pos) → Reaches w (with_tag w tag defined OpenEnumTag)
+  tag_changed : (w : World) (tag : List ℕ) (at : Pos) (meaning : TagMeaning) → Reaches w (with_tag_become w tag (Some at) meaning)
+  body : (u w v : World) (n : ℕ) (members : List MemberTree) → Reaches u w → IsBegun u w n → Reaches w v → AreMade v.structs members → Reaches u (with_members v n members)
   opens : (w : World) → Reaches w (opened w)
   scoped : (u v : World) → Reaches (opened u) v → Reaches u (closed u v)
   object : (w : World) (x : ObjectTree) → Reaches w (decls.with_object w x)
@@ -40,7 +43,53 @@ pub data Reaches : World → World → Type 0 where
   function_changed : (w : World) (n : ℕ) (change : TFunctionTree → TFunctionTree) → ((f : TFunctionTree) → IsSameFunction f (change f)) → Reaches w (files.with_function_at w n change)
   labelled : (w : World) (labels : List Labelled) → Reaches w (record w { labels = labels })
   cased : (w : World) (cases : List CaseAt) (default : Option Pos) → Reaches w (record w { cases = cases; default = default })
-  in_body : (u v : World) (first : ℕ) (names : List Binding) (tags : List TagBinding) → Reaches (files.in_body u first names tags) v → Reaches u (record (closed u v) { labels = []; cases = []; default = None })
+  in_body : (t u v : World) (first : ℕ) (names : List Binding) (tags : List TagBinding) → Reaches t u → IsAside t u tags → Reaches (files.in_body u first names tags) v → Reaches t (record (closed u v) { labels = []; cases = []; default = None })
+
+-- a world that is reached is good, and keeps the structs of the one before
+pub record Kept (w v : World) : Type 0 where
+  pub good : Good v
+  pub frame : Frame w v
+
+kept_same : (w v : World) → v.structs ≡ w.structs → v.tags ≡ w.tags → Good w → Kept w v
+kept_same w v s t good = record { good = good_same w v s t good; frame = frame_same w v s t }
+
+pub kept : (w v : World) → Reaches w v → Good w → Kept w v
+kept w v (stays _) good = kept_same w w refl refl good
+kept w v (after _ u _ r s) good =
+    let one = kept w u r good in let two = kept u v s one.good in record { good = two.good; frame = frame_then w u v one.frame two.frame }
+kept w v (named _ at name meaning) good = kept_same w _ refl refl good
+kept w v (literal _ at bytes) good = kept_same w _ refl refl good
+kept w v (struct _ tag) good = record { good = good_struct w tag good; frame = frame_struct w tag }
+kept w v (new_struct _ tag d) good = record { good = good_new w tag d good; frame = frame_new w tag d }
+kept w v (enumeration _ tag d) good = record { good = good_enum w tag d good; frame = frame_enum w tag d }
+kept w v (tag_changed _ tag at m) good = record { good = good_changed w tag at m good; frame = frame_changed w tag at m }
+kept w v (body _ u x n members r begun s are) good =
+    let one = kept w u r good in let two = kept u x s one.good in record {
+      good = good_body w u x n members begun two.frame two.good are;
+      frame = frame_body w x n members begun.from (frame_then w u x one.frame two.frame);
+    }
+kept w v (opens _) good = kept_same w _ refl refl good
+kept w v (scoped _ u r) good =
+    let inner = kept (opened w) u r (good_same w _ refl refl good) in record { good = good_closed w u inner.good; frame = frame_closed w u inner.frame }
+kept w v (object _ x) good = kept_same w _ refl refl good
+kept w v (counted _ size) good = kept_same w _ refl refl good
+kept w v (sized _ n ty size) good = kept_same w _ refl refl good
+kept w v (initial _ n bytes) good = kept_same w _ refl refl good
+kept w v (linked _ name meaning d) good = kept_same w _ refl refl good
+kept w v (defined _ name now) good = kept_same w _ refl refl good
+kept w v (retyped _ list) good = kept_same w _ refl refl good
+kept w v (parameters _ params) good = kept_same w _ refl refl good
+kept w v (function _ types f) good = kept_same w _ refl refl good
+kept w v (function_changed _ n change f) good = kept_same w _ refl refl good
+kept w v (labelled _ labels) good = kept_same w _ refl refl good
+kept w v (cased _ cases default) good = kept_same w _ refl refl good
+kept w v (in_body _ u x first names tags r aside s) good =
+    let one = kept w u r good in
+    let frame = frame_in w u (files.in_body u first names tags) tags refl refl aside one.frame in
+    let two = kept (files.in_body u first names tags) x s (good_in w u _ tags refl refl aside one.good) in record {
+      good = good_same (closed u x) _ refl refl (good_closed u x two.good);
+      frame = frame_then w (closed u x) _ (frame_shut w u x (frame_then w (files.in_body u first names tags) x frame two.frame)) (frame_same (closed u x) _ refl refl);
+    }
 
 -- what is typed goes on from this world
 pub data Goes {A : Type 0} (w : World) : Outcome A → Type 0 where
@@ -61,27 +110,91 @@ goes_if false p q = q
 pub goes_unless : {A : Type 0} {w : World} (b : Bool) (r : Refusal) {x : Outcome A} → Goes w x → Goes w (unless b r x)
 goes_unless b r p = goes_if b refused p
 
--- every outcome of this kind goes on from the world
+-- every outcome of this kind goes on from the world, where that is good
 abbrev pub AllGo : {A : Type 0} → World → (Outcome A → Type 0) → Type 0
-AllGo {A} w kind = (o : Outcome A) → kind o → Goes w o
+AllGo {A} w kind = Good w → (o : Outcome A) → kind o → Goes w o
 
 -- what comes behind a world that is reached
-pub with_reached : {A B : Type 0} {w v : World} {a : A} {o : Outcome B} → Goes w (Typed a v) → (Reaches w v → Goes v o) → Goes w o
-with_reached (typed r) next = goes_after r (next r)
+pub with_reached : {A B : Type 0} {w v : World} {a : A} {o : Outcome B} → Good w → Goes w (Typed a v) → (Reaches w v → Good v → Goes v o) → Goes w o
+with_reached {w = w} {v = v} good (typed r) next = goes_after r (next r (kept w v r good).good)
 
 -- one part and then the next
 pub then_goes : {A B : Type 0} {w : World} {first : Outcome A → Type 0} {next : A → World → Outcome B → Type 0} → AllGo w first → ((a : A) (v : World) → Reaches w v → AllGo v (next a v)) → AllGo w (Then first next)
-then_goes f g o (goes_on {a = a} {w = v} p s) = with_reached (f _ p) (λ r. g a v r o s)
-then_goes f g _ (stops p) = refused
+then_goes f g good o (goes_on {a = a} {w = v} p s) = with_reached good (f good _ p) (λ r after. g a v r after o s)
+then_goes f g good _ (stops p) = refused
 
 -- what comes behind a scope that is closed there
 pub with_scope : {A B : Type 0} {u w v : World} {a : A} {o : Outcome B} → Goes u (Typed a v) → (Reaches u v → Goes w o) → Goes w o
 with_scope (typed r) next = next r
 
 -- a part in a scope of its own, and what closes it
-pub scope_goes : {A B : Type 0} {u w : World} {first : Outcome A → Type 0} {next : A → World → Outcome B → Type 0} → AllGo u first → ((a : A) (v : World) → Reaches u v → AllGo w (next a v)) → AllGo w (Then first next)
-scope_goes f g o (goes_on {a = a} {w = v} p s) = with_scope (f _ p) (λ r. g a v r o s)
-scope_goes f g _ (stops p) = refused
+pub scope_goes : {A B : Type 0} {u w : World} {first : Outcome A → Type 0} {next : A → World → Outcome B → Type 0} → (Good w → Good u) → AllGo u first → ((a : A) (v : World) → Reaches u v → AllGo w (next a v)) → AllGo w (Then first next)
+scope_goes entry f g good o (goes_on {a = a} {w = v} p s) = with_scope (f (entry good) _ p) (λ r. g a v r good o s)
+scope_goes entry f g good _ (stops p) = refused
 
 pub is_goes : {A : Type 0} {w : World} {x : Outcome A} → Goes w x → AllGo w (Is x)
-is_goes {w = w} p o e = subst (λ z. Goes w z) (sym e) p
+is_goes {w = w} p good o e = subst (λ z. Goes w z) (sym e) p
+
+-- the scope that opens in a good world is good
+pub enters : {w : World} → Good w → Good (opened w)
+enters {w = w} good = (kept w _ (opens w) good).good
+
+-- ---- what is typed and has a property in the world that it leaves
+
+pub data GoesWith {A : Type 0} (w : World) (P : A → World → Type 0) : Outcome A → Type 0 where
+  typed_so : {a : A} {v : World} → Reaches w v → P a v → GoesWith w P (Typed a v)
+  refused_so : {r : Refusal} → GoesWith w P (Refused r)
+
+pub forget : {A : Type 0} {w : World} {P : A → World → Type 0} {o : Outcome A} → GoesWith w P o → Goes w o
+forget (typed_so r p) = typed r
+forget refused_so = refused
+
+pub with_after : {A : Type 0} {u v : World} {P : A → World → Type 0} {o : Outcome A} → Reaches u v → GoesWith v P o → GoesWith u P o
+with_after r (typed_so s p) = typed_so (after _ _ _ r s) p
+with_after r refused_so = refused_so
+
+pub with_if : {A : Type 0} {w : World} {P : A → World → Type 0} (b : Bool) {x y : Outcome A} → GoesWith w P x → GoesWith w P y → GoesWith w P (if b then x else y)
+with_if true p q = p
+with_if false p q = q
+
+abbrev pub AllWith : {A : Type 0} → World → (A → World → Type 0) → (Outcome A → Type 0) → Type 0
+AllWith {A} w P kind = Good w → (o : Outcome A) → kind o → GoesWith w P o
+
+pub all_forget : {A : Type 0} {w : World} {P : A → World → Type 0} {kind : Outcome A → Type 0} → AllWith w P kind → AllGo w kind
+all_forget f good o p = forget (f good o p)
+
+pub is_with : {A : Type 0} {w : World} {P : A → World → Type 0} {x : Outcome A} → (Good w → GoesWith w P x) → AllWith w P (Is x)
+is_with {w = w} {P = P} p good o e = subst (λ z. GoesWith w P z) (sym e) (p good)
+
+met : {A B : Type 0} {w v : World} {a : A} {o : Outcome B} {Q : B → World → Type 0} → Good w → Goes w (Typed a v) → (Reaches w v → Kept w v → GoesWith v Q o) → GoesWith w Q o
+met {w = w} {v = v} good (typed r) next = with_after r (next r (kept w v r good))
+
+-- one part and then the next, which has the property
+pub then_with :
+    {A B : Type 0} {w : World} {first : Outcome A → Type 0} {next : A → World → Outcome B → Type 0} {Q : B → World → Type 0}
+    → AllGo w first → ((a : A) (v : World) → Reaches w v → Kept w v → AllWith v Q (next a v)) → AllWith w Q (Then first next)
+then_with f g good o (goes_on {a = a} {w = v} p s) = met good (f good _ p) (λ r k. g a v r k k.good o s)
+then_with f g good _ (stops p) = refused_so
+
+met_so :
+    {A B : Type 0} {w v : World} {a : A} {o : Outcome B} {P : A → World → Type 0} {Q : B → World → Type 0}
+    → Good w → GoesWith w P (Typed a v) → (Reaches w v → P a v → Kept w v → GoesWith v Q o) → GoesWith w Q o
+met_so {w = w} {v = v} good (typed_so r p) next = with_after r (next r p (kept w v r good))
+
+-- one part that has a property, and then the next
+pub so_with :
+    {A B : Type 0} {w : World} {first : Outcome A → Type 0} {next : A → World → Outcome B → Type 0} {P : A → World → Type 0} {Q : B → World → Type 0}
+    → AllWith w P first → ((a : A) (v : World) → Reaches w v → P a v → Kept w v → AllWith v Q (next a v)) → AllWith w Q (Then first next)
+so_with f g good o (goes_on {a = a} {w = v} p s) = met_so good (f good _ p) (λ r q k. g a v r q k k.good o s)
+so_with f g good _ (stops p) = refused_so
+
+met_in :
+    {A B : Type 0} {u w v : World} {a : A} {o : Outcome B} {Q : B → World → Type 0} → Good u → Goes u (Typed a v) → (Reaches u v → Kept u v → GoesWith w Q o) → GoesWith w Q o
+met_in {u = u} {v = v} good (typed r) next = next r (kept u v r good)
+
+-- a part in a scope of its own, and what closes it, which has the property
+pub scope_with :
+    {A B : Type 0} {u w : World} {first : Outcome A → Type 0} {next : A → World → Outcome B → Type 0} {Q : B → World → Type 0}
+    → (Good w → Good u) → AllGo u first → ((a : A) (v : World) → Reaches u v → Kept u v → AllWith w Q (next a v)) → AllWith w Q (Then first next)
+scope_with entry f g good o (goes_on {a = a} {w = v} p s) = met_in (entry good) (f (entry good) _ p) (λ r k. g a v r k good o s)
+scope_with entry f g good _ (stops p) = refused_so

@@ -85,4 +85,46 @@ samples_are_typed = record {
         refl);
     is = refl;
   };
+  measured_struct = record {
+    last = _;
+    types =
+        goes_on
+        (goes_on
+        (goes_on
+        (goes_on
+        (goes_on refl
+        (goes_on
+        (goes_on (goes_on refl refl) (goes_on refl (goes_on (goes_on refl (goes_on refl refl))
+        (goes_on (goes_on refl refl) (goes_on refl (goes_on (goes_on refl (goes_on refl refl)) refl))))))
+        refl))
+        refl)
+        (goes_on refl
+        (goes_on (goes_on refl refl)
+        (goes_on refl
+        (goes_on
+        (goes_on
+        (goes_on
+        (goes_on (goes_on refl refl)
+        (record {
+          part2 = _;
+          after = _;
+          fills = inside _ _ _ _ refl (whole _ _ refl);
+          goes = goes_on refl
+              (goes_on (goes_on refl refl)
+              (record {
+                part2 = _;
+                after = _;
+                fills = whole _ _ refl;
+                goes = goes_on refl
+                    (goes_on (goes_on refl refl)
+                    (record { part2 = _; after = _; fills = inside _ _ _ _ refl (whole _ _ refl); goes = goes_on refl refl }));
+              }));
+        }))
+        refl)
+        refl)
+        refl)))))
+        refl)
+        refl;
+    is = refl;
+  };
 }

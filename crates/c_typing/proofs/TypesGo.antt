@@ -1,15 +1,17 @@
 -- Types of expressions, specs and declarators only make the changes of Reaches.
-use Rattle.std.specs.Prelude.{ℕ, ◌+◌, ◌^◌, nat_lt, ◌||◌, ℤ, pos, negsuc, Bool, Option, Some, None, List, [], ◌∷◌}
+use Rattle.std.proofs.Common.{◌≡◌, refl, sym, subst, ⊎_elim, arith}
+use Rattle.std.specs.Prelude.{ℕ, ◌+◌, ◌^◌, nat_lt, ◌||◌, ℤ, pos, negsuc, Bool, Option, Some, None, List, [], ◌∷◌, ◌++◌, length, take, drop}
+use Rattle.std.proofs.lemmas.List.{map-append}
 use Rattle.c_written.specs.declared.place.Pos.{Pos}
 use Rattle.c_written.specs.declared.written.Tag.{Tag}
 use Rattle.c_written.specs.Written as written
 use Rattle.c_syntax.specs.Types.{CTypeTree, Void, Int, Pointer, Array, Struct, Function}
-use Rattle.c_typing.specs.World.{World, Form, Plain, Unsized, Callable, Meaning, Object, Missing, Parameter, TypeName, Enumeration, TagMeaning, StructTag, EnumTag, OpenEnumTag, TagBinding, Refusal, ObjectTooLarge, Unsupported, Outcome, Typed, Refused}
+use Rattle.c_typing.specs.World.{World, Form, Plain, Unsized, Callable, Meaning, Object, Missing, Parameter, TypeName, Enumeration, TagMeaning, StructTag, EnumTag, OpenEnumTag, TagBinding, Refusal, ObjectTooLarge, Unsupported, Outcome, Typed, Refused, Then, goes_on, stops, Is}
 use Rattle.c_written.specs.declared.construct.Construct.TheVariants as constructs
 use Rattle.c_layout.specs.RowTypes.{has_const_elements}
 use Rattle.c_typing.specs.World as world
 use Rattle.c_typing.specs.Names as names
-use Rattle.c_typing.specs.Operands.{OperandTree}
+use Rattle.c_typing.specs.Operands.{OperandTree, complete_size}
 use Rattle.c_typing.specs.Specifiers as specifiers
 use Rattle.c_typing.specs.Declarators as declarators
 use Rattle.c_typing.specs.Declarators.{DeclaredName, ParameterTree, Step, PointerTo, ArrayOf, OpenArray, FunctionOf, Shape}
@@ -18,7 +20,11 @@ use Rattle.c_typing.specs.Typing.{Types, TypesArgs, TypesSpecs, TypesSpec, Types
 use Rattle.c_written.specs.WrittenParts.{expr_pos}
 use Rattle.c_typing.specs.Constants.{constant_value}
 use Rattle.c_typing.proofs.Reaches as reaches
-use Rattle.c_typing.proofs.Reaches.{Reaches, Goes, typed, refused, goes_same, goes_if, goes_unless, goes_after, AllGo, then_goes, scope_goes, is_goes}
+use Rattle.c_typing.proofs.Opens.{Opens, IsOpen, open_either, open_drop, open_apart, distinct_drop, found_open, found_closed}
+use Rattle.c_typing.proofs.MadeTables.{AreMade, IsIncomplete, get_last, complete_below, made_kept, empty_struct}
+use Rattle.c_typing.proofs.MadeMembers.{nothing_made, made_more, complete_held}
+use Rattle.c_typing.proofs.Good.{Good, Frame, IsBegun, IsAside, frame_then, frame_same, frame_closed, frame_keeps, aside_kept}
+use Rattle.c_typing.proofs.Reaches.{Reaches, Kept, kept, Goes, typed, refused, goes_same, goes_if, goes_unless, goes_after, AllGo, then_goes, scope_goes, is_goes, enters, GoesWith, typed_so, refused_so, with_after, with_if, AllWith, all_forget, is_with, then_with, so_with, scope_with}
 use Rattle.c_typing.proofs.NodesGo as nodes_go
 
 -- ---- names and tags
@@ -28,7 +34,7 @@ unless_declared at None p = p
 unless_declared at (Some first) p = refused
 
 pub new_struct : (w : World) (tag : Tag) (defined : Option Pos) → Goes w (names.new_struct w tag defined)
-new_struct w tag defined = typed (reaches.after _ _ _ (reaches.struct w tag.name) (reaches.tagged _ tag defined _))
+new_struct w tag defined = typed (reaches.new_struct w tag defined)
 
 pub struct_from_outside : (w : World) (alone : Bool) (tag : Tag) (m : Option TagMeaning) → Goes w (names.struct_from_outside w alone tag m)
 struct_from_outside w alone tag None = new_struct w tag None
@@ -45,22 +51,65 @@ pub struct_found : (w : World) (alone : Bool) (tag : Tag) (b : Option TagBinding
 struct_found w alone tag None = struct_from_outside w alone tag _
 struct_found w alone tag (Some b) = struct_here w tag b _
 
-pub struct_defined : (w : World) (tag : Tag) (n : ℕ) (before : Option Pos) → Goes w (names.struct_defined w tag n before)
-struct_defined w tag n None = typed (reaches.tag_changed w tag.name _ _)
-struct_defined w tag n (Some first) = refused
+-- a struct between its braces, in the world in which they bare
+abbrev Begins : World → ℕ → World → Type 0
+Begins w n v = IsBegun w v n
 
-pub struct_begun : (w : World) (tag : Tag) (b : TagBinding) (m : TagMeaning) → Goes w (names.struct_begun w tag b m)
-struct_begun w tag b (StructTag n) = struct_defined w tag n _
-struct_begun w tag b EnumTag = refused
-struct_begun w tag b OpenEnumTag = refused
+-- no tag has the number of a struct to come
+not_yet : (w : World) → Good w → IsOpen (length w.structs) w.tags → ⊥
+not_yet w good p = let bare = good.incomplete (length w.structs) p in absurd (omega (arith, complete_below w.structs (length w.structs) bare.def bare.there))
 
-pub struct_begins : (w : World) (tag : Tag) (b : Option TagBinding) → Goes w (names.struct_begins w tag b)
-struct_begins w tag None = new_struct w tag _
-struct_begins w tag (Some b) = struct_begun w tag b _
+last_incomplete : (w : World) (tag : List ℕ) → IsIncomplete (names.with_struct w tag).structs (length w.structs)
+last_incomplete w tag = record { def = empty_struct tag; there = get_last w.structs (empty_struct tag); empty = refl }
 
-pub struct_opened : (w : World) (tag : Option Tag) → Goes w (names.struct_opened w tag)
-struct_opened w None = typed (reaches.struct w [])
-struct_opened w (Some tag) = struct_begins w tag _
+begins_new : (w : World) (tag : Tag) → Good w → GoesWith w (Begins w) (names.new_struct w tag (Some tag.pos))
+begins_new w tag good = typed_so (reaches.new_struct w tag (Some tag.pos)) (record {
+  incomplete = last_incomplete w tag.name;
+  shut = λ p. ⊎_elim (not_yet w good) (λ r. ⊎_elim (λ a. let u : Some tag.pos ≡ None = a.undefined in absurd cc) (λ none. none) r) (open_either (length w.structs) w.tags _ p);
+  from = λ h c. absurd (omega arith);
+})
+
+begins_found :
+    (w : World) (tag : Tag) (b : TagBinding) (n : ℕ) → Good w → names.tag_here w tag.name ≡ Some b → b.meaning ≡ StructTag n → b.defined ≡ None
+    → GoesWith w (Begins w) (Typed n (names.with_tag_become w tag.name (Some tag.pos) (StructTag n)))
+begins_found w tag b n good e m d = typed_so (reaches.tag_changed w tag.name tag.pos (StructTag n)) (record {
+  incomplete = good.incomplete n (open_drop n w.first_tag w.tags here);
+  shut = λ p. ⊎_elim (λ l. open_apart n w.first_tag w.tags good.distinct l here)
+      (λ r. found_closed n tag.pos (StructTag n) tag.name (drop w.first_tag w.tags) b (distinct_drop w.first_tag w.tags good.distinct) e opens r)
+      (open_either n (take w.first_tag w.tags) _ p);
+  from = λ h c. c (open_drop n w.first_tag w.tags here);
+})
+  where
+    opens : Opens n b
+    opens = record { declared = m; undefined = d }
+
+    here : IsOpen n (drop w.first_tag w.tags)
+    here = found_open n tag.name (drop w.first_tag w.tags) b e opens
+
+begins_defined :
+    (w : World) (tag : Tag) (b : TagBinding) (n : ℕ) (before : Option Pos) → Good w → names.tag_here w tag.name ≡ Some b → b.meaning ≡ StructTag n → b.defined ≡ before
+    → GoesWith w (Begins w) (names.struct_defined w tag n before)
+begins_defined w tag b n None good e m d = begins_found w tag b n good e m d
+begins_defined w tag b n (Some first) good e m d = refused_so
+
+begins_begun :
+    (w : World) (tag : Tag) (b : TagBinding) (meaning : TagMeaning) → Good w → names.tag_here w tag.name ≡ Some b → b.meaning ≡ meaning
+    → GoesWith w (Begins w) (names.struct_begun w tag b meaning)
+begins_begun w tag b (StructTag n) good e m = begins_defined w tag b n b.defined good e m refl
+begins_begun w tag b EnumTag good e m = refused_so
+begins_begun w tag b OpenEnumTag good e m = refused_so
+
+begins_at : (w : World) (tag : Tag) (found : Option TagBinding) → Good w → names.tag_here w tag.name ≡ found → GoesWith w (Begins w) (names.struct_begins w tag found)
+begins_at w tag None good e = begins_new w tag good
+begins_at w tag (Some b) good e = begins_begun w tag b b.meaning good e refl
+
+pub struct_opened : (w : World) (tag : Option Tag) → Good w → GoesWith w (Begins w) (names.struct_opened w tag)
+struct_opened w None good = typed_so (reaches.struct w []) (record {
+  incomplete = last_incomplete w [];
+  shut = not_yet w good;
+  from = λ h c. absurd (omega arith);
+})
+struct_opened w (Some tag) good = begins_at w tag _ good refl
 
 pub enum_from_outside : (w : World) (tag : Tag) (m : Option TagMeaning) → Goes w (names.enum_from_outside w tag m)
 enum_from_outside w tag None = refused
@@ -78,7 +127,7 @@ enum_found w tag None = enum_from_outside w tag _
 enum_found w tag (Some b) = enum_here w tag b _
 
 pub enum_begins : (w : World) (tag : Tag) (b : Option TagBinding) → Goes w (names.enum_begins w tag b)
-enum_begins w tag None = typed (reaches.tagged w tag _ _)
+enum_begins w tag None = typed (reaches.enumeration w tag _)
 enum_begins w tag (Some b) = refused
 
 pub enum_opened : (w : World) (tag : Option Tag) → Goes w (names.enum_opened w tag)
@@ -87,7 +136,7 @@ enum_opened w (Some tag) = enum_begins w tag _
 
 pub enum_closes : (w : World) (tag : Option Tag) → Reaches w (names.enum_closed w tag)
 enum_closes w None = reaches.stays w
-enum_closes w (Some tag) = reaches.tag_changed w tag.name _ _
+enum_closes w (Some tag) = reaches.tag_changed w tag.name tag.pos _
 
 -- ---- specs
 
@@ -178,32 +227,102 @@ pub enumerator : (w : World) (at value_at : Pos) (name : List ℕ) (n : Option �
 enumerator w at value_at name None = refused
 enumerator w at value_at name (Some n) = goes_if _ (unless_declared at _ (typed (reaches.named w at name _))) refused
 
-pub array_sized : (w : World) (size_at : Pos) (shape : Shape) (n : Option ℤ) → Goes w (typing.array_sized w size_at shape n)
-array_sized w size_at shape None = refused
-array_sized w size_at shape (Some (pos n)) = goes_if _ goes_same refused
-array_sized w size_at shape (Some (negsuc n)) = refused
+-- ---- the tags that parameter lists leave aside
 
-pub member_sized : (w : World) (named : DeclaredName) (ty : CTypeTree) (is_const : Bool) (done : List MemberMade) (size : ℕ) → Goes w (typing.member_sized w named ty is_const done size)
-member_sized w named ty is_const done size =
-    unless_declared named.pos _
-    (goes_unless (nat_lt (2 ^ 40) (typing.next_offset w done ty + size)) (ObjectTooLarge named.pos (2 ^ 40))
-    (goes_unless (is_const || has_const_elements ty) (Unsupported named.pos constructs.ConstMember) goes_same))
+abbrev pub tags_in : Step → List TagBinding
+tags_in (PointerTo c) = []
+tags_in (ArrayOf at n) = []
+tags_in OpenArray = []
+tags_in (FunctionOf params names tags) = tags
 
-pub member_of : (w : World) (named : DeclaredName) (form : Form) (done : List MemberMade) → Goes w (typing.member_of w named form done)
-member_of w named (Plain ty c) done = if_sized _ _ _ (member_sized w named ty c done)
-member_of w named (Unsized ty c) done = refused
-member_of w named (Callable params result) done = refused
+abbrev pub AreAside : World → World → List Step → Type 0
+AreAside t v [] = Unit {0}
+AreAside t v (step ∷ rest) = IsAside t v (tags_in step) × AreAside t v rest
 
-pub member_laid : {w : World} (named : DeclaredName) (done : List MemberMade) (o : Outcome Form) → Goes w o → Goes w (typing.member_laid named done o)
-member_laid named done (Typed form v) (typed r) = goes_after r (member_of v named form done)
-member_laid named done (Refused q) p = refused
+-- a declarator whose parameter lists leave tags aside, from the world in which it begins
+abbrev pub ShapeIn : World → Shape → World → Type 0
+ShapeIn t shape v = AreAside t v shape.steps
+
+aside_none : (t v : World) → IsAside t v []
+aside_none t v = record { incomplete = λ n p. absurd p; apart = λ n p q. p; distinct = tt; from = λ n p h c. p }
+
+pub asides_kept : (t u v : World) (steps : List Step) → Frame u v → AreAside t u steps → AreAside t v steps
+asides_kept t u v [] f a = tt
+asides_kept t u v (step ∷ rest) f a = (aside_kept t u v (tags_in step) f a.0, asides_kept t u v rest f a.1)
+
+asides_then : (t v : World) (steps : List Step) (step : Step) → AreAside t v steps → IsAside t v (tags_in step) → AreAside t v (steps ++ step ∷ [])
+asides_then t v [] step a b = (b, tt)
+asides_then t v (x ∷ rest) step a b = (a.0, asides_then t v rest step a.1 b)
+
+array_sized : (t w : World) (size_at : Pos) (shape : Shape) (n : Option ℤ) → AreAside t w shape.steps → GoesWith w (ShapeIn t) (typing.array_sized w size_at shape n)
+array_sized t w size_at shape None a = refused_so
+array_sized t w size_at shape (Some (pos n)) a = with_if _ (typed_so (reaches.stays w) (asides_then t w shape.steps _ a (aside_none t w))) refused_so
+array_sized t w size_at shape (Some (negsuc n)) a = refused_so
+
+-- the tags of a parameter list, when its scope ends
+list_aside : (t u v : World) → Frame t u → Frame (names.opened u) v → Good v → IsAside t (names.closed u v) (drop (length u.tags) v.tags)
+list_aside t u v f g good = record {
+  incomplete = λ n p. good.incomplete n (open_drop n (length u.tags) v.tags p);
+  apart = λ n p q. open_apart n (length u.tags) v.tags good.distinct q p;
+  distinct = distinct_drop (length u.tags) v.tags good.distinct;
+  from = λ n p h c. (frame_then t (names.opened u) v (frame_then t u (names.opened u) f (frame_same u (names.opened u) refl refl)) g).shut n h c
+      (open_drop n (length u.tags) v.tags p);
+}
+
+-- the members so far, in the world that they leave
+abbrev pub MadeIn : List MemberMade → World → Type 0
+MadeIn done v = AreMade v.structs (typing.members_made done)
+
+pub made_after : (w v : World) (done : List MemberMade) → Good w → Frame w v → MadeIn done w → MadeIn done v
+made_after w v done good f made = made_kept w.structs v.structs (frame_keeps w v good f) (typing.members_made done) made
+
+with_unless : {A : Type 0} {w : World} {P : A → World → Type 0} (b : Bool) (r : Refusal) {x : Outcome A} → GoesWith w P x → GoesWith w P (world.unless b r x)
+with_unless b r p = with_if b refused_so p
+
+with_declared : {A : Type 0} {w : World} {P : A → World → Type 0} (at : Pos) (first : Option Pos) {o : Outcome A} → GoesWith w P o → GoesWith w P (names.unless_declared at first o)
+with_declared at None p = p
+with_declared at (Some first) p = refused_so
+
+pub member_sized :
+    (w : World) (named : DeclaredName) (ty : CTypeTree) (is_const : Bool) (done : List MemberMade) (size : ℕ) → Good w → MadeIn done w → complete_size w.structs ty ≡ Some size
+    → GoesWith w MadeIn (typing.member_sized w named ty is_const done size)
+member_sized w named ty is_const done size good made e =
+    with_declared named.pos _
+    (with_unless (nat_lt (2 ^ 40) (typing.next_offset w done ty + size)) (ObjectTooLarge named.pos (2 ^ 40))
+    (with_unless (is_const || has_const_elements ty) (Unsupported named.pos constructs.ConstMember)
+    (typed_so (reaches.stays w) (subst (λ members. AreMade w.structs members) (sym (map-append (λ m. m.member) done _))
+    (made_more w.structs good.made (typing.members_made done) _ made (complete_held w.structs ty size e) refl)))))
+
+with_size :
+    {A : Type 0} {w : World} {P : A → World → Type 0} (r : Refusal) (outcome : ℕ → Outcome A) (size : Option ℕ)
+    → ((n : ℕ) → size ≡ Some n → GoesWith w P (outcome n)) → GoesWith w P (declarators.if_sized r outcome size)
+with_size r outcome None f = refused_so
+with_size r outcome (Some n) f = f n refl
+
+pub member_of : (w : World) (named : DeclaredName) (form : Form) (done : List MemberMade) → Good w → MadeIn done w → GoesWith w MadeIn (typing.member_of w named form done)
+member_of w named (Plain ty c) done good made = with_size _ _ (complete_size w.structs ty) (λ n e. member_sized w named ty c done n good made e)
+member_of w named (Unsized ty c) done good made = refused_so
+member_of w named (Callable params result) done good made = refused_so
+
+pub member_laid :
+    {w : World} (named : DeclaredName) (done : List MemberMade) (o : Outcome Form) → Good w → MadeIn done w → Goes w o → GoesWith w MadeIn (typing.member_laid named done o)
+member_laid {w = w} named done (Typed form v) good made (typed r) =
+    let k = kept w v r good in with_after r (member_of v named form done k.good (made_after w v done good k.frame made))
+member_laid named done (Refused q) good made p = refused_so
 
 pub with_its_name : {A : Type 0} {w : World} (first : Pos) (name : Option DeclaredName) (outcome : DeclaredName → Outcome A) → ((named : DeclaredName) → Goes w (outcome named)) → Goes w (typing.with_its_name first name outcome)
 with_its_name first None outcome f = refused
 with_its_name first (Some named) outcome f = f named
 
-pub member_made : (w : World) (first : Pos) (base : Form) (done : List MemberMade) (shape : Shape) → Goes w (typing.member_made w first base done shape)
-member_made w first base done shape = with_its_name first shape.name _ (λ named. member_laid named done _ (laid w named.pos shape.steps base))
+its_name :
+    {A : Type 0} {w : World} {P : A → World → Type 0} (first : Pos) (name : Option DeclaredName) (outcome : DeclaredName → Outcome A)
+    → ((named : DeclaredName) → GoesWith w P (outcome named)) → GoesWith w P (typing.with_its_name first name outcome)
+its_name first None outcome f = refused_so
+its_name first (Some named) outcome f = f named
+
+pub member_made :
+    (w : World) (first : Pos) (base : Form) (done : List MemberMade) (shape : Shape) → Good w → MadeIn done w → GoesWith w MadeIn (typing.member_made w first base done shape)
+member_made w first base done shape good made = its_name first shape.name _ (λ named. member_laid named done _ good made (laid w named.pos shape.steps base))
 
 pub unless_named_before : {A : Type 0} (w : World) (name : Option DeclaredName) {o : Outcome A} → Goes w o → Goes w (typing.unless_named_before w name o)
 unless_named_before w None p = p
@@ -246,6 +365,23 @@ pub of_parameter : {w : World} (k : ℕ) (first : Pos) {specs : Outcome specifie
 of_parameter k first f g =
     then_goes f (λ s v r. then_goes (is_goes (type_told specifiers.OfParameter first s v)) (λ base v2 r2. then_goes (g v2) (λ shape v3 r3. is_goes (parameter_made v3 first base k shape))))
 
+-- ---- a struct in its braces
+
+closes : {w v u : World} {n : ℕ} {done : List MemberMade} → Reaches w v → IsBegun w v n → GoesWith v MadeIn (Typed done u) → Goes w (typing.struct_made u n done)
+closes {w = w} {v = v} {u = u} {n = n} {done = done} r begun (typed_so s made) = typed (reaches.body w v u n (typing.members_made done) r begun s made)
+
+in_braces :
+    {w v : World} {n : ℕ} {types : Outcome (List MemberMade) → Type 0} → Good w → GoesWith w (Begins w) (Typed n v) → AllWith v MadeIn types
+    → (o : Outcome specifiers.SpecPart) → Then types (λ done u. Is (typing.struct_made u n done)) o → Goes w o
+in_braces {w = w} {v = v} good (typed_so r begun) f o (goes_on p e) = subst (λ z. Goes w z) (sym e) (closes r begun (f (kept w v r good).good _ p))
+in_braces good h f _ (stops p) = refused
+
+body_goes :
+    {w : World} {x : Outcome ℕ} {types : World → Outcome (List MemberMade) → Type 0} → (Good w → GoesWith w (Begins w) x) → ((v : World) → AllWith v MadeIn (types v))
+    → AllGo w (Then (Is x) (λ n v. Then (types v) (λ done u. Is (typing.struct_made u n done))))
+body_goes {w = w} b f good o (goes_on {a = n} {w = v} p s) = in_braces good (subst (λ z. GoesWith w (Begins w) z) (sym p) (b good)) (f v) o s
+body_goes b f good _ (stops p) = refused
+
 mutual
   unfolding Types TypesArgs TypesSpecs TypesSpec TypesMembers TypesMemberNames TypesEnumerators TypesDeclarator TypesParams
 
@@ -264,9 +400,9 @@ mutual
   go w (written.Unary at op a) = then_goes (go w a) (λ x v r. is_goes (nodes_go.unary v at op x))
   go w (written.SizeofExpr at a) = then_goes (go w a) (λ x v r. is_goes (nodes_go.given _ _ v))
   go w (written.SizeofType at specs declarator) =
-      then_goes (of_type_name _ (go_specs w _ _ specs) (λ v. go_declarator v declarator)) (λ form v r. is_goes (nodes_go.size_of_form v at form))
+      then_goes (of_type_name _ (go_specs w _ _ specs) (λ v. all_forget (go_declarator v declarator))) (λ form v r. is_goes (nodes_go.size_of_form v at form))
   go w (written.Cast at specs declarator a) =
-      then_goes (of_type_name _ (go_specs w _ _ specs) (λ v. go_declarator v declarator))
+      then_goes (of_type_name _ (go_specs w _ _ specs) (λ v. all_forget (go_declarator v declarator)))
       (λ form v r. then_goes (valued (go v a)) (λ x v2 r2. is_goes (nodes_go.cast v2 at form x)))
   go w (written.Binary at op a b) = then_goes (valued (go w a)) (λ x v r. then_goes (valued (go v b)) (λ y v2 r2. is_goes (nodes_go.given _ _ v2)))
   go w (written.Cond at c a b) =
@@ -290,20 +426,24 @@ mutual
   go_spec w alone (written.TypedefName at name) = is_goes (typedef_named w at _)
   go_spec w alone (written.Struct at tag) = then_goes (is_goes (struct_found w alone tag _)) (λ n v r. is_goes goes_same)
   go_spec w alone (written.StructBody at tag members) =
-      then_goes (is_goes (struct_opened w tag)) (λ n v r. then_goes (go_members v _ members) (λ done v2 r2. is_goes (typed (reaches.completed v2 n _))))
+      body_goes (struct_opened w tag) (λ v. go_members v [] members (nothing_made v.structs))
   go_spec w alone (written.Enum at tag) = then_goes (is_goes (enum_found w tag _)) (λ unit v r. is_goes goes_same)
   go_spec w alone (written.EnumBody at tag list) =
       then_goes (is_goes (enum_opened w tag)) (λ unit v r. then_goes (go_enumerators v _ list) (λ next v2 r2. is_goes (typed (enum_closes v2 tag))))
 
-  pub go_members : (w : World) (done : _) (members : written.MemberDeclTrees) → AllGo w (TypesMembers w done members)
-  go_members w done written.no_members = is_goes goes_same
-  go_members w done (written.more_members (written.Members at specs list) rest) =
-      then_goes (go_specs w _ _ specs) (λ s v r. then_goes (is_goes (type_told specifiers.OfPlainType (typing.first_of at specs) s v)) (λ base v2 r2. then_goes (go_names v2 _ base done list) (λ members v3 r3. go_members v3 _ rest)))
+  pub go_members : (w : World) (done : _) (members : written.MemberDeclTrees) → MadeIn done w → AllWith w MadeIn (TypesMembers w done members)
+  go_members w done written.no_members made good = is_with (λ g. typed_so (reaches.stays w) made) good
+  go_members w done (written.more_members (written.Members at specs list) rest) made good =
+      then_with (go_specs w _ _ specs) (λ s v r k. then_with (is_goes (type_told specifiers.OfPlainType (typing.first_of at specs) s v)) (λ base v2 r2 k2.
+      so_with (go_names v2 _ base done list (made_after v v2 done k.good k2.frame (made_after w v done good k.frame made)))
+      (λ members v3 r3 made3 k3. go_members v3 _ rest made3))) good
 
-  pub go_names : (w : World) (first : Pos) (base : Form) (done : _) (list : written.DeclaratorTrees) → AllGo w (TypesMemberNames w first base done list)
-  go_names w first base done written.no_declarators = is_goes goes_same
-  go_names w first base done (written.more_declarators declarator rest) =
-      then_goes (go_declarator w declarator) (λ shape v r. then_goes (is_goes (member_made v first base done shape)) (λ members v2 r2. go_names v2 first base _ rest))
+  pub go_names : (w : World) (first : Pos) (base : Form) (done : _) (list : written.DeclaratorTrees) → MadeIn done w → AllWith w MadeIn (TypesMemberNames w first base done list)
+  go_names w first base done written.no_declarators made good = is_with (λ g. typed_so (reaches.stays w) made) good
+  go_names w first base done (written.more_declarators declarator rest) made good =
+      then_with (all_forget (go_declarator w declarator)) (λ shape v r k.
+      so_with (is_with (λ after. member_made v first base done shape after (made_after w v done good k.frame made)))
+      (λ members v2 r2 made2 k2. go_names v2 first base _ rest made2)) good
 
   pub go_enumerators : (w : World) (next : ℤ) (list : written.EnumeratorTrees) → AllGo w (TypesEnumerators w next list)
   go_enumerators w next written.no_enumerators = is_goes goes_same
@@ -311,21 +451,27 @@ mutual
   go_enumerators w next (written.more_enumerators (written.Valued at name value) rest) =
       then_goes (valued (go w value)) (λ x v r. then_goes (is_goes (enumerator v at (expr_pos value) name (constant_value x))) (λ n v2 r2. go_enumerators v2 n rest))
 
-  pub go_declarator : (w : World) (declarator : written.DeclaratorTree) → AllGo w (TypesDeclarator w declarator)
-  go_declarator w written.Absent = is_goes goes_same
-  go_declarator w (written.Name at name) = is_goes goes_same
+  pub go_declarator : (w : World) (declarator : written.DeclaratorTree) → AllWith w (ShapeIn w) (TypesDeclarator w declarator)
+  go_declarator w written.Absent = is_with (λ good. typed_so (reaches.stays w) tt)
+  go_declarator w (written.Name at name) = is_with (λ good. typed_so (reaches.stays w) tt)
   go_declarator w (written.Grouped at inner) = go_declarator w inner
-  go_declarator w (written.Pointer at is_const inner) = then_goes (go_declarator w inner) (λ shape v r. is_goes goes_same)
+  go_declarator w (written.Pointer at is_const inner) =
+      so_with (go_declarator w inner) (λ shape v r a k. is_with (λ good. typed_so (reaches.stays v) (asides_then w v shape.steps _ a (aside_none w v))))
   go_declarator w (written.Array at inner size) =
-      then_goes (go_declarator w inner) (λ shape v r. then_goes (valued (go v size)) (λ x v2 r2. is_goes (array_sized v2 (expr_pos size) shape (constant_value x))))
-  go_declarator w (written.OpenArray at inner) = then_goes (go_declarator w inner) (λ shape v r. is_goes goes_same)
+      so_with (go_declarator w inner) (λ shape v r a k. then_with (valued (go v size)) (λ x v2 r2 k2.
+      is_with (λ good. array_sized w v2 (expr_pos size) shape (constant_value x) (asides_kept w v v2 shape.steps k2.frame a))))
+  go_declarator w (written.OpenArray at inner) =
+      so_with (go_declarator w inner) (λ shape v r a k. is_with (λ good. typed_so (reaches.stays v) (asides_then w v shape.steps _ a (aside_none w v))))
   go_declarator w (written.Function at inner params) =
-      then_goes (go_declarator w inner) (λ shape v r. scope_goes (go_params (names.opened v) _ params) (λ list v2 r2. is_goes (typed (reaches.scoped v v2 r2))))
-  go_declarator w (written.VoidFunction at inner) = then_goes (go_declarator w inner) (λ shape v r. is_goes goes_same)
+      so_with (go_declarator w inner) (λ shape v r a k. scope_with enters (go_params (names.opened v) _ params) (λ list v2 r2 k2.
+      is_with (λ good. typed_so (reaches.scoped v v2 r2)
+      (asides_then w (names.closed v v2) shape.steps _ (asides_kept w v _ shape.steps (frame_closed v v2 k2.frame) a) (list_aside w v v2 k.frame k2.frame k2.good)))))
+  go_declarator w (written.VoidFunction at inner) =
+      so_with (go_declarator w inner) (λ shape v r a k. is_with (λ good. typed_so (reaches.stays v) (asides_then w v shape.steps _ a (aside_none w v))))
 
   pub go_params : (w : World) (done : _) (params : written.ParamTrees) → AllGo w (TypesParams w done params)
   go_params w done written.no_params = is_goes goes_same
   go_params w done (written.more_params (written.Named at specs declarator) rest) =
-      then_goes (of_parameter _ _ (go_specs w _ _ specs) (λ v. go_declarator v declarator)) (λ param v r. go_params v _ rest)
+      then_goes (of_parameter _ _ (go_specs w _ _ specs) (λ v. all_forget (go_declarator v declarator))) (λ param v r. go_params v _ rest)
   go_params w done (written.more_params (written.Abstract at specs declarator) rest) =
-      then_goes (of_parameter _ _ (go_specs w _ _ specs) (λ v. go_declarator v declarator)) (λ param v r. go_params v _ rest)
+      then_goes (of_parameter _ _ (go_specs w _ _ specs) (λ v. all_forget (go_declarator v declarator))) (λ param v r. go_params v _ rest)

@@ -80,6 +80,14 @@ next_part structs a = if is_full (current a).inner then None else Some (part_of 
 abbrev pub after_part : Aggregates → Aggregates
 after_part a = record { inner = filled (current a).inner; outer = (current a).outer }
 
+-- the one whose braces the list is
+abbrev pub outermost : Frame → List Frame → Frame
+outermost frame [] = frame
+outermost frame (outer ∷ rest) = outermost outer rest
+
+abbrev pub own_frame : Aggregates → Frame
+own_frame a = outermost a.inner a.outer
+
 -- a part is begun by its first part (C11 6.7.9p20)
 abbrev pub begun : List StructDefTree → Part → Aggregates → Aggregates
 begun structs part a = record { inner = filled (frame_of structs part); outer = a.inner ∷ a.outer }

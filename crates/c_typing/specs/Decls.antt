@@ -1,5 +1,5 @@
 -- Declarations: of objects, functions and typedef names.
-use Rattle.std.specs.Prelude.{ℕ, zero, suc, ◌+◌, drop, ◌==◌, nat_lt, Bool, true, false, not, ◌&&◌, ◌||◌, if◌then◌else◌, is_some, Option, Some, None, option_map, option_and_then, unwrap_or, List, [], ◌∷◌, ◌++◌, map, length, find, slice_get, set, bytes_eq, codes}
+use Rattle.std.specs.Prelude.{ℕ, zero, suc, ◌+◌, ◌^◌, drop, ◌==◌, nat_lt, Bool, true, false, not, ◌&&◌, ◌||◌, if◌then◌else◌, is_some, Option, Some, None, option_map, option_and_then, unwrap_or, List, [], ◌∷◌, ◌++◌, map, length, find, slice_get, set, bytes_eq, codes}
 use Rattle.c_written.specs.declared.place.Pos.{Pos}
 use Rattle.c_written.specs.declared.construct.Construct.TheVariants as constructs
 use Rattle.c_written.specs.declared.int_type.IntType.{IntType}
@@ -395,16 +395,21 @@ abbrev pub measured_type : CTypeTree → ℕ → CTypeTree
 measured_type (Array of is_const n) count = Array of is_const count
 measured_type ty count = ty
 
--- an object whose size is told now, which counts among the sizes from here on
+-- an object whose size is told now, which counts among the sizes from here on; none takes more than 2 to the 40 bytes (this profile)
 abbrev pub sized_now : World → ObjectNow → CTypeTree → ℕ → Outcome CTypeTree
-sized_now w object ty size = within_limits object.pos size w (Typed ty (with_total (with_sized w object.number ty size) size))
+sized_now w object ty size =
+    unless (nat_lt (2 ^ 40) size) (ObjectTooLarge object.pos (2 ^ 40))
+    (within_limits object.pos size w (Typed ty (with_total (with_sized w object.number ty size) size)))
 
 abbrev pub size_or_zero : World → CTypeTree → ℕ
 size_or_zero w ty = unwrap_or (size_in w.structs ty) 0
 
+-- an array of no elements gets no size (C11 6.7.6.2p1, this profile)
 abbrev pub measured : World → ObjectNow → Initialised → Outcome CTypeTree
 measured w object by =
-    if object.measured then sized_now w object (measured_type object.ty by.count) (size_or_zero w (measured_type object.ty by.count))
+    if object.measured
+    then unless (by.count == 0) (NotConstant object.pos)
+    (sized_now w object (measured_type object.ty by.count) (size_or_zero w (measured_type object.ty by.count)))
     else Typed object.ty w
 
 -- an object that begins to live in its block

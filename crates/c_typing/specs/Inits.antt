@@ -23,7 +23,7 @@ use Rattle.c_syntax.specs.Program.{StructDefTree}
 use Rattle.c_typing.specs.World.{World, no_rule, NotConstant, Refusal, Outcome, Typed, Refused, Then, Is, unless}
 use Rattle.c_typing.specs.Constants.{constant_value, Address, Inside, static_address}
 use Rattle.c_typing.specs.Rows.{Stored, Scalar, Copied, is_scalar, stored_row}
-use Rattle.c_typing.specs.CurrentObject.{Part, Frame, frame_of, Aggregates, in_braces, next_part, after_part, Fills, takes_value, takes_text, is_text, is_text_in_braces, is_scalar_in_braces}
+use Rattle.c_typing.specs.CurrentObject.{Part, Frame, frame_of, Aggregates, in_braces, next_part, after_part, own_frame, Fills, takes_value, takes_text, is_text, is_text_in_braces, is_scalar_in_braces}
 use Rattle.c_typing.specs.Typing.{Types, Valued}
 
 -- ---- one value
@@ -172,7 +172,7 @@ abbrev pub whole_part : CTypeTree → Part
 whole_part ty = record { ty = ty; offset = 0 }
 
 abbrev pub by_list : Filled → Initialised
-by_list filled = record { items = filled.items; zeroes_rest = true; count = filled.aggregates.inner.next }
+by_list filled = record { items = filled.items; zeroes_rest = true; count = (own_frame filled.aggregates).next }
 
 abbrev pub by_text : List TInitTree → ℕ → Initialised
 by_text items n = record { items = items; zeroes_rest = true; count = n }

@@ -1,11 +1,14 @@
 -- What holds of typing.
-use Rattle.std.specs.Prelude.{◌≡◌, ℕ, Some, IsSomeAnd, List, slice_get}
+use Rattle.std.specs.Prelude.{◌≡◌, ℕ, Bool, true, false, IsTrue, Some, IsSomeAnd, List, [], ◌∷◌, slice_get}
 use Rattle.c_written.specs.WrittenFile.{FileTree, OuterTree}
-use Rattle.c_syntax.specs.Types.{ObjectTree}
-use Rattle.c_syntax.specs.Program.{TFunctionTree}
+use Rattle.c_syntax.specs.Types.{CTypeTree, ObjectTree}
+use Rattle.c_syntax.specs.Program.{MemberTree, StructDefTree, TFunctionTree}
+use Rattle.c_layout.specs.Layout.{members_of}
+use Rattle.c_layout.specs.LaidOut.{IsLaidOut}
+use Rattle.c_layout.specs.Heights.{NoneHoldsItself}
 use Rattle.c_typing.specs.World.{World, Outcome, Typed}
 use Rattle.c_typing.specs.Context.{Context}
-use Rattle.c_typing.specs.File.{FileOutcome, TypesFile, TypesOuters}
+use Rattle.c_typing.specs.File.{FileOutcome, TypesFile, TypesOuters, nothing_yet}
 
 -- at most one outcome is of this kind
 abbrev pub One : {A : Type 0} → (Outcome A → Type 0) → Type 0
@@ -14,6 +17,14 @@ One {A} kind = (o q : Outcome A) → kind o → kind q → o ≡ q
 -- a file has one outcome at most: a typed program, or its first refusal
 abbrev pub FilesHaveOne : Type 0
 FilesHaveOne = (file : FileTree) (o q : FileOutcome) → TypesFile file o → TypesFile file q → o ≡ q
+
+-- whether a struct has its members, from its `}` on (C11 6.7.2.1p8)
+abbrev pub has_members : List MemberTree → Bool
+has_members [] = false
+has_members (member ∷ rest) = true
+
+abbrev pub is_complete : List StructDefTree → ℕ → Bool
+is_complete structs n = has_members (members_of structs n)
 
 -- a function that keeps its name and its result (C11 6.7p4)
 pub record IsSameFunction (f g : TFunctionTree) : Type 0 where
@@ -27,11 +38,33 @@ pub record IsSameObject (x y : ObjectTree) : Type 0 where
   pub read_only : x.read_only ≡ y.read_only
   pub is_static : x.is_static ≡ y.is_static
 
--- one program goes on from another: each object and each function of the one has its number in the other
+-- a struct that keeps its tag, and its members from the place on where it has them (C11 6.7.2.1p8, 6.7.2.3p1)
+pub record IsSameStruct (d e : StructDefTree) : Type 0 where
+  pub tag : d.tag ≡ e.tag
+  pub whole : IsTrue (has_members d.members) → d ≡ e
+
+-- one program goes on from another: each struct, each object and each function of the one has its number in the other
 pub record GoesOn (w v : World) : Type 0 where
+  pub structs : (k : ℕ) (d : StructDefTree) → slice_get w.structs k ≡ Some d → IsSomeAnd (slice_get v.structs k) (IsSameStruct d)
   pub objects : (k : ℕ) (x : ObjectTree) → slice_get w.objects k ≡ Some x → IsSomeAnd (slice_get v.objects k) (IsSameObject x)
   pub functions : (k : ℕ) (f : TFunctionTree) → slice_get w.functions k ≡ Some f → IsSomeAnd (slice_get v.functions k) (IsSameFunction f)
+  pub signatures : (k : ℕ) (types : List CTypeTree) → slice_get w.signatures k ≡ Some types → slice_get v.signatures k ≡ Some types
 
--- typing only adds: declarations, one after the other, leave a program that goes on from the one before
+-- typing only adds: in a file, declarations leave a program that goes on from the one before them
 abbrev pub TypingAdds : Type 0
-TypingAdds = (w v : World) (around : Context) (outers : List OuterTree) → TypesOuters w around outers (Typed tt v) → GoesOn w v
+TypingAdds =
+    (around : Context) (before after : List OuterTree) (w v : World) → TypesOuters nothing_yet around before (Typed tt w)
+    → TypesOuters w around after (Typed tt v) → GoesOn w v
+
+-- each struct has the size, the alignment and the offsets that its members give, and none holds itself
+pub record AreLaidOut (structs : List StructDefTree) : Type 0 where
+  pub laid_out : IsLaidOut structs
+  pub founded : NoneHoldsItself structs
+
+-- so it is in each program that declarations leave
+abbrev pub StructsAreLaidOut : Type 0
+StructsAreLaidOut = (around : Context) (before : List OuterTree) (w : World) → TypesOuters nothing_yet around before (Typed tt w) → AreLaidOut w.structs
+
+-- each file has an outcome
+abbrev pub FilesHaveSome : Type 0
+FilesHaveSome = (file : FileTree) → (o : FileOutcome) × TypesFile file o

@@ -20,10 +20,13 @@
 //! | initialisers and the bytes of static objects | `CurrentObject`, `Inits` |
 //! | declarations, statements, functions, the file | `Context`, `Decls`, `Stmts`, `Settled`, `File` |
 //!
-//! That a file has one outcome at most is promised by `files_have_one`, that typing only adds to a program
-//! by `typing_adds`, and what small files come to by `samples_are_typed` (`Samples`).
+//! That a file has an outcome is promised by `files_have_some`, and that it has one at most by
+//! `files_have_one`; that typing only adds to a program by `typing_adds`, that structs stand there as they
+//! are laid out by `structs_are_laid_out`, and what small files come to by `samples_are_typed` (`Samples`).
 #![tactic(auto)]
 
 mod laws;
 
-pub use laws::{files_have_one, samples_are_typed, typing_adds};
+pub use laws::{
+    files_have_one, files_have_some, samples_are_typed, structs_are_laid_out, typing_adds,
+};
