@@ -1,14 +1,16 @@
 -- Members that are typed one after the other.
 use Rattle.std.proofs.Common.{◌≡◌, ℕ, zero, suc, ◌*◌, ◌<◌, ◌≤◌, Bool, true, false, List, [], ◌∷◌, ◌++◌, length, map, refl, ap, sym, subst, ◌∙◌, inl, inr, arith}
-use Rattle.std.specs.Prelude.{◌⊎◌, if◌then◌else◌, Option, None, Some, option_map, IsTrue, slice_get}
-use Rattle.std.proofs.lemmas.Bool.{cases_order}
+use Rattle.std.specs.Prelude.{◌⊎◌, if◌then◌else◌, ◌^◌, nat_le, Option, None, Some, option_map, IsTrue, slice_get}
+use Rattle.std.proofs.lemmas.Bool.{cases_order, leb-true}
 use Rattle.std.proofs.lemmas.List.{map-append, length-append, length-map, take_at, take-append-le}
 use Rattle.std.proofs.lemmas.List.Elements.{All-nil, All-push}
 use Rattle.std.proofs.lemmas.Option.{slice_get_past}
 use Rattle.c_syntax.specs.Types.{CTypeTree, Void, Int, Pointer, Array, Struct, Function}
 use Rattle.c_syntax.specs.Program.{MemberTree, StructDefTree}
-use Rattle.c_layout.specs.Layout.{Space, space_by, spaces_by, struct_space, members_of, in_table, laid_out, size_in, align_in, padded, members_end, offset_at}
-use Rattle.c_typing.specs.Operands.{is_unsized, complete_size}
+use Rattle.c_layout.specs.declared.layout.Sized.TheVariants.{Fits, Oversize}
+use Rattle.c_layout.specs.ProperTypes.{IsTold}
+use Rattle.c_layout.specs.Layout.{sized, Space, space_by, spaces_by, struct_space, members_of, in_table, laid_out, size_in, align_in, padded, members_end, offset_at}
+use Rattle.c_typing.specs.Operands.{told_size, is_unsized, complete_size}
 use Rattle.c_typing.specs.Laws.{has_members}
 use Rattle.c_typing.proofs.MadeTables.{IsHeldComplete, IsMade, AreMade, get_last, space_held, any_held}
 
@@ -33,12 +35,28 @@ size_held structs (Array of c n) size e = let s = array_size n size (size_in str
 size_held structs (Struct n) size e = struct_full [] (members_of structs n) _ size e
 size_held structs (Function n) size e = tt
 
-complete_told : (unsized : Bool) (o : Option ℕ) (size : ℕ) → (if unsized then None else o) ≡ Some size → o ≡ Some size
+-- a size that is told is the size, and not above 2 to the 40
+record Told (o : Option ℕ) (size : ℕ) : Type 0 where
+  is : o ≡ Some size
+  most : IsTold size
+
+told_fits : (n size : ℕ) (fits : Bool) → nat_le n (2 ^ 40) ≡ fits → told_size (if fits then Fits n else Oversize) ≡ Some size → Told (Some n) size
+told_fits n size true h e = let same : n ≡ size = cc in record { is = e; most = subst IsTold same (leb-true n (2 ^ 40) h) }
+told_fits n size false h e = absurd cc
+
+told_size_is : (o : Option ℕ) (size : ℕ) → told_size (sized o) ≡ Some size → Told o size
+told_size_is None size e = absurd cc
+told_size_is (Some n) size e = told_fits n size (nat_le n (2 ^ 40)) refl e
+
+complete_told : (unsized : Bool) (o : Option ℕ) (size : ℕ) → (if unsized then None else told_size (sized o)) ≡ Some size → Told o size
 complete_told true o size e = absurd cc
-complete_told false o size e = e
+complete_told false o size e = told_size_is o size e
 
 pub complete_is_size : (structs : List StructDefTree) (ty : CTypeTree) (size : ℕ) → complete_size structs ty ≡ Some size → size_in structs ty ≡ Some size
-complete_is_size structs ty size e = complete_told (is_unsized ty) (size_in structs ty) size e
+complete_is_size structs ty size e = (complete_told (is_unsized ty) (size_in structs ty) size e).is
+
+pub complete_is_told : (structs : List StructDefTree) (ty : CTypeTree) (size : ℕ) → complete_size structs ty ≡ Some size → IsTold size
+complete_is_told structs ty size e = (complete_told (is_unsized ty) (size_in structs ty) size e).most
 
 pub complete_held : (structs : List StructDefTree) (ty : CTypeTree) (size : ℕ) → complete_size structs ty ≡ Some size → IsHeldComplete structs ty
 complete_held structs ty size e = size_held structs ty size (complete_is_size structs ty size e)

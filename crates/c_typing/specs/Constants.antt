@@ -4,6 +4,7 @@ use Rattle.std.specs.Ordering.{int_eq}
 use Rattle.c_written.specs.declared.int_type.IntType.{IntType}
 use Rattle.c_written.specs.Integer.{wrapped}
 use Rattle.c_syntax.specs.declared.operator.TUnaryOp.{TUnaryOp}
+use Rattle.c_syntax.specs.declared.operator.TUnaryOp.TheVariants as unaries
 use Rattle.c_syntax.specs.declared.operator.TBinaryOp.{TBinaryOp}
 use Rattle.c_syntax.specs.declared.operator.TBinaryOp.TheVariants as binaries
 use Rattle.c_syntax.specs.Types.{CTypeTree, Void, Int, Pointer, ObjectTree}
@@ -37,20 +38,42 @@ number_given (looks.Gives v) = number_in v
 number_given (looks.GoesWrong kind operand) = None
 number_given looks.IsStuck = None
 
+-- the integer type at which an operator takes an operand of this type: its own, but for `!` and the amount of a shift (C11 6.5.7p3)
+abbrev pub operand_at : TUnaryOp → IntType → IntType
+operand_at (unaries.Plus t) u = t
+operand_at (unaries.Minus t) u = t
+operand_at (unaries.Complement t) u = t
+operand_at unaries.Not u = u
+
+abbrev pub left_at : TBinaryOp → IntType → IntType
+left_at (binaries.Arithmetic op t) u = t
+left_at (binaries.Shift way t) u = t
+left_at (binaries.CompareInts comparison t) u = t
+left_at op u = u
+
+abbrev pub right_at : TBinaryOp → IntType → IntType
+right_at (binaries.Arithmetic op t) u = t
+right_at (binaries.CompareInts comparison t) u = t
+right_at op u = u
+
+-- a number as a value of this type. In a typed tree it is one of the type already; any other is converted (this profile)
+abbrev pub value_at : IntType → ℤ → Value
+value_at t n = values.Int t (wrapped t n)
+
 abbrev pub integer_unary : TUnaryOp → IntType → ℤ → Option ℤ
-integer_unary op t n = number_given (unary [] no_memory op (Some (scalars.Int t)) (values.Int t n))
+integer_unary op t n = number_given (unary [] no_memory op (Some (scalars.Int t)) (value_at t n))
 
 abbrev pub integer_binary : TBinaryOp → IntType → IntType → ℤ → ℤ → Option ℤ
-integer_binary op t u a b = number_given (binary [] no_memory op (values.Int t a) (values.Int u b))
+integer_binary op t u a b = number_given (binary [] no_memory op (value_at t a) (value_at u b))
 
 -- an operator on the value of an operand of this type, where nothing goes wrong
 abbrev pub unary_constant : TUnaryOp → CTypeTree → Option ℤ → Option ℤ
-unary_constant op (Int t) (Some n) = integer_unary op t n
+unary_constant op (Int t) (Some n) = integer_unary op (operand_at op t) n
 unary_constant op ty value = None
 
 -- an operator on two values, of operands of these types
 abbrev pub binary_constant : TBinaryOp → CTypeTree → CTypeTree → Option ℤ → Option ℤ → Option ℤ
-binary_constant op (Int t) (Int u) (Some a) (Some b) = integer_binary op t u a b
+binary_constant op (Int t) (Int u) (Some a) (Some b) = integer_binary op (left_at op t) (right_at op u) a b
 binary_constant op left right a b = None
 
 -- a conversion to an integer type (C11 6.3.1.3)

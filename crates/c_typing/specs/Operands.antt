@@ -1,11 +1,13 @@
 -- What an expression names or gives, and its conversions.
-use Rattle.std.specs.Prelude.{ℕ, zero, Bool, true, false, if◌then◌else◌, Option, None, List}
+use Rattle.std.specs.Prelude.{ℕ, zero, Bool, true, false, if◌then◌else◌, Option, Some, None, List}
 use Rattle.c_written.specs.declared.int_type.IntType.{IntType}
 use Rattle.c_syntax.specs.Types.{CTypeTree, Int, Array, Struct}
 use Rattle.c_syntax.specs.TypedExpr.{TExprTree, Null, Load, Decay, Whole, Convert, Call, TLvalueTree}
 use Rattle.c_syntax.specs.TypedParts.{texpr_pos, texpr_type, tlvalue_pos, tlvalue_type}
 use Rattle.c_syntax.specs.Program.{StructDefTree}
-use Rattle.c_layout.specs.Layout.{size_in}
+use Rattle.c_layout.specs.declared.layout.Sized.{Sized}
+use Rattle.c_layout.specs.declared.layout.Sized.TheVariants.{Fits, Oversize, Incomplete}
+use Rattle.c_layout.specs.Layout.{size_in, sized}
 use Rattle.c_typing.specs.SameTypes.{is_same_int, is_same}
 
 -- a place, or a value (C11 6.3.2.1p1)
@@ -50,6 +52,11 @@ abbrev pub is_unsized : CTypeTree → Bool
 is_unsized (Array of is_const zero) = true
 is_unsized ty = false
 
--- the size of a complete type
+abbrev pub told_size : Sized → Option ℕ
+told_size (Fits n) = Some n
+told_size Oversize = None
+told_size Incomplete = None
+
+-- the size of a complete type; one above 2 to the 40 has none here, and is refused where it is declared (this profile)
 abbrev pub complete_size : List StructDefTree → CTypeTree → Option ℕ
-complete_size structs ty = if is_unsized ty then None else size_in structs ty
+complete_size structs ty = if is_unsized ty then None else told_size (sized (size_in structs ty))

@@ -51,8 +51,8 @@ pub record IsChange (scope : Scope) (target : CTypeTree) (change : CompoundTree)
 -- `op=` (C11 6.5.16.2p1 and p2)
 abbrev pub ChangesAreTyped : Type 0
 ChangesAreTyped =
-    (structs : List StructDefTree) (scope : Scope) (op : AssignOp) (target : CTypeTree) (e : TExprTree) (row : CompoundTree) → IsLater structs scope.program.structs
-    → IsTypedValue scope e → compound_row structs op target (texpr_type e) e ≡ Some row → IsChange scope target row
+    (structs : List StructDefTree) (scope : Scope) (op : AssignOp) (target : CTypeTree) (e : TExprTree) (row : CompoundTree)
+    → IsLater structs scope.program.structs → IsTypedValue scope e → compound_row structs op target (texpr_type e) e ≡ Some row → IsChange scope target row
 
 -- `++` and `--` (C11 6.5.2.4p1 and p2, 6.5.3.1p1 and p2)
 abbrev pub StepsAreTyped : Type 0
