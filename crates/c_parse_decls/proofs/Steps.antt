@@ -7,26 +7,12 @@ use Rattle.c_written.specs.declared.token.Placed.{Placed}
 use Rattle.c_written.specs.declared.declaration.Init.{Init}
 use Rattle.c_written.specs.Written.{SpecTrees, DeclaratorTree}
 use Rattle.c_written.specs.WrittenDecl.{InitTrees, InitDeclaratorTree, DeclTree, init_tree}
-use Rattle.c_grammar.specs.Parts.{Scene, DeclPart, Initial, Ending, ADecl, MoreInitialisers, NextInitialiser}
-use Rattle.c_grammar.specs.Process.{give, part}
-use Rattle.c_grammar.specs.Descent.{Outcome, Done, Stop, Goes, Follows, is_done}
+use Rattle.c_grammar.specs.Parts.{Scene, Initial, Ending, ADecl, MoreInitialisers}
+use Rattle.c_grammar.specs.Descent.{Outcome, Stop, Goes}
 use Rattle.c_parse_steps.specs.declared.fault.Fault.{Fault}
 use Rattle.c_parse_steps.specs.Answers.{Halts}
-use Rattle.c_parse_steps.proofs.Steps.{here, stall, step, stops_here}
+use Rattle.c_parse_steps.proofs.Steps.{stall, step}
 use Rattle.c_parse_decls.specs.Answers.{Initialised}
-
--- a production that ends with a part of the same kind
-pub last_decl : {i j : DeclPart} {d : ℕ} {w s : Scene} {ts : List Placed} (o : Outcome DeclTree) → Goes d s (ADecl i) ts o → Follows d w (ADecl j) (part 0 s (ADecl i) give) ts o
-last_decl (Done v r) g = here g is_done
-last_decl (Stop why r) g = stops_here g
-
-pub last_inits : {before more : InitTrees} {d : ℕ} {w s : Scene} {ts : List Placed} (o : Outcome InitTrees) → Goes d s (MoreInitialisers more) ts o → Follows d w (NextInitialiser before) (part 0 s (MoreInitialisers more) give) ts o
-last_inits (Done v r) g = here g is_done
-last_inits (Stop why r) g = stops_here g
-
-pub next_inits : {before more : InitTrees} {d : ℕ} {w s : Scene} {ts : List Placed} (o : Outcome InitTrees) → Goes d s (NextInitialiser more) ts o → Follows d w (MoreInitialisers before) (part 0 s (NextInitialiser more) give) ts o
-next_inits (Done v r) g = here g is_done
-next_inits (Stop why r) g = stops_here g
 
 -- what follows the declarator was read
 pub initialised_at : {s : SpecTrees} {before : List InitDeclaratorTree} {d : DeclaratorTree} {count : ℕ} {w : Scene} {ts : List Placed} {x : Option (Box Init Global) × Bor (List Placed)} → Initialised count w ts (Ok x) → (o : Outcome DeclTree) → Goes count w (ADecl (Ending s (before ++ record { declarator = d; init = option_map (λ v. init_tree v.value) x.0 } ∷ []))) x.1.now o → Goes count w (ADecl (Initial s before d)) ts o

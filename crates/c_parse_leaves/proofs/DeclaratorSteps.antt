@@ -14,7 +14,7 @@ use Rattle.c_written.specs.Written.{DeclaratorTree, Absent, Name, declarator_tre
 use Rattle.c_grammar.specs.declared.parts.Role.{Role}
 use Rattle.c_grammar.specs.declared.parts.Role.TheVariants.{Naming, OfMember, OfParameter, OfTypeName}
 use Rattle.c_grammar.specs.Parts.{Scene, Part, Value, Pointed, Direct, Tails, MoreParameters, ADeclarator, DeclaratorPart}
-use Rattle.c_grammar.specs.Process.{Process, give, part, token}
+use Rattle.c_grammar.specs.Process.{Process, give, token}
 use Rattle.c_grammar.specs.declared.class.Class.{Class}
 use Rattle.c_grammar.specs.declared.class.Class.TheVariants.{Keyword as keyword}
 use Rattle.c_grammar.specs.Classes.{names_type}
@@ -25,7 +25,7 @@ use Rattle.c_grammar.specs.TypeRules.{MayName, MayOmit}
 use Rattle.c_grammar.specs.Ahead.{no_group_ahead}
 use Rattle.c_grammar.specs.Refused.{first_is}
 use Rattle.c_grammar.specs.Choice.{choose, direct_word_choice, is_const_word}
-use Rattle.c_grammar.specs.Descent.{Outcome, Done, Stop, Goes, Follows, is_done}
+use Rattle.c_grammar.specs.Descent.{Outcome, Goes, Follows}
 use Rattle.c_parse_steps.specs.declared.type_kind.DirectKind.{DirectKind}
 use Rattle.c_parse_steps.specs.declared.type_kind.DirectKind.TheVariants as directs
 use Rattle.c_parse_steps.specs.declared.type_kind.TailKind.{TailKind}
@@ -36,7 +36,8 @@ use Rattle.std.specs.declared.alloc.Global.{Global}
 use Rattle.std.specs.declared.boxed.Box.{Box}
 use Rattle.c_parse_steps.specs.Kinds.{direct_at, direct_of, direct_of_word, is_no_tail, tail_at, tail_of, sign_of}
 use Rattle.c_parse_steps.proofs.Choices.{Chosen}
-use Rattle.c_parse_steps.proofs.Steps.{by, take, here, stops_here, if_true}
+use Rattle.c_parse_steps.proofs.Steps.{by, take, if_true}
+use Rattle.c_parse_steps.proofs.Last.{same, last_part}
 
 abbrev at_token : Pos → Token → List Placed → List Placed
 at_token at k ts = record { pos = at; token = k } ∷ ts
@@ -127,14 +128,9 @@ parameters_at {d} {w} {at} {inner} {a} {b} {ts} {o} e g = subst (λ v. Goes d w 
 pub function_so : {d n : ℕ} {w : Scene} {x : DeclaratorPart} {c : Class} (at : Pos) {a b : Box Declarator Global} {params all : ParamTrees} {ts : List Placed} {o : Outcome DeclaratorTree} → a ≡ b → params ≡ all → Follows d w (ADeclarator x) (token n c (λ t. give (function_of at (boxed_declarator a) params))) ts o → Follows d w (ADeclarator x) (token n c (λ t. give (function_of at (boxed_declarator b) all))) ts o
 function_so {d} {n} {w} {x} {c} at {a} {b} {params} {all} {ts} {o} e f g = subst (λ u. Follows d w (ADeclarator x) (token n c (λ t. give (function_of at (boxed_declarator b) u))) ts o) f (subst (λ v. Follows d w (ADeclarator x) (token n c (λ t. give (function_of at (boxed_declarator v) params))) ts o) e g)
 
--- a last part, which is the whole
-pub tail_declarator : {d : ℕ} {w : Scene} {x y : DeclaratorPart} {ts : List Placed} (o : Outcome DeclaratorTree) → Goes d w (ADeclarator x) ts o → Follows d w (ADeclarator y) (part 0 w (ADeclarator x) give) ts o
-tail_declarator (Done v mid) g = here g is_done
-tail_declarator (Stop why rest) g = stops_here g
-
 -- a word `const` behind a star
 pub const_step : {d : ℕ} {w : Scene} {r : Role} {at : Pos} {before : Bool} {p : Bor Placed × Bor (List Placed)} {ts : List Placed} (o : Outcome DeclaratorTree) → first_is is_const_word ts ≡ true → Takes d w 0 (keyword keywords.Const) ts (Ok p) → Goes d w (ADeclarator (Pointed r at true)) p.1.now o → Goes d w (ADeclarator (Pointed r at before)) ts o
-const_step o e t k = by (type_rule types.pointer_const) refl (if_true _ e) (take t (tail_declarator o k))
+const_step o e t k = by (type_rule types.pointer_const) refl (if_true _ e) (take t (last_part same o k))
 
 pub both_true : {a b : Bool} → a ≡ true → b ≡ true → (a && b) ≡ true
 both_true {a} {b} e f = subst (λ v. (v && b) ≡ true) (sym e) f

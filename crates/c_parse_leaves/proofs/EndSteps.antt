@@ -23,8 +23,9 @@ use Rattle.c_parse_steps.specs.declared.fault.Fault.{Fault}
 use Rattle.c_parse_steps.specs.Answers.{Halts, no_memory, Gives, given, halted, Steps, stepped, stalled}
 use Rattle.c_parse_steps.specs.Views.{boxed_expr}
 use Rattle.c_parse_steps.proofs.Steps.{by, done, halts, not_shut, refuse, shut, take}
+use Rattle.c_parse_steps.proofs.Last.{same, last_inside}
 use Rattle.c_parse_leaves.specs.Ends.{Hands, handed, unmade, Closes, closed, unclosed}
-use Rattle.c_parse_leaves.proofs.ExprSteps.{suffixes_at, tail_expr}
+use Rattle.c_parse_leaves.proofs.ExprSteps.{suffixes_at}
 
 -- it was made behind the last token
 pub made_so : {A V : Type 0} {goes : Outcome V → Type 0} {view : A → V} (v : V) {ts : List Placed} {m : Result A AllocError} {r : Result (A × Bor (List Placed)) Fault} → goes (Done v ts) → IfOk m (λ a. view a ≡ v) → Hands ts m r → Gives goes view r
@@ -59,11 +60,11 @@ not_grouped g (unclosed t) = halts (refuse t) (λ why rest h p k. stops (by (typ
 
 -- the same of a longer postfix form
 pub longer_shut : {x : ExprPart} {goes : Outcome ExprTree → Type 0} {v : ExprTree} (d : ℕ) {n : ℕ} {w : Scene} {z : Closing} {ts : List Placed} {m : Result (Box Expr Global) AllocError} {r : Result (Box Expr Global × Bor (List Placed)) Fault} → ((o : Outcome ExprTree) → Follows d w (AnExpr x) (part n w (Close z) (λ t. part 1 w (AnExpr (Suffixes v)) give)) ts o → goes o) → IfOk m (λ a. boxed_expr a ≡ v) → Closes (d + n) w (sign (closing_sign z)) ts m r → Steps goes (λ e rest o. Goes (d + 1) w (AnExpr (Suffixes (boxed_expr e))) rest o) r
-longer_shut {x = x} {v = v} d {w = w} f h (closed t (handed {rest = rest} e)) = stepped (λ o g. f o (shut t (subst (λ s. Follows d w (AnExpr x) (part 1 w (AnExpr (Suffixes v)) give) s o) e (tail_expr o (suffixes_at h g)))))
+longer_shut {x = x} {v = v} d {w = w} f h (closed t (handed {rest = rest} e)) = stepped (λ o g. f o (shut t (subst (λ s. Follows d w (AnExpr x) (part 1 w (AnExpr (Suffixes v)) give) s o) e (last_inside same o (suffixes_at h g)))))
 longer_shut d f h (closed t unmade) = stalled no_memory
 longer_shut d f h (unclosed t) = stalled (halts (not_shut t) (λ why rest g. f _ (g _ _)))
 
--- what the last callee answered is one step of the caller
+-- what a part gives is one step of the form that goes on behind it
 pub led : {A V W : Type 0} {goes : Outcome V → Type 0} {others : Outcome W → Type 0} {next : A → List Placed → Outcome V → Type 0} {view : A → W} {r : Result (A × Bor (List Placed)) Fault} → ((a : A) (rest : List Placed) → others (Done (view a) rest) → (o : Outcome V) → next a rest o → goes o) → ((why : Why) (rest : List Placed) → others (Stop why rest) → goes (Stop why rest)) → Gives others view r → Steps goes next r
 led f g (given {x = x} h) = stepped (λ o k. f x.0 x.1.now h o k)
 led f g (halted h) = stalled (halts h g)

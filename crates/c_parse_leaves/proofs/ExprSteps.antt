@@ -23,7 +23,7 @@ use Rattle.c_grammar.specs.ExprRules.{operand}
 use Rattle.c_grammar.specs.Ahead.{is_open}
 use Rattle.c_grammar.specs.Refused.{first_is, where_true, part_construct}
 use Rattle.c_grammar.specs.Made.{is_word, joined}
-use Rattle.c_grammar.specs.Descent.{Outcome, Done, Stop, Goes, Follows, goes_on, stops, is_done}
+use Rattle.c_grammar.specs.Descent.{Outcome, Stop, Goes, Follows}
 use Rattle.c_parse_steps.specs.declared.fault.Fault.{Fault}
 use Rattle.c_grammar.specs.declared.Level.{Level}
 use Rattle.c_grammar.specs.declared.Level.TheVariants as levels
@@ -37,7 +37,8 @@ use Rattle.c_parse_steps.specs.declared.kind.SuffixKind.{SuffixKind}
 use Rattle.c_parse_steps.specs.declared.kind.SuffixKind.TheVariants as suffixes
 use Rattle.c_parse_steps.specs.Kinds.{joint_here, operand_of, suffix_at, is_no_suffix}
 use Rattle.c_parse_steps.proofs.Choices.{Chosen, MoreTells, more_is, SuffixTells, suffix_is}
-use Rattle.c_parse_steps.proofs.Steps.{by, here, stops_here, halts, stall, step}
+use Rattle.c_parse_steps.proofs.Steps.{by, halts, stall, step}
+use Rattle.c_parse_steps.proofs.Last.{same, last_inside}
 
 -- the operand as a part of an expression
 abbrev pub operand_part : OperandKind → ExprPart
@@ -75,11 +76,6 @@ is_question_ahead w condition (t ∷ ts) e = asked_token w condition t.pos t.tok
 pub suffix_free : (w : Scene) (base : ExprTree) (ts : List Placed) → first_is is_open ts ≡ false → part_construct w (AnExpr (Suffixes base)) ts ≡ None
 suffix_free w base ts e = ap (λ v. where_true (v && not (is_word base)) constructs.FunctionPointer) e
 
--- a last part, which is the whole
-pub tail_expr : {d : ℕ} {w s : Scene} {n : ℕ} {x y : ExprPart} {ts : List Placed} (o : Outcome ExprTree) → Goes (d + n) s (AnExpr x) ts o → Follows d w (AnExpr y) (part n s (AnExpr x) give) ts o
-tail_expr (Done a mid) g = goes_on g is_done
-tail_expr (Stop why rest) g = stops g
-
 pub suffixes_at : {d : ℕ} {w : Scene} {a b : ExprTree} {ts : List Placed} {o : Outcome ExprTree} → a ≡ b → Goes d w (AnExpr (Suffixes a)) ts o → Goes d w (AnExpr (Suffixes b)) ts o
 suffixes_at {d} {w} {a} {b} {ts} {o} e g = subst (λ v. Goes d w (AnExpr (Suffixes v)) ts o) e g
 
@@ -97,15 +93,7 @@ behind_sign {d} {w} {a} {b} {x} {ts} {r} e h = subst (λ v. ReadsBehind d w v x 
 pub joint_step : {d : ℕ} {w : Scene} {l : Level} {j : Joint} {left whole : ExprTree} {x : (Pos × Box Expr Global) × Bor (List Placed)} {ts : List Placed} (o : Outcome ExprTree) → joint_here l ts ≡ Some j → ReadsBehind d w (joint_sign j) (operand l) ts (Ok x) → whole ≡ joined j x.0.0 left (boxed_expr x.0.1) → Goes (d + 1) w (AnExpr (More l whole)) x.1.now o → Goes d w (AnExpr (More l left)) ts o
 joint_step {d} {w} {l} {j} {left} {whole} {x} {ts} o e r h k =
     let m : MoreTells w l left ts (Some j) = more_is w l left ts e in
-    by (expr_rule (exprs.run_more j m.0)) refl m.1 (step (r (AnExpr (More l left)) (λ at right. part 1 w (AnExpr (More l (joined j at left right))) give)) o (tail_expr o (more_at h k)))
-
-pub tail_arguments : {d : ℕ} {w s : Scene} {a b : ExprTrees} {ts : List Placed} (o : Outcome ExprTrees) → Goes d s (MoreArguments a) ts o → Follows d w (MoreArguments b) (part 0 s (MoreArguments a) give) ts o
-tail_arguments (Done a mid) g = here g is_done
-tail_arguments (Stop why rest) g = stops_here g
-
-pub tail_first : {d : ℕ} {w : Scene} {a : ExprTrees} {ts : List Placed} (o : Outcome ExprTrees) → Goes d w (MoreArguments a) ts o → Follows d w Arguments (part 0 w (MoreArguments a) give) ts o
-tail_first (Done v mid) g = here g is_done
-tail_first (Stop why rest) g = stops_here g
+    by (expr_rule (exprs.run_more j m.0)) refl m.1 (step (r (AnExpr (More l left)) (λ at right. part 1 w (AnExpr (More l (joined j at left right))) give)) o (last_inside same o (more_at h k)))
 
 -- a stop behind a joint that comes
 pub joint_stop : {d : ℕ} {w : Scene} {l : Level} {j : Joint} {left : ExprTree} {ts : List Placed} {f : Fault} → joint_here l ts ≡ Some j → ReadsBehind d w (joint_sign j) (operand l) ts (Err f) → Halts (λ why rest. Goes d w (AnExpr (More l left)) ts (Stop why rest)) f

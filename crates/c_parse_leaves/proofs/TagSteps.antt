@@ -10,17 +10,17 @@ use Rattle.c_written.specs.declared.token.Token.TheVariants as kinds
 use Rattle.c_written.specs.declared.written.Tag.{Tag}
 use Rattle.c_written.specs.Written as trees
 use Rattle.c_written.specs.Written.{SpecTree}
-use Rattle.c_grammar.specs.Parts.{Scene, SpecPart, ASpec, Members, Enumerators}
+use Rattle.c_grammar.specs.Parts.{Scene, ASpec, Members, Enumerators}
 use Rattle.c_grammar.specs.Process.{give, token, part}
 use Rattle.c_grammar.specs.declared.class.Class.TheVariants.{Sign as sign, AnyWord as any_word}
 use Rattle.c_grammar.specs.Classes.{name_of}
 use Rattle.c_grammar.specs.Grammar.{type_rule}
 use Rattle.c_grammar.specs.TypeRules as types
 use Rattle.c_grammar.specs.Refused.{first_is, is_brace}
-use Rattle.c_grammar.specs.Descent.{Outcome, Done, Stop, Goes, Follows, is_done, no_rule, refusal}
+use Rattle.c_grammar.specs.Descent.{Outcome, Done, Stop, Goes, Follows, no_rule, refusal}
 use Rattle.c_parse_steps.specs.declared.type_kind.TagKind.TheVariants as tags
 use Rattle.c_parse_steps.specs.Kinds.{tag_at, tag_of}
-use Rattle.c_parse_steps.proofs.Steps.{by, here, stops_here, done, if_true, if_false}
+use Rattle.c_parse_steps.proofs.Steps.{by, done, if_true, if_false}
 use Rattle.c_parse_steps.proofs.TypeSteps.{structure_is, enumeration_is}
 use Rattle.c_parse_leaves.specs.Tags.{Owner, of_structure, of_enumeration, tagged, NamesOrBraces}
 
@@ -34,11 +34,7 @@ pub no_tag : {d : ℕ} {w : Scene} {ts : List Placed} (owner : Owner) (at : Pos)
 no_tag of_structure at h = no_rule refl (structure_is _ _ _ h)
 no_tag of_enumeration at h = no_rule refl (enumeration_is _ _ _ h)
 
--- a last part, which is the whole
-pub tail_spec : {d : ℕ} {w : Scene} {x y : SpecPart} {ts : List Placed} (o : Outcome SpecTree) → Goes d w (ASpec x) ts o → Follows d w (ASpec y) (part 0 w (ASpec x) give) ts o
-tail_spec (Done v mid) g = here g is_done
-tail_spec (Stop why rest) g = stops_here g
-
+-- its tag is this
 pub tagged_at : {d : ℕ} {w : Scene} (owner : Owner) (at place : Pos) {a b : List ℕ} {ts : List Placed} {o : Outcome SpecTree} → a ≡ b → Goes d w (ASpec (tagged owner at (Some (record { pos = place; name = a })))) ts o → Goes d w (ASpec (tagged owner at (Some (record { pos = place; name = b })))) ts o
 tagged_at {d} {w} owner at place {a} {b} {ts} {o} e g = subst (λ v. Goes d w (ASpec (tagged owner at (Some (record { pos = place; name = v })))) ts o) e g
 

@@ -1,5 +1,5 @@
 -- A condition between parentheses, on the way through a statement.
-use Rattle.std.proofs.Common.{◌≡◌, ℕ, List, sym, subst, Bor}
+use Rattle.std.proofs.Common.{◌≡◌, ℕ, List, Bor}
 use Rattle.std.specs.Prelude.{Result, Ok, Err}
 use Rattle.std.specs.Result.{IsErrAnd}
 use Rattle.c_written.specs.declared.token.Placed.{Placed}
@@ -12,9 +12,9 @@ use Rattle.c_grammar.specs.Parts.{Scene, Part, Value}
 use Rattle.c_grammar.specs.Process.{Process}
 use Rattle.c_grammar.specs.Descent.{Outcome, Stop, Follows}
 use Rattle.c_parse_steps.specs.declared.fault.Fault.{Fault}
-use Rattle.c_parse_steps.specs.Answers.{Halts, Gives}
+use Rattle.c_parse_steps.specs.Answers.{Halts, Gives, halted}
 use Rattle.c_parse_steps.proofs.Paths.{Path}
-use Rattle.c_parse_steps.proofs.Steps.{failed, halts}
+use Rattle.c_parse_steps.proofs.Steps.{halts, passed_on}
 use Rattle.c_parse_simple.specs.Kinds.{Conditions, tested, untested, in_parentheses}
 
 -- the expression between parentheses was read
@@ -25,9 +25,4 @@ halts_tried : {d : ℕ} {w : Scene} {ts : List Placed} {f : Fault} → Condition
 halts_tried (untested h) = h
 
 pub not_tried : {A : Type 0} {p : Part} {goes : Outcome (Value p) → Type 0} {d : ℕ} {w : Scene} {k : ExprTree → Process (Value p)} {ts : List Placed} {view : A → Value p} {f : Fault} {r : Result (A × Bor (List Placed)) Fault} → IsErrAnd r (λ e. e ≡ f) → Path p goes d w (in_parentheses w k) ts → Conditions d w ts (Err f) → Gives goes view r
-not_tried {p = p} {k = k} e path h = failed e (halts (halts_tried h) (λ why rest g. path.run _ (g p k)))
-
--- the expression is not between parentheses
-pub untried : {d : ℕ} {w : Scene} {ts : List Placed} {f : Fault} (r : Result (Box Expr Global × Bor (List Placed)) Fault) → IsErrAnd r (λ e. e ≡ f) → Halts (λ why rest. (p : Part) (k : ExprTree → Process (Value p)) → Follows d w p (in_parentheses w k) ts (Stop why rest)) f → Conditions d w ts r
-untried (Ok x) e h = absurd e
-untried {d} {w} {ts} (Err g) e h = untested (subst (λ v. Halts (λ why rest. (p : Part) (k : ExprTree → Process (Value p)) → Follows d w p (in_parentheses w k) ts (Stop why rest)) v) (sym e) h)
+not_tried {p = p} {k = k} e path h = passed_on (Gives _ _) e (halted (halts (halts_tried h) (λ why rest g. path.run _ (g p k))))

@@ -1,5 +1,6 @@
 pub mod NodeSteps
 pub mod Steps
+pub mod Last
 pub mod Paths
 pub mod Bars
 pub mod Choices

@@ -16,7 +16,7 @@ use Rattle.c_grammar.specs.Choice.{choose}
 use Rattle.c_grammar.specs.Descent.{Outcome, Done, Stop, barred, Goes, Follows, is_barred, by_rule, is_done, goes_on, stops, passes}
 use Rattle.c_parse_steps.specs.declared.fault.Fault.{Fault}
 use Rattle.c_parse_steps.specs.Answers.{IsStop, Halts, Gives, given, halted, Takes, taken, refused}
-use Rattle.c_parse_steps.proofs.Steps.{failed, halt, halts, here, shut, stopped, stops_here}
+use Rattle.c_parse_steps.proofs.Steps.{passed_on, halt, halts, here, last, shut, stopped, stops_here}
 
 -- Where the descent has come in a production of the part: what is left of it decides for all.
 pub record Path (p : Part) (goes : Outcome (Value p) → Type 0) (d : ℕ) (w : Scene) (q : Process (Value p)) (ts : List Placed) : Type 0 where
@@ -60,17 +60,20 @@ pub halts_after : {p : Part} {goes : Outcome (Value p) → Type 0} {d n : ℕ} {
 halts_after {p = p} {k = k} path (refused h) = halts h (λ why rest g. path.run _ (g p k))
 
 pub not_after : {A : Type 0} {p : Part} {goes : Outcome (Value p) → Type 0} {d n : ℕ} {w : Scene} {c : Class} {k : Placed → Process (Value p)} {ts : List Placed} {view : A → Value p} {f : Fault} {r : Result (A × Bor (List Placed)) Fault} → IsErrAnd r (λ e. e ≡ f) → Path p goes d w (token n c k) ts → Takes d w n c ts (Err f) → Gives goes view r
-not_after e path h = failed e (halts_after path h)
+not_after e path h = passed_on (Gives _ _) e (halted (halts_after path h))
 
 -- the part was not read
+pub halts_behind : {B : Type 0} {p i : Part} {goes : Outcome (Value p) → Type 0} {d : ℕ} {w s : Scene} {k : Value i → Process (Value p)} {ts : List Placed} {of_part : B → Value i} {f : Fault} → Path p goes d w (part 0 s i k) ts → Gives (λ o. Goes d s i ts o) of_part (Err f) → Halts (λ why rest. goes (Stop why rest)) f
+halts_behind path g = halts (halt g) (λ why rest h. path.run _ (stops_here h))
+
 pub not_behind : {A B : Type 0} {p i : Part} {goes : Outcome (Value p) → Type 0} {d : ℕ} {w s : Scene} {k : Value i → Process (Value p)} {ts : List Placed} {of_part : B → Value i} {view : A → Value p} {f : Fault} {r : Result (A × Bor (List Placed)) Fault} → IsErrAnd r (λ e. e ≡ f) → Path p goes d w (part 0 s i k) ts → Gives (λ o. Goes d s i ts o) of_part (Err f) → Gives goes view r
-not_behind e path g = failed e (halts (halt g) (λ why rest h. path.run _ (stops_here h)))
+not_behind e path g = passed_on (Gives _ _) e (halted (halts_behind path g))
 
 pub halts_inside : {B : Type 0} {p i : Part} {goes : Outcome (Value p) → Type 0} {d : ℕ} {w s : Scene} {k : Value i → Process (Value p)} {ts : List Placed} {of_part : B → Value i} {f : Fault} → Path p goes d w (part 1 s i k) ts → Gives (λ o. Goes (d + 1) s i ts o) of_part (Err f) → Halts (λ why rest. goes (Stop why rest)) f
 halts_inside path g = halts (halt g) (λ why rest h. path.run _ (stops h))
 
 pub not_inside : {A B : Type 0} {p i : Part} {goes : Outcome (Value p) → Type 0} {d : ℕ} {w s : Scene} {k : Value i → Process (Value p)} {ts : List Placed} {of_part : B → Value i} {view : A → Value p} {f : Fault} {r : Result (A × Bor (List Placed)) Fault} → IsErrAnd r (λ e. e ≡ f) → Path p goes d w (part 1 s i k) ts → Gives (λ o. Goes (d + 1) s i ts o) of_part (Err f) → Gives goes view r
-not_inside e path g = failed e (halts_inside path g)
+not_inside e path g = passed_on (Gives _ _) e (halted (halts_inside path g))
 
 -- the part is refused where it bears a construct
 pub barred_at : {A : Type 0} {d : ℕ} {w : Scene} {p : Part} {c : Construct} {ts : List Placed} {view : A → Value p} {f : Fault} → part_construct w p ts ≡ Some c → IsStop (barred p d c ts) ts f → Gives (λ o. Goes d w p ts o) view (Err f)
@@ -78,9 +81,5 @@ barred_at e h = halted (stopped h (is_barred e))
 
 -- the part that is left is the whole
 pub lasts : {A : Type 0} {p i : Part} {goes : Outcome (Value p) → Type 0} {d : ℕ} {w s : Scene} {k : Value i → Process (Value p)} {of_part : A → Value i} {view : A → Value p} {ts : List Placed} {r : Result (A × Bor (List Placed)) Fault} → Path p goes d w (part 0 s i k) ts → Gives (λ o. Goes d s i ts o) of_part r → ((a : A) → k (of_part a) ≡ give (view a)) → Gives goes view r
-lasts {p = p} {d = d} {w = w} {view = view} {r = Ok x} path (given h) e = given (path.run _ (here h (subst (λ q. Follows d w p q x.1.now (Done (view x.0) x.1.now)) (sym (e x.0)) is_done)))
-lasts {r = Err f} path (halted g) e = halted (halts g (λ why rest h. path.run _ (stops_here h)))
-
--- what was read is the whole, in another form
-pub same_value : {A B V : Type 0} {goes : Outcome V → Type 0} {view : A → V} {other : B → V} {x : A × Bor (List Placed)} {y : B} → Gives goes view (Ok x) → other y ≡ view x.0 → Gives goes other (Ok (y, x.1))
-same_value {goes = goes} {x = x} (given h) e = given (subst (λ v. goes (Done v x.1.now)) (sym e) h)
+lasts path (given h) e = given (path.run _ (last h (e _)))
+lasts {of_part = of_part} path (halted g) e = halted (halts_behind {of_part = of_part} path (halted g))

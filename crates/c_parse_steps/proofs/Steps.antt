@@ -19,7 +19,6 @@ use Rattle.c_grammar.specs.Refused.{Why, Syntax, Unsupported, TooDeep, part_cons
 use Rattle.c_grammar.specs.Choice.{choose}
 use Rattle.c_grammar.specs.Descent.{Outcome, Done, Stop, Goes, Follows, NotFits, by_rule, goes_on, stops, is_done, is_left, is_deep, is_borne, takes, refusal, why_token}
 use Rattle.c_parse_steps.specs.declared.fault.Fault.{Fault}
-use Rattle.c_parse_steps.specs.declared.fault.Fault.TheVariants as faults
 use Rattle.c_parse_steps.specs.Answers.{Halts, no_memory, syntax, unsupported, too_deep, IsStop, Gives, given, halted, Takes, taken, refused, Steps, stepped, stalled}
 
 -- what a callee's stop is to its caller
@@ -30,32 +29,17 @@ halts (unsupported h) g = unsupported (g _ _ h)
 halts (too_deep h) g = too_deep (g _ _ h)
 
 -- a fault that is passed on
-pub failed : {A V : Type 0} {goes : Outcome V → Type 0} {view : A → V} {f : Fault} {r : Result (A × Bor (List Placed)) Fault} → IsErrAnd r (λ y. y ≡ f) → Halts (λ why rest. goes (Stop why rest)) f → Gives goes view r
-failed {A} {V} {goes} {view} {f} {r} h g =
-    let p = err_from_is_err_and r h in
-    subst (λ v. Gives goes view v) (sym p.1) (halted (subst (λ v. Halts (λ why rest. goes (Stop why rest)) v) (sym p.2) g))
-
--- want of memory
-pub starved : {A V : Type 0} {goes : Outcome V → Type 0} {view : A → V} {r : Result (A × Bor (List Placed)) Fault} → IsErrAnd r (λ y. y ≡ faults.NoMemory) → Gives goes view r
-starved h = failed h no_memory
-
--- the same of one step
-pub stalls : {A V : Type 0} {goes : Outcome V → Type 0} {next : A → List Placed → Outcome V → Type 0} {f : Fault} {r : Result (A × Bor (List Placed)) Fault} → IsErrAnd r (λ y. y ≡ f) → Halts (λ why rest. goes (Stop why rest)) f → Steps goes next r
-stalls {A} {V} {goes} {next} {f} {r} h g =
-    let p = err_from_is_err_and r h in
-    subst (λ v. Steps goes next v) (sym p.1) (stalled (subst (λ v. Halts (λ why rest. goes (Stop why rest)) v) (sym p.2) g))
-
-pub starves : {A V : Type 0} {goes : Outcome V → Type 0} {next : A → List Placed → Outcome V → Type 0} {r : Result (A × Bor (List Placed)) Fault} → IsErrAnd r (λ y. y ≡ faults.NoMemory) → Steps goes next r
-starves h = stalls h no_memory
+pub passed_on : {A : Type 0} {f : Fault} {r : Result A Fault} (P : Result A Fault → Type 0) → IsErrAnd r (λ y. y ≡ f) → P (Err f) → P r
+passed_on {f = f} {r = r} P h g = let p = err_from_is_err_and r h in subst P (sym p.1) (subst (λ v. P (Err v)) (sym p.2) g)
 
 -- what a callee answered
 pub answer : {A : Type 0} {d : ℕ} {w : Scene} {p : Part} {ts : List Placed} {view : A → Value p} {x : A × Bor (List Placed)} → Gives (λ o. Goes d w p ts o) view (Ok x) → Goes d w p ts (Done (view x.0) x.1.now)
 answer (given g) = g
 
--- what the last callee answered is the caller's answer, where each of its outcomes leads to one
-pub relayed : {A V : Type 0} {d : ℕ} {w : Scene} {p : Part} {goes : Outcome V → Type 0} {ts : List Placed} {view : A → Value p} {seen : A → V} {r : Result (A × Bor (List Placed)) Fault} → Gives (λ o. Goes d w p ts o) view r → ((x : A × Bor (List Placed)) → Goes d w p ts (Done (view x.0) x.1.now) → goes (Done (seen x.0) x.1.now)) → ((why : Why) (rest : List Placed) → Goes d w p ts (Stop why rest) → goes (Stop why rest)) → Gives goes seen r
-relayed (given {x = x} g) f h = given (f x g)
-relayed (halted g) f h = halted (halts g h)
+-- what is left of a part reads as the part
+pub carried : {A V : Type 0} {goes other : Outcome V → Type 0} {view : A → V} {r : Result (A × Bor (List Placed)) Fault} → Gives goes view r → ((o : Outcome V) → goes o → other o) → Gives other view r
+carried (given g) f = given (f _ g)
+carried (halted h) f = halted (halts h (λ why rest g. f _ g))
 
 pub halt : {A : Type 0} {d : ℕ} {w : Scene} {p : Part} {ts : List Placed} {view : A → Value p} {f : Fault} → Gives (λ o. Goes d w p ts o) view (Err f) → Halts (λ why rest. Goes d w p ts (Stop why rest)) f
 halt (halted h) = h

@@ -7,16 +7,17 @@ use Rattle.c_written.specs.declared.token.Token.{Token}
 use Rattle.c_written.specs.declared.token.Token.TheVariants as kinds
 use Rattle.c_written.specs.Written.{ExprTree}
 use Rattle.c_grammar.specs.Parts.{Scene, Part, Value, Texts, AnExpr}
-use Rattle.c_grammar.specs.Process.{Process, give, token, part}
+use Rattle.c_grammar.specs.Process.{Process, token}
 use Rattle.c_grammar.specs.declared.class.Class.TheVariants.{Text as text}
 use Rattle.c_grammar.specs.Classes.{bytes_of}
 use Rattle.c_grammar.specs.Grammar.{expr_rule}
 use Rattle.c_grammar.specs.ExprRules as exprs
 use Rattle.c_grammar.specs.Refused.{first_is, Why}
-use Rattle.c_grammar.specs.Descent.{Outcome, Done, Stop, Goes, Follows, is_done}
+use Rattle.c_grammar.specs.Descent.{Outcome, Stop, Goes, Follows}
 use Rattle.c_parse_steps.specs.Views.{is_text}
 use Rattle.c_parse_steps.specs.Answers.{Takes}
-use Rattle.c_parse_steps.proofs.Steps.{by, take, here, stops_here}
+use Rattle.c_parse_steps.proofs.Steps.{by, take}
+use Rattle.c_parse_steps.proofs.Last.{same, last_part}
 use Rattle.c_parse_steps.proofs.Choices.{Chosen}
 
 text_token : (w : Scene) (at : Pos) (before : List ℕ) (place : Pos) (k : Token) (ts : List Placed) → is_text k ≡ true → Chosen (expr_rule (exprs.texts_more {w = w} {at = at} {before = before})) (record { pos = place; token = k } ∷ ts)
@@ -37,21 +38,14 @@ pub text_ends : (w : Scene) (at : Pos) (before : List ℕ) (ts : List Placed) �
 text_ends w at before [] e = refl
 text_ends w at before (t ∷ ts) e = end_token w at before t.pos t.token ts e
 
-pub tail_texts : {d : ℕ} {w : Scene} {at : Pos} {a b : List ℕ} {ts : List Placed} (o : Outcome ExprTree) → Goes d w (AnExpr (Texts at a)) ts o → Follows d w (AnExpr (Texts at b)) (part 0 w (AnExpr (Texts at a)) give) ts o
-tail_texts (Done a mid) g = here g is_done
-tail_texts (Stop why rest) g = stops_here g
-
-texts_at : {d : ℕ} {w : Scene} {at : Pos} {a b : List ℕ} {ts : List Placed} {o : Outcome ExprTree} → a ≡ b → Goes d w (AnExpr (Texts at a)) ts o → Goes d w (AnExpr (Texts at b)) ts o
+-- what the strings before hold is this
+pub texts_at : {d : ℕ} {w : Scene} {at : Pos} {a b : List ℕ} {ts : List Placed} {o : Outcome ExprTree} → a ≡ b → Goes d w (AnExpr (Texts at a)) ts o → Goes d w (AnExpr (Texts at b)) ts o
 texts_at {d} {w} {at} {a} {b} {ts} {o} e g = subst (λ v. Goes d w (AnExpr (Texts at v)) ts o) e g
 
 -- one more string
 pub text_step : {d : ℕ} {w : Scene} {at : Pos} {before longer : List ℕ} {p : Bor Placed × Bor (List Placed)} {ts : List Placed} (o : Outcome ExprTree) → first_is is_text ts ≡ true → Takes d w 0 text ts (Ok p) → longer ≡ before ++ bytes_of p.0.now.token → Goes d w (AnExpr (Texts at longer)) p.1.now o → Goes d w (AnExpr (Texts at before)) ts o
 text_step {d} {w} {at} {before} {longer} {p} {ts} o e t h k =
-    by (expr_rule exprs.texts_more) refl (text_comes w at before ts e) (take t (tail_texts o (texts_at h k)))
+    by (expr_rule exprs.texts_more) refl (text_comes w at before ts e) (take t (last_part same o (texts_at h k)))
 
 pub text_stop : {d : ℕ} {w : Scene} {at : Pos} {before : List ℕ} {ts rest : List Placed} {why : Why} → first_is is_text ts ≡ true → ((p : Part) (k : Placed → Process (Value p)) → Follows d w p (token 0 text k) ts (Stop why rest)) → Goes d w (AnExpr (Texts at before)) ts (Stop why rest)
 text_stop {d} {w} {at} {before} {ts} e g = by (expr_rule exprs.texts_more) refl (text_comes w at before ts e) (g _ _)
-
--- what the first string holds
-pub from_bytes : {d : ℕ} {w : Scene} {at : Pos} {a b : List ℕ} {ts : List Placed} {o : Outcome ExprTree} → a ≡ b → Goes d w (AnExpr (Texts at a)) ts o → Goes d w (AnExpr (Texts at b)) ts o
-from_bytes e g = texts_at e g

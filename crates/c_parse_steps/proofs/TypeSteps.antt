@@ -1,6 +1,6 @@
 -- Steps of the descent through specs, members and enumerators.
 use Rattle.std.proofs.Common.{◌≡◌, refl, sym, subst, ap, ◌∙◌, ℕ, Bool, true, false, ◌&&◌, ◌||◌, List, [], ◌∷◌, Bor}
-use Rattle.std.specs.Prelude.{Result, Ok, None}
+use Rattle.std.specs.Prelude.{Ok, None}
 use Rattle.c_written.specs.declared.place.Pos.{Pos}
 use Rattle.c_written.specs.declared.token.Placed.{Placed}
 use Rattle.c_written.specs.declared.token.Keyword.{Keyword}
@@ -15,8 +15,7 @@ use Rattle.c_written.specs.declared.written.MemberDecl.TheVariants as lines
 use Rattle.c_written.proofs.WrittenTrees.{spec_typedef_name, memberdecl_members}
 use Rattle.c_written.specs.Written as trees
 use Rattle.c_written.specs.Written.{SpecTree, SpecTrees, no_specs, more_specs, specs_then, DeclaratorTree, DeclaratorTrees, declarators_then, MemberDeclTree, MemberDeclTrees, memberdecls_then, EnumeratorTree, EnumeratorTrees, enumerators_then, spec_tree, specs_tree, memberdecl_tree, declarators_tree}
-use Rattle.c_grammar.specs.Parts.{Scene, Spec, Structure, StructureTagged, Enumeration, EnumerationTagged, ASpec, MoreSpecs, Members, MoreMembers, MoreDeclarators, Enumerators, MoreEnumerators, NextEnumerator, EnumeratorValue}
-use Rattle.c_grammar.specs.Process.{give, part}
+use Rattle.c_grammar.specs.Parts.{Scene, Spec, Structure, StructureTagged, Enumeration, EnumerationTagged, ASpec, MoreSpecs, MoreMembers, MoreDeclarators, MoreEnumerators, NextEnumerator, EnumeratorValue}
 use Rattle.c_grammar.specs.declared.class.Class.TheVariants.{Sign as sign}
 use Rattle.c_grammar.specs.Classes.{names_type}
 use Rattle.c_grammar.specs.Grammar.{type_rule}
@@ -25,16 +24,16 @@ use Rattle.c_grammar.specs.Ahead.{is_colon}
 use Rattle.c_grammar.specs.Made.{has_type, is_type}
 use Rattle.c_grammar.specs.Refused.{first_is}
 use Rattle.c_grammar.specs.Choice.{choose, name_choice, is_right_brace, is_semicolon}
-use Rattle.c_grammar.specs.Descent.{Outcome, Done, Stop, Goes, Follows, is_done}
+use Rattle.c_grammar.specs.Descent.{Outcome, Goes}
 use Rattle.c_parse_steps.specs.declared.type_kind.SpecKind.{SpecKind}
 use Rattle.c_parse_steps.specs.declared.type_kind.SpecKind.TheVariants as specs
 use Rattle.c_parse_steps.specs.declared.type_kind.TagKind.{TagKind}
 use Rattle.c_parse_steps.specs.declared.type_kind.TagKind.TheVariants as tags
-use Rattle.c_parse_steps.specs.Answers.{Takes, Gives, given, halted}
-use Rattle.c_parse_steps.specs.declared.fault.Fault.{Fault}
+use Rattle.c_parse_steps.specs.Answers.{Takes}
 use Rattle.c_parse_steps.specs.Kinds.{spec_at, spec_of, spec_of_word, tag_at, tag_of}
 use Rattle.c_parse_steps.proofs.Choices.{Chosen}
-use Rattle.c_parse_steps.proofs.Steps.{halts, by, take, here, stops_here, if_false}
+use Rattle.c_parse_steps.proofs.Steps.{by, take, if_false}
+use Rattle.c_parse_steps.proofs.Last.{same, last_part}
 
 abbrev at_token : Pos → Token → List Placed → List Placed
 at_token at k ts = record { pos = at; token = k } ∷ ts
@@ -125,38 +124,9 @@ enumeration_tagged_at {d} {w} {at} {place} {a} {b} {ts} {o} e g = subst (λ v. G
 pub value_at : {d : ℕ} {w : Scene} {at : Pos} {a b : List ℕ} {ts : List Placed} {o : Outcome EnumeratorTree} → a ≡ b → Goes d w (EnumeratorValue at a) ts o → Goes d w (EnumeratorValue at b) ts o
 value_at {d} {w} {at} {a} {b} {ts} {o} e g = subst (λ v. Goes d w (EnumeratorValue at v) ts o) e g
 
--- a last part, which is the whole
-pub tail_specs : {d : ℕ} {w : Scene} {a b : SpecTrees} {ts : List Placed} (o : Outcome SpecTrees) → Goes d w (MoreSpecs a) ts o → Follows d w (MoreSpecs b) (part 0 w (MoreSpecs a) give) ts o
-tail_specs (Done v mid) g = here g is_done
-tail_specs (Stop why rest) g = stops_here g
-
-pub tail_members : {d : ℕ} {w : Scene} {a b : MemberDeclTrees} {ts : List Placed} (o : Outcome MemberDeclTrees) → Goes d w (MoreMembers a) ts o → Follows d w (MoreMembers b) (part 0 w (MoreMembers a) give) ts o
-tail_members (Done v mid) g = here g is_done
-tail_members (Stop why rest) g = stops_here g
-
-pub tail_lines : {d : ℕ} {w : Scene} {a : MemberDeclTrees} {ts : List Placed} (o : Outcome MemberDeclTrees) → Goes d w (MoreMembers a) ts o → Follows d w Members (part 0 w (MoreMembers a) give) ts o
-tail_lines (Done v mid) g = here g is_done
-tail_lines (Stop why rest) g = stops_here g
-
-pub tail_declarators : {d : ℕ} {w : Scene} {s : SpecTrees} {a b : DeclaratorTrees} {ts : List Placed} (o : Outcome MemberDeclTree) → Goes d w (MoreDeclarators s a) ts o → Follows d w (MoreDeclarators s b) (part 0 w (MoreDeclarators s a) give) ts o
-tail_declarators (Done v mid) g = here g is_done
-tail_declarators (Stop why rest) g = stops_here g
-
-pub tail_enumerators : {d : ℕ} {w : Scene} {a b : EnumeratorTrees} {ts : List Placed} (o : Outcome EnumeratorTrees) → Goes d w (MoreEnumerators a) ts o → Follows d w (NextEnumerator b) (part 0 w (MoreEnumerators a) give) ts o
-tail_enumerators (Done v mid) g = here g is_done
-tail_enumerators (Stop why rest) g = stops_here g
-
-pub tail_more : {d : ℕ} {w : Scene} {a : EnumeratorTrees} {ts : List Placed} (o : Outcome EnumeratorTrees) → Goes d w (MoreEnumerators a) ts o → Follows d w Enumerators (part 0 w (MoreEnumerators a) give) ts o
-tail_more (Done v mid) g = here g is_done
-tail_more (Stop why rest) g = stops_here g
-
-pub tail_next : {d : ℕ} {w : Scene} {b : EnumeratorTrees} {ts : List Placed} (o : Outcome EnumeratorTrees) → Goes d w (NextEnumerator b) ts o → Follows d w (MoreEnumerators b) (part 0 w (NextEnumerator b) give) ts o
-tail_next (Done v mid) g = here g is_done
-tail_next (Stop why rest) g = stops_here g
-
 -- what follows a comma between enumerators
 pub next_step : {d : ℕ} {w : Scene} {before : EnumeratorTrees} {p : Bor Placed × Bor (List Placed)} {ts : List Placed} (o : Outcome EnumeratorTrees) → first_is is_right_brace ts ≡ false → Takes d w 0 (sign signs.Comma) ts (Ok p) → Goes d w (NextEnumerator before) p.1.now o → Goes d w (MoreEnumerators before) ts o
-next_step {d} {w} {before} {p} {ts} o e t k = by (type_rule types.enumerators_more) refl (if_false _ e) (take t (tail_next o k))
+next_step {d} {w} {before} {p} {ts} o e t k = by (type_rule types.enumerators_more) refl (if_false _ e) (take t (last_part same o k))
 
 -- whether specs tell a type
 or_false : (b : Bool) → (b || false) ≡ b
@@ -195,8 +165,3 @@ typedef_name_is {at} {a} {b} e = spec_typedef_name at a ∙ ap (trees.TypedefNam
 pub members_are : {at place : Pos} {list : DeclaratorTrees} (specs : Specs) (declarators : Declarators) → at ≡ place → declarators_tree declarators ≡ list → memberdecl_tree (lines.Members at specs declarators) ≡ trees.Members place (specs_tree specs) list
 members_are {at} {place} {list} specs declarators e f =
     memberdecl_members at specs declarators ∙ ap (λ v. trees.Members v (specs_tree specs) (declarators_tree declarators)) e ∙ ap (trees.Members place (specs_tree specs)) f
-
--- what is left of a part reads as the part
-pub carried : {A V : Type 0} {goes other : Outcome V → Type 0} {view : A → V} {r : Result (A × Bor (List Placed)) Fault} → Gives goes view r → ((o : Outcome V) → goes o → other o) → Gives other view r
-carried (given g) f = given (f _ g)
-carried (halted h) f = halted (halts h (λ why rest g. f _ g))

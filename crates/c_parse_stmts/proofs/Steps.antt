@@ -10,20 +10,16 @@ use Rattle.std.specs.declared.boxed.Box.{Box}
 use Rattle.c_grammar.specs.declared.parts.Setting.{Setting}
 use Rattle.c_grammar.specs.Parts.{Scene, Statement, AStmt, Items, Part, Value}
 use Rattle.c_grammar.specs.FileRules.{substatement}
-use Rattle.c_grammar.specs.Process.{Process, give, part}
-use Rattle.c_grammar.specs.Descent.{Outcome, Done, Stop, Goes, Follows, is_done}
+use Rattle.c_grammar.specs.Process.{Process}
+use Rattle.c_grammar.specs.Descent.{Outcome, Goes, Follows}
 use Rattle.c_parse_steps.specs.declared.fault.Fault.{Fault}
-use Rattle.c_parse_steps.specs.Answers.{Gives, Steps}
+use Rattle.c_parse_steps.specs.Answers.{Gives, halted}
 use Rattle.c_parse_steps.proofs.Paths.{Path}
-use Rattle.c_parse_steps.proofs.Steps.{failed, halts, here, stall, step, stops_here}
+use Rattle.c_parse_steps.proofs.Steps.{halts, stall, step, passed_on}
 use Rattle.c_parse_heads.specs.declared.head.ForOpening.{ForOpening}
 use Rattle.c_parse_heads.specs.Kinds.{ForOpenings, Substatements, boxed_tree, for_rest}
 
--- a block goes on with its next items
-pub last_items : {before more : BlockItemTrees} {d : ℕ} {w s : Scene} {ts : List Placed} (o : Outcome BlockItemTrees) → Goes d s (Items more) ts o → Follows d w (Items before) (part 0 s (Items more) give) ts o
-last_items (Done v r) g = here g is_done
-last_items (Stop why r) g = stops_here g
-
+-- the items before are these
 pub same_items : {b c : BlockItemTrees} {d : ℕ} {w : Scene} {ts : List Placed} {o : Outcome BlockItemTrees} → b ≡ c → Goes d w (Items b) ts o → Goes d w (Items c) ts o
 same_items {d = d} {w} {ts} {o} e g = subst (λ (v : BlockItemTrees). Goes d w (Items v) ts o) e g
 
@@ -36,7 +32,7 @@ pub held : {p : Part} {goes : Outcome (Value p) → Type 0} {d : ℕ} {w : Scene
 held {p} {k = k} path h = record { run = λ o f. path.run o (step (h p k) o f) }
 
 pub not_held : {A : Type 0} {p : Part} {goes : Outcome (Value p) → Type 0} {d : ℕ} {w : Scene} {g : Setting} {b : Bool} {k : StmtTree → Process (Value p)} {ts : List Placed} {view : A → Value p} {f : Fault} {r : Result (A × Bor (List Placed)) Fault} → IsErrAnd r (λ e. e ≡ f) → Path p goes d w (substatement (record { types = w.types; setting = g }) b k) ts → Substatements d w g b ts (Err f) → Gives goes view r
-not_held {p = p} {k = k} e path h = failed e (halts (stall (h p k)) (λ why rest j. path.run _ j))
+not_held {p = p} {k = k} e path h = passed_on (Gives _ _) e (halted (halts (stall (h p k)) (λ why rest j. path.run _ j)))
 
 -- it is in its box
 pub same_statement : {d : ℕ} {w : Scene} {p : Part} (k : StmtTree → Process (Value p)) {a b : StmtTree} {ts : List Placed} {o : Outcome (Value p)} → a ≡ b → Follows d w p (k a) ts o → Follows d w p (k b) ts o
@@ -45,7 +41,3 @@ same_statement {d} {w} {p} k {a} {b} {ts} {o} e f = subst (λ v. Follows d w p (
 -- what stands before the statement of a for was read
 pub for_led : {b : Bool} {d : ℕ} {w : Scene} {ts : List Placed} {x : ForOpening × Bor (List Placed)} → ForOpenings d w ts (Ok x) → Path (AStmt (Statement b)) (λ o. Goes d w (AStmt (Statement b)) ts o) d w (for_rest w x.0) x.1.now
 for_led {b} h = record { run = λ o g. step (h b) o g }
-
--- it was not read
-pub not_led : {A B V : Type 0} {goes : Outcome V → Type 0} {next : B → List Placed → Outcome V → Type 0} {view : A → V} {f : Fault} {r : Result (A × Bor (List Placed)) Fault} → IsErrAnd r (λ e. e ≡ f) → Steps goes next (Err f) → Gives goes view r
-not_led e h = failed e (stall h)

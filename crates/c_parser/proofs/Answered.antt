@@ -1,7 +1,7 @@
 -- What the descent's end tells of a file.
 use Rattle.std.proofs.Common.{◌≡◌, ℕ, List, [], ◌∷◌, ◌++◌, length, refl, sym, ap, ◌∙◌, subst, arith, ◌⊎◌, inl, inr, Bor}
 use Rattle.std.proofs.lemmas.Bool.{eqb-true}
-use Rattle.std.specs.Prelude.{true, false, ◌==◌, map, Result, Ok, Err, MatchResult, IsErrAnd}
+use Rattle.std.specs.Prelude.{true, false, ◌==◌, map, Ok, Result, MatchResult, IsErrAnd}
 use Rattle.c_written.specs.declared.file.Outer.{Outer}
 use Rattle.c_written.specs.declared.token.Placed.{Placed}
 use Rattle.c_written.specs.declared.token.Tokens.{Tokens}
@@ -15,16 +15,17 @@ use Rattle.c_grammar.specs.Choice.{choose, this}
 use Rattle.c_grammar.specs.Made.{new_types}
 use Rattle.c_grammar.specs.Grammar.{at_start, file_rule}
 use Rattle.c_grammar.specs.Refused.{Why, Syntax, Unsupported, TooDeep, IsFile, IsRefused}
-use Rattle.c_grammar.specs.Descent.{Outcome, Done, Stop, Goes, Follows, by_rule, is_done, passes}
+use Rattle.c_grammar.specs.Descent.{Outcome, Done, Stop, Goes, by_rule, is_done, passes}
 use Rattle.c_grammar.proofs.Laws.{found, file_only, refusal_only}
 use Rattle.c_parse_steps.specs.declared.fault.Fault.{Fault}
 use Rattle.c_parse_steps.specs.declared.fault.Fault.TheVariants as faults
 use Rattle.c_parse_steps.specs.Answers.{Gives, Halts, syntax, unsupported, too_deep}
 use Rattle.c_parser.specs.declared.parsing.ParseError.{ParseError}
 use Rattle.c_parser.specs.declared.parsing.ParseError.TheVariants as errors
-use Rattle.c_parse_steps.proofs.Steps.{halt, halts, here, stops_here}
 use Rattle.c_parse_steps.proofs.Paths.{Path, begin, behind, goes_so}
 use Rattle.c_parser.specs.Refusals.{IsError, IsErrorOf, TellsRefused}
+use Rattle.c_parse_steps.proofs.Last.{same, last_part}
+use Rattle.c_parse_steps.proofs.Steps.{passed_on}
 
 -- the descent through the file ends so
 abbrev pub Reads : List Placed → Outcome (List OuterTree) → Type 0
@@ -84,9 +85,9 @@ stops_so tokens (faults.Syntax left) e (syntax g) i rest why r = inl (same_error
 stops_so tokens (faults.Unsupported c left) e (unsupported g) i rest why r = inl (same_error tokens left.now rest (Unsupported c) why e (refusal_only tokens.list rest why _ r g) i)
 stops_so tokens (faults.TooDeep left) e (too_deep g) i rest why r = inl (same_error tokens left.now rest TooDeep why e (refusal_only tokens.list rest why _ r g) i)
 
+-- a fault that is passed on, as the clauses say it
 pub fault_passed : {A : Type 0} {f : Fault} (P : A → Type 0) (Q : Fault → Type 0) (r : Result A Fault) → IsErrAnd r (λ e. e ≡ f) → Q f → MatchResult r P Q
-fault_passed P Q (Ok x) e q = absurd e
-fault_passed P Q (Err g) e q = subst Q (sym e) q
+fault_passed P Q r e q = passed_on (λ v. MatchResult v P Q) e q
 
 -- the same tokens under another name
 pub reads_as : {given tokens : List Placed} {o : Outcome (List OuterTree)} → given ≡ tokens → Reads given o → Reads tokens o
@@ -102,11 +103,6 @@ scene_with types = record { types = types; setting = AtFile }
 -- where the declarations of a file begin
 pub outers_begin : {types : List (List ℕ)} (outers : List Outer) {ts : List Placed} {o : Outcome (List OuterTree)} → types ≡ [] → outers ≡ [] → Goes 0 (scene_with types) (Outers (map (λ o. outer_tree o) outers)) ts o → Reads ts o
 outers_begin outers {ts} {o} e f g = subst (λ (v : List Outer). Goes 0 at_start (Outers (map (λ o. outer_tree o) v)) ts o) f (subst (λ (v : List (List ℕ)). Goes 0 (scene_with v) (Outers (map (λ o. outer_tree o) outers)) ts o) e g)
-
--- the file goes on with its next declarations
-last_outers : {before more : List OuterTree} {d : ℕ} {w s : Scene} {ts : List Placed} (o : Outcome (List OuterTree)) → Goes d s (Outers more) ts o → Follows d w (Outers before) (part 0 s (Outers more) give) ts o
-last_outers (Done v r) g = here g is_done
-last_outers (Stop why r) g = stops_here g
 
 map_one_more : (xs : List Outer) (x : Outer) → map (λ o. outer_tree o) (xs ++ x ∷ []) ≡ map (λ o. outer_tree o) xs ++ outer_tree x ∷ []
 map_one_more [] x = refl
@@ -130,8 +126,4 @@ outers_more {w = w} {before} {ts} f h = begin {p = Outers before} f refl (more_r
 
 -- one more declaration was read, and its typedef names are in force behind it
 pub outer_added : {goes : Outcome (List OuterTree) → Type 0} {types more : List (List ℕ)} (outers longer : List Outer) {ts : List Placed} {x : Outer × Bor (List Placed)} {o : Outcome (List OuterTree)} → Path (Outers (map (λ o. outer_tree o) outers)) goes 0 (scene_with types) (part 0 (scene_with types) (AnOuter parts.Outer) (λ next. part 0 (after_outer (scene_with types) next) (Outers (map (λ o. outer_tree o) outers ++ next ∷ [])) give)) ts → Gives (λ o. Goes 0 (scene_with types) (AnOuter parts.Outer) ts o) (λ o. outer_tree o) (Ok x) → more ≡ types ++ new_types (outer_tree x.0) → longer ≡ outers ++ x.0 ∷ [] → Goes 0 (scene_with more) (Outers (map (λ o. outer_tree o) longer)) x.1.now o → goes o
-outer_added {types = types} {more} outers longer {x = x} {o} path h e f g = goes_so (behind path h) o (last_outers o (subst (λ (v : List (List ℕ)). Goes 0 (scene_with v) (Outers (map (λ o. outer_tree o) outers ++ outer_tree x.0 ∷ [])) x.1.now o) e (subst (λ (v : List OuterTree). Goes 0 (scene_with more) (Outers v) x.1.now o) (ap (λ (v : List Outer). map (λ o. outer_tree o) v) f ∙ map_one_more outers x.0) g)))
-
--- one more declaration was refused
-pub outer_refused : {goes : Outcome (List OuterTree) → Type 0} {w : Scene} {before : List OuterTree} {ts : List Placed} {f : Fault} → Path (Outers before) goes 0 w (part 0 w (AnOuter parts.Outer) (λ next. part 0 (after_outer w next) (Outers (before ++ next ∷ [])) give)) ts → Gives {A = Outer} (λ o. Goes 0 w (AnOuter parts.Outer) ts o) (λ o. outer_tree o) (Err f) → Halts (λ why rest. goes (Stop why rest)) f
-outer_refused path g = halts (halt g) (λ why rest h. goes_so path _ (stops_here h))
+outer_added {types = types} {more} outers longer {x = x} {o} path h e f g = goes_so (behind path h) o (last_part same o (subst (λ (v : List (List ℕ)). Goes 0 (scene_with v) (Outers (map (λ o. outer_tree o) outers ++ outer_tree x.0 ∷ [])) x.1.now o) e (subst (λ (v : List OuterTree). Goes 0 (scene_with more) (Outers v) x.1.now o) (ap (λ (v : List Outer). map (λ o. outer_tree o) v) f ∙ map_one_more outers x.0) g)))

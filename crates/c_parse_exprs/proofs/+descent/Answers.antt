@@ -9,22 +9,23 @@ use Rattle.c_grammar.specs.ExprRules as rule
 use Rattle.c_grammar.specs.TypeRules as kind
 use Rattle.c_grammar.specs.Descent.{goes_on, stops, is_done, is_barred, no_rule, passes, fails}
 use Rattle.c_parse_steps.specs.Views.{boxed_declarator, boxed_expr, scene_of}
-use Rattle.c_parse_steps.specs.Answers.{given, halted, stalled, stepped}
-use Rattle.c_parse_steps.proofs.Steps.{relayed, halts, starved, answer, halt, take, refuse, shut, not_shut, step, stall, stopped, by, here, stops_here, done, if_true, if_false, borne, unborne, sign_is}
+use Rattle.c_parse_steps.specs.Answers.{given, halted, stalled, stepped, Gives, no_memory}
+use Rattle.c_parse_steps.proofs.Steps.{halts, answer, halt, take, refuse, shut, not_shut, step, stall, stopped, by, here, stops_here, done, if_true, if_false, borne, unborne, sign_is, passed_on, carried}
 use Rattle.c_parse_steps.proofs.Choices.{primary_is, prefix_is, suffix_is, assign_is, more_is}
 use Rattle.c_parse_leaves.proofs.EndSteps.{made_so, longer_so, closed_so, shut_so, behind_group, not_grouped, longer_shut, led}
-use Rattle.c_parse_leaves.proofs.ExprSteps.{operand_at, not_question, is_question_ahead, suffix_free, tail_expr, suffixes_at, behind_sign, joint_step, joint_stop, and_left, rebased, nothing_of, call_by, no_joint}
+use Rattle.c_parse_leaves.proofs.ExprSteps.{operand_at, not_question, is_question_ahead, suffix_free, suffixes_at, behind_sign, joint_step, joint_stop, and_left, rebased, nothing_of, call_by, no_joint}
 use Rattle.c_parse_leaves.proofs.Listings.{goes_behind, not_read, first_spec, next_spec, no_type, first_declarator, next_declarator, first_argument, next_argument, first_member, next_member, first_enumerator, next_enumerator, comma_behind, first_parameter, next_parameter}
 use Rattle.c_parse_leaves.proofs.TagSteps.{structure_alone, structure_braces, enumeration_alone, enumeration_braces}
-use Rattle.c_parse_steps.proofs.TypeSteps.{declarators_at, value_at, again_is, next_step, carried, more_type}
-use Rattle.c_parse_leaves.proofs.DeclaratorSteps.{direct_is, tail_is, no_tail, tails_at, tails_absent, function_so, tail_declarator, regiven, renamed, both_true, first_false}
+use Rattle.c_parse_steps.proofs.TypeSteps.{declarators_at, value_at, again_is, next_step, more_type}
+use Rattle.c_parse_leaves.proofs.DeclaratorSteps.{direct_is, tail_is, no_tail, tails_at, tails_absent, function_so, regiven, renamed, both_true, first_false}
+use Rattle.c_parse_steps.proofs.Last.{same, last_part, last_inside}
 use Rattle.c_parse_exprs.proofs.+descent.Goals as goal
 
 pub exprs::joined_operands-returns-in-Err-clause-goes : goal.exprs::joined_operands-returns-in-Err-clause-goes
 exprs::joined_operands-returns-in-Err-clause-goes t c = halted (halts (halt c.in-Err.ensures.goes) (λ why rest g. by (expr_rule rule.run) (refl) (refl) (stops_here g)))
 
 pub exprs::joined_operands-returns-clause-goes : goal.exprs::joined_operands-returns-clause-goes
-exprs::joined_operands-returns-clause-goes t c = relayed c.more.ensures.goes (λ x g. by (expr_rule rule.run) (refl) (refl) (here (answer c.in-Ok.ensures.goes) (here g (is_done)))) (λ why rest g. by (expr_rule rule.run) (refl) (refl) (here (answer c.in-Ok.ensures.goes) (stops_here g)))
+exprs::joined_operands-returns-clause-goes t c = carried c.more.ensures.goes (λ o g. by (expr_rule rule.run) (refl) (refl) (here (answer c.in-Ok.ensures.goes) (last_part same o g)))
 
 pub exprs::operand-returns-in-Assignment-clause-goes : goal.exprs::operand-returns-in-Assignment-clause-goes
 exprs::operand-returns-in-Assignment-clause-goes t c = operand_at c.args.level (sym c.in-Assignment.ensures) c.assignment.ensures.goes
@@ -39,7 +40,7 @@ pub exprs::assignment-returns-in-Err-clause-goes : goal.exprs::assignment-return
 exprs::assignment-returns-in-Err-clause-goes t c = halted (halts (halt c.in-Err.ensures.goes) (λ why rest g. by (expr_rule rule.assignment) (refl) (refl) (stops_here g)))
 
 pub exprs::assignment-returns-clause-goes : goal.exprs::assignment-returns-clause-goes
-exprs::assignment-returns-clause-goes t c = relayed c.assigned.ensures.goes (λ x g. by (expr_rule rule.assignment) (refl) (refl) (here (answer c.in-Ok.ensures.goes) (here g (is_done)))) (λ why rest g. by (expr_rule rule.assignment) (refl) (refl) (here (answer c.in-Ok.ensures.goes) (stops_here g)))
+exprs::assignment-returns-clause-goes t c = carried c.assigned.ensures.goes (λ o g. by (expr_rule rule.assignment) (refl) (refl) (here (answer c.in-Ok.ensures.goes) (last_part same o g)))
 
 pub exprs::assigned-returns-in-Nothing-clause-goes : goal.exprs::assigned-returns-in-Nothing-clause-goes
 exprs::assigned-returns-in-Nothing-clause-goes t c = given (by (expr_rule rule.not_assigned) refl (assign_is (scene_of c.args.context.now) (boxed_expr c.args.left) c.args.tokens.now (sym c.in-Nothing.ensures)) is_done)
@@ -60,7 +61,7 @@ pub exprs::conditional-returns-in-Err-clause-goes : goal.exprs::conditional-retu
 exprs::conditional-returns-in-Err-clause-goes t c = halted (halts (halt c.in-Err.ensures.goes) (λ why rest g. by (expr_rule rule.conditional) (refl) (refl) (stops_here g)))
 
 pub exprs::conditional-returns-clause-goes : goal.exprs::conditional-returns-clause-goes
-exprs::conditional-returns-clause-goes t c = relayed c.chosen.ensures.goes (λ x g. by (expr_rule rule.conditional) (refl) (refl) (here (answer c.in-Ok.ensures.goes) (here g (is_done)))) (λ why rest g. by (expr_rule rule.conditional) (refl) (refl) (here (answer c.in-Ok.ensures.goes) (stops_here g)))
+exprs::conditional-returns-clause-goes t c = carried c.chosen.ensures.goes (λ o g. by (expr_rule rule.conditional) (refl) (refl) (here (answer c.in-Ok.ensures.goes) (last_part same o g)))
 
 pub exprs::chosen-returns-then-not-comes-clause-goes : goal.exprs::chosen-returns-then-not-comes-clause-goes
 exprs::chosen-returns-then-not-comes-clause-goes t c = given (by (expr_rule rule.not_chosen) refl (not_question (scene_of c.args.context.now) (boxed_expr c.args.condition) c.args.tokens.now (sym c.if-not-comes.ensures)) is_done)
@@ -99,22 +100,22 @@ pub exprs::cast_form-returns-clause-goes : goal.exprs::cast_form-returns-clause-
 exprs::cast_form-returns-clause-goes t c = made_so _ (by (expr_rule rule.cast) (refl) (if_true _ c.requires) (passes (c.requires) (take c.in-Ok.ensures.goes (goes_on (answer c.in-Ok-specs.ensures.goes) (goes_on (answer c.in-Ok-declarator.ensures.goes) (shut c.in-Ok-taken.ensures.goes (goes_on (answer c.in-Ok-cast_operand.ensures.goes) is_done))))))) c.cast_expr.ensures c.handed.ensures.goes
 
 pub exprs::cast-returns-clause-goes : goal.exprs::cast-returns-clause-goes
-exprs::cast-returns-clause-goes t c = relayed c.unary.ensures.goes (λ x g. by (expr_rule rule.no_cast) (refl) (if_false _ (sym c.if-type_ahead.ensures)) (passes (ap not (sym c.if-type_ahead.ensures)) (here g (is_done)))) (λ why rest g. by (expr_rule rule.no_cast) (refl) (if_false _ (sym c.if-type_ahead.ensures)) (passes (ap not (sym c.if-type_ahead.ensures)) (stops_here g)))
+exprs::cast-returns-clause-goes t c = carried c.unary.ensures.goes (λ o g. by (expr_rule rule.no_cast) (refl) (if_false _ (sym c.if-type_ahead.ensures)) (passes (ap not (sym c.if-type_ahead.ensures)) (last_part same o g)))
 
 pub exprs::cast_operand-returns-then-comes-clause-goes : goal.exprs::cast_operand-returns-then-comes-clause-goes
 exprs::cast_operand-returns-then-comes-clause-goes t c = halted (stopped c.barred.ensures (is_barred (borne _ (sym c.if-comes.ensures))))
 
 pub exprs::cast_operand-returns-clause-goes : goal.exprs::cast_operand-returns-clause-goes
-exprs::cast_operand-returns-clause-goes t c = relayed c.cast.ensures.goes (λ x g. by (expr_rule rule.operand_cast) (unborne _ (sym c.if-comes.ensures)) (refl) (here g (is_done))) (λ why rest g. by (expr_rule rule.operand_cast) (unborne _ (sym c.if-comes.ensures)) (refl) (stops_here g))
+exprs::cast_operand-returns-clause-goes t c = carried c.cast.ensures.goes (λ o g. by (expr_rule rule.operand_cast) (unborne _ (sym c.if-comes.ensures)) (refl) (last_part same o g))
 
 pub exprs::unary-returns-in-Nothing-clause-goes : goal.exprs::unary-returns-in-Nothing-clause-goes
-exprs::unary-returns-in-Nothing-clause-goes t c = relayed c.postfix.ensures.goes (λ x g. by (expr_rule rule.no_prefix) (refl) (prefix_is (scene_of c.args.context.now) c.args.tokens.now (sym c.in-Nothing.ensures)) (here g (is_done))) (λ why rest g. by (expr_rule rule.no_prefix) (refl) (prefix_is (scene_of c.args.context.now) c.args.tokens.now (sym c.in-Nothing.ensures)) (stops_here g))
+exprs::unary-returns-in-Nothing-clause-goes t c = carried c.postfix.ensures.goes (λ o g. by (expr_rule rule.no_prefix) (refl) (prefix_is (scene_of c.args.context.now) c.args.tokens.now (sym c.in-Nothing.ensures)) (last_part same o g))
 
 pub exprs::size_of-returns-in-Err-clause-goes : goal.exprs::size_of-returns-in-Err-clause-goes
 exprs::size_of-returns-in-Err-clause-goes t c = halted (halts (refuse c.in-Err.ensures.goes) (λ why rest g. by (expr_rule rule.size_of) (refl) (prefix_is (scene_of c.args.context.now) c.args.tokens.now c.requires) (g _ _)))
 
 pub exprs::size_of-returns-clause-goes : goal.exprs::size_of-returns-clause-goes
-exprs::size_of-returns-clause-goes t c = relayed c.sized.ensures.goes (λ x g. by (expr_rule rule.size_of) (refl) (prefix_is (scene_of c.args.context.now) c.args.tokens.now c.requires) (take c.in-Ok.ensures.goes (goes_on g (is_done)))) (λ why rest g. by (expr_rule rule.size_of) (refl) (prefix_is (scene_of c.args.context.now) c.args.tokens.now c.requires) (take c.in-Ok.ensures.goes (stops g)))
+exprs::size_of-returns-clause-goes t c = carried c.sized.ensures.goes (λ o g. by (expr_rule rule.size_of) (refl) (prefix_is (scene_of c.args.context.now) c.args.tokens.now c.requires) (take c.in-Ok.ensures.goes (last_inside same o g)))
 
 pub exprs::pre_step-returns-in-Err-clause-goes : goal.exprs::pre_step-returns-in-Err-clause-goes
 exprs::pre_step-returns-in-Err-clause-goes t c = halted (halts (refuse (sign_is c.step_sign.ensures c.in-Err.ensures.goes)) (λ why rest g. by (expr_rule (rule.pre_step c.args.way)) (refl) (prefix_is (scene_of c.args.context.now) c.args.tokens.now c.requires) (g _ _)))
@@ -156,7 +157,7 @@ pub exprs::postfix-returns-in-Err-clause-goes : goal.exprs::postfix-returns-in-E
 exprs::postfix-returns-in-Err-clause-goes t c = halted (halts (halt c.in-Err.ensures.goes) (λ why rest g. by (expr_rule rule.postfix) (refl) (refl) (stops_here g)))
 
 pub exprs::postfix-returns-clause-goes : goal.exprs::postfix-returns-clause-goes
-exprs::postfix-returns-clause-goes t c = relayed c.suffixes.ensures.goes (λ x g. by (expr_rule rule.postfix) (refl) (refl) (here (answer c.in-Ok.ensures.goes) (here g (is_done)))) (λ why rest g. by (expr_rule rule.postfix) (refl) (refl) (here (answer c.in-Ok.ensures.goes) (stops_here g)))
+exprs::postfix-returns-clause-goes t c = carried c.suffixes.ensures.goes (λ o g. by (expr_rule rule.postfix) (refl) (refl) (here (answer c.in-Ok.ensures.goes) (last_part same o g)))
 
 pub exprs::enclosed-returns-in-Err-clause-goes : goal.exprs::enclosed-returns-in-Err-clause-goes
 exprs::enclosed-returns-in-Err-clause-goes t c = halted (halts (refuse c.in-Err.ensures.goes) (λ why rest g. by (expr_rule rule.enclosed) (refl) (primary_is (scene_of c.args.context.now) c.args.tokens.now c.requires) (g _ _)))
@@ -195,7 +196,7 @@ pub exprs::call-returns-in-Err-arguments-clause-goes : goal.exprs::call-returns-
 exprs::call-returns-in-Err-arguments-clause-goes t c = stalled (halts (halt c.in-Err-arguments.ensures.goes) (λ why rest g. suffixes_at (sym c.word_of-name.ensures) (call_by c.requires.0 (take c.in-Ok.ensures.goes (stops g)))))
 
 pub exprs::call-returns-clause-goes : goal.exprs::call-returns-clause-goes
-exprs::call-returns-clause-goes t c = longer_so _ (λ o h. suffixes_at (sym c.word_of-name.ensures) (call_by c.requires.0 (take c.in-Ok.ensures.goes (goes_on (answer c.in-Ok-arguments.ensures.goes) (tail_expr o h))))) c.call_expr.ensures c.handed.ensures.goes
+exprs::call-returns-clause-goes t c = longer_so _ (λ o h. suffixes_at (sym c.word_of-name.ensures) (call_by c.requires.0 (take c.in-Ok.ensures.goes (goes_on (answer c.in-Ok-arguments.ensures.goes) (last_inside same o h))))) c.call_expr.ensures c.handed.ensures.goes
 
 pub exprs::more-joints-preserved : goal.exprs::more-joints-preserved
 exprs::more-joints-preserved t c = ((λ o g. c.joints.invariant.0 o (joint_step o (sym c.in-Some.ensures) (behind_sign c.joint_sign.ensures c.in-Ok.ensures.goes) c.in_ok-left.ensures g)), omega (arith, c.in-Ok.ensures.shorter))
@@ -204,7 +205,7 @@ pub exprs::more-returns-in-Err-clause-goes : goal.exprs::more-returns-in-Err-cla
 exprs::more-returns-in-Err-clause-goes t c = halted (halts (joint_stop (sym c.in-Some.ensures) (behind_sign c.joint_sign.ensures c.in-Err.ensures.goes)) (λ why rest g. c.joints.invariant.0 _ g))
 
 pub exprs::more-returns-in_err-left-clause-goes : goal.exprs::more-returns-in_err-left-clause-goes
-exprs::more-returns-in_err-left-clause-goes t c = starved c.from_residual.ensures.1
+exprs::more-returns-in_err-left-clause-goes t c = passed_on (Gives _ _) c.from_residual.ensures.1 (halted no_memory)
 
 pub exprs::right_side-returns-in-Err-clause-goes : goal.exprs::right_side-returns-in-Err-clause-goes
 exprs::right_side-returns-in-Err-clause-goes t c = λ p k. stalled (halts (refuse c.in-Err.ensures.goes) (λ why rest g. g _ _))
@@ -264,10 +265,10 @@ pub types::enumerator-returns-in-Err-clause-goes : goal.types::enumerator-return
 types::enumerator-returns-in-Err-clause-goes t c = halted (halts (refuse c.in-Err.ensures.goes) (λ why rest g. by (type_rule kind.enumerator) (refl) (refl) (g _ _)))
 
 pub types::enumerator-returns-in_err-name-clause-goes : goal.types::enumerator-returns-in_err-name-clause-goes
-types::enumerator-returns-in_err-name-clause-goes t c = starved c.from_residual.ensures.1
+types::enumerator-returns-in_err-name-clause-goes t c = passed_on (Gives _ _) c.from_residual.ensures.1 (halted no_memory)
 
 pub types::enumerator-returns-clause-goes : goal.types::enumerator-returns-clause-goes
-types::enumerator-returns-clause-goes t c = relayed c.enumerator_value.ensures.goes (λ x g. by (type_rule kind.enumerator) (refl) (refl) (take c.in-Ok.ensures.goes (here (value_at c.in_ok-name.ensures g) (is_done)))) (λ why rest g. by (type_rule kind.enumerator) (refl) (refl) (take c.in-Ok.ensures.goes (stops_here (value_at c.in_ok-name.ensures g))))
+types::enumerator-returns-clause-goes t c = carried c.enumerator_value.ensures.goes (λ o g. by (type_rule kind.enumerator) (refl) (refl) (take c.in-Ok.ensures.goes (last_part same o (value_at c.in_ok-name.ensures g))))
 
 pub types::enumerator_value-returns-then-not-comes-clause-goes : goal.types::enumerator_value-returns-then-not-comes-clause-goes
 types::enumerator_value-returns-then-not-comes-clause-goes t c = given (by (type_rule kind.enumerator_plain) refl (if_false _ (sym c.if-not-comes.ensures)) (done (enumerator_plain _ _)))
@@ -285,7 +286,7 @@ pub declarators::declarator-returns-then-type_name_comes-clause-goes : goal.decl
 declarators::declarator-returns-then-type_name_comes-clause-goes t c = halted (stopped c.barred.ensures (is_barred (borne _ (sym c.if-type_name_comes.ensures))))
 
 pub declarators::declarator-returns-clause-goes : goal.declarators::declarator-returns-clause-goes
-declarators::declarator-returns-clause-goes t c = relayed c.direct.ensures.goes (λ x g. by (type_rule kind.direct) (unborne _ (sym c.if-type_name_comes.ensures)) (if_false _ (sym c.if-comes.ensures)) (here g (is_done))) (λ why rest g. by (type_rule kind.direct) (unborne _ (sym c.if-type_name_comes.ensures)) (if_false _ (sym c.if-comes.ensures)) (stops_here g))
+declarators::declarator-returns-clause-goes t c = carried c.direct.ensures.goes (λ o g. by (type_rule kind.direct) (unborne _ (sym c.if-type_name_comes.ensures)) (if_false _ (sym c.if-comes.ensures)) (last_part same o g))
 
 pub declarators::pointer-returns-in-Err-clause-goes : goal.declarators::pointer-returns-in-Err-clause-goes
 declarators::pointer-returns-in-Err-clause-goes t c = halted (halts (refuse c.in-Err.ensures.goes) (λ why rest g. by (type_rule kind.pointer) (unborne _ c.requires.0) (if_true _ c.requires.1) (g _ _)))
@@ -303,10 +304,10 @@ pub declarators::direct-returns-then-params_come-clause-goes : goal.declarators:
 declarators::direct-returns-then-params_come-clause-goes t c = halted (stopped c.barred.ensures (is_barred (borne _ (sym c.if-params_come.ensures))))
 
 pub declarators::nameless-returns-in_err-first-clause-goes : goal.declarators::nameless-returns-in_err-first-clause-goes
-declarators::nameless-returns-in_err-first-clause-goes t c = starved c.from_residual.ensures.1
+declarators::nameless-returns-in_err-first-clause-goes t c = passed_on (Gives _ _) c.from_residual.ensures.1 (halted no_memory)
 
 pub declarators::nameless-returns-clause-goes : goal.declarators::nameless-returns-clause-goes
-declarators::nameless-returns-clause-goes t c = carried c.tails.ensures.goes (λ o g. by (type_rule (kind.no_name (direct_is _ _ _ c.requires.1).0)) (unborne _ c.requires.0) (direct_is _ _ _ c.requires.1).1 (passes (direct_is _ _ _ c.requires.1).2 (tail_declarator o (tails_absent c.in_ok-first.ensures.ok g))))
+declarators::nameless-returns-clause-goes t c = carried c.tails.ensures.goes (λ o g. by (type_rule (kind.no_name (direct_is _ _ _ c.requires.1).0)) (unborne _ c.requires.0) (direct_is _ _ _ c.requires.1).1 (passes (direct_is _ _ _ c.requires.1).2 (last_part same o (tails_absent c.in_ok-first.ensures.ok g))))
 
 pub declarators::direct-returns-in-Neither-clause-goes : goal.declarators::direct-returns-in-Neither-clause-goes
 declarators::direct-returns-in-Neither-clause-goes t c = halted (stopped c.refused.ensures (no_rule (unborne _ (sym c.if-params_come.ensures)) (direct_is _ _ _ (sym c.in-Neither.ensures))))
@@ -336,13 +337,13 @@ pub declarators::array-returns-in-Err-clause-goes : goal.declarators::array-retu
 declarators::array-returns-in-Err-clause-goes t c = λ plain e. stalled (halts (refuse c.in-Err.ensures.goes) (λ why rest g. by (type_rule kind.array) (e) (tail_is _ _ _ _ _ c.requires) (g _ _)))
 
 pub declarators::array-returns-clause-goes : goal.declarators::array-returns-clause-goes
-declarators::array-returns-clause-goes t c = λ plain e. led (λ a rest g o h. by (type_rule kind.array) e (tail_is _ _ _ _ _ c.requires) (take c.in-Ok.ensures.goes (goes_on g (tail_declarator o h)))) (λ why rest g. by (type_rule kind.array) e (tail_is _ _ _ _ _ c.requires) (take c.in-Ok.ensures.goes (stops g))) c.size.ensures.goes
+declarators::array-returns-clause-goes t c = λ plain e. led (λ a rest g o h. by (type_rule kind.array) e (tail_is _ _ _ _ _ c.requires) (take c.in-Ok.ensures.goes (goes_on g (last_part same o h)))) (λ why rest g. by (type_rule kind.array) e (tail_is _ _ _ _ _ c.requires) (take c.in-Ok.ensures.goes (stops g))) c.size.ensures.goes
 
 pub declarators::function-returns-in-Err-clause-goes : goal.declarators::function-returns-in-Err-clause-goes
 declarators::function-returns-in-Err-clause-goes t c = λ plain e. stalled (halts (refuse c.in-Err.ensures.goes) (λ why rest g. by (type_rule kind.function) (e) (tail_is _ _ _ _ _ c.requires) (g _ _)))
 
 pub declarators::function-returns-clause-goes : goal.declarators::function-returns-clause-goes
-declarators::function-returns-clause-goes t c = λ plain e. led (λ a rest g o h. by (type_rule kind.function) e (tail_is _ _ _ _ _ c.requires) (take c.in-Ok.ensures.goes (goes_on g (tail_declarator o h)))) (λ why rest g. by (type_rule kind.function) e (tail_is _ _ _ _ _ c.requires) (take c.in-Ok.ensures.goes (stops g))) c.parameters.ensures.goes
+declarators::function-returns-clause-goes t c = λ plain e. led (λ a rest g o h. by (type_rule kind.function) e (tail_is _ _ _ _ _ c.requires) (take c.in-Ok.ensures.goes (goes_on g (last_part same o h)))) (λ why rest g. by (type_rule kind.function) e (tail_is _ _ _ _ _ c.requires) (take c.in-Ok.ensures.goes (stops g))) c.parameters.ensures.goes
 
 pub declarators::size-returns-then-is_member-clause-goes : goal.declarators::size-returns-then-is_member-clause-goes
 declarators::size-returns-then-is_member-clause-goes t c = halted (stopped c.barred.ensures (is_barred (borne _ (both_true (sym c.if-comes.ensures) (sym c.if-is_member.ensures)))))
@@ -372,7 +373,7 @@ pub exprs::arguments-returns-in-Err-clause-goes : goal.exprs::arguments-returns-
 exprs::arguments-returns-in-Err-clause-goes t c = not_read c.all.invariant.0 c.in-Err.ensures.goes
 
 pub exprs::arguments-returns-in_err-push_expr-clause-goes : goal.exprs::arguments-returns-in_err-push_expr-clause-goes
-exprs::arguments-returns-in_err-push_expr-clause-goes t c = starved c.from_residual.ensures.1
+exprs::arguments-returns-in_err-push_expr-clause-goes t c = passed_on (Gives _ _) c.from_residual.ensures.1 (halted no_memory)
 
 pub exprs::arguments-returns-then-comes-2-clause-goes : goal.exprs::arguments-returns-then-comes-2-clause-goes
 exprs::arguments-returns-then-comes-2-clause-goes t c = closed_so (λ o g. goes_behind c.all.invariant.0 c.in-Ok.ensures.goes o (by (expr_rule rule.arguments_end) refl (if_true _ (sym c.if-comes-2.ensures)) g)) (c.from_vec.ensures ∙ c.in_ok-push_expr.ensures) c.closed.ensures.goes
@@ -390,7 +391,7 @@ pub types::members-returns-in-Err-clause-goes : goal.types::members-returns-in-E
 types::members-returns-in-Err-clause-goes t c = not_read c.lines.invariant.0 c.in-Err.ensures.goes
 
 pub types::members-returns-in_err-push_member-clause-goes : goal.types::members-returns-in_err-push_member-clause-goes
-types::members-returns-in_err-push_member-clause-goes t c = starved c.from_residual.ensures.1
+types::members-returns-in_err-push_member-clause-goes t c = passed_on (Gives _ _) c.from_residual.ensures.1 (halted no_memory)
 
 pub types::members-returns-then-comes-clause-goes : goal.types::members-returns-then-comes-clause-goes
 types::members-returns-then-comes-clause-goes t c = closed_so (λ o g. goes_behind c.lines.invariant.0 c.in-Ok.ensures.goes o (by (type_rule kind.members_end) refl (if_true _ (sym c.if-comes.ensures)) g)) (c.from_vec.ensures ∙ c.in_ok-push_member.ensures) c.closed.ensures.goes
@@ -405,7 +406,7 @@ pub types::enumerators-returns-in-Err-clause-goes : goal.types::enumerators-retu
 types::enumerators-returns-in-Err-clause-goes t c = not_read c.values.invariant.0 c.in-Err.ensures.goes
 
 pub types::enumerators-returns-in_err-push_enumerator-clause-goes : goal.types::enumerators-returns-in_err-push_enumerator-clause-goes
-types::enumerators-returns-in_err-push_enumerator-clause-goes t c = starved c.from_residual.ensures.1
+types::enumerators-returns-in_err-push_enumerator-clause-goes t c = passed_on (Gives _ _) c.from_residual.ensures.1 (halted no_memory)
 
 pub types::enumerators-returns-then-comes-clause-goes : goal.types::enumerators-returns-then-comes-clause-goes
 types::enumerators-returns-then-comes-clause-goes t c = closed_so (λ o g. goes_behind c.values.invariant.0 c.in-Ok.ensures.goes o (by (type_rule kind.enumerators_end) refl (if_true _ (sym c.if-comes.ensures)) g)) (c.from_vec.ensures ∙ c.in_ok-push_enumerator.ensures) c.closed.ensures.goes
@@ -426,7 +427,7 @@ pub declarators::parameters-returns-in-Err-clause-goes : goal.declarators::param
 declarators::parameters-returns-in-Err-clause-goes t c = not_read c.all.invariant.0 c.in-Err.ensures.goes
 
 pub declarators::parameters-returns-in_err-push_param-clause-goes : goal.declarators::parameters-returns-in_err-push_param-clause-goes
-declarators::parameters-returns-in_err-push_param-clause-goes t c = starved c.from_residual.ensures.1
+declarators::parameters-returns-in_err-push_param-clause-goes t c = passed_on (Gives _ _) c.from_residual.ensures.1 (halted no_memory)
 
 pub declarators::parameters-returns-then-comes-2-clause-goes : goal.declarators::parameters-returns-then-comes-2-clause-goes
 declarators::parameters-returns-then-comes-2-clause-goes t c = closed_so (λ o g. goes_behind c.all.invariant.0 c.in-Ok.ensures.goes o (by (type_rule kind.parameters_end) refl (if_true _ (sym c.if-comes-2.ensures)) (function_so c.args.at c.all.invariant.1 c.in_ok-push_param.ensures g))) c.function_declarator-whole.ensures c.closed.ensures.goes
@@ -444,7 +445,7 @@ pub types::specs-returns-in-Err-clause-goes : goal.types::specs-returns-in-Err-c
 types::specs-returns-in-Err-clause-goes t c = not_read c.words.invariant.0 c.in-Err.ensures.goes
 
 pub types::specs-returns-in_err-push_spec-clause-goes : goal.types::specs-returns-in_err-push_spec-clause-goes
-types::specs-returns-in_err-push_spec-clause-goes t c = starved c.from_residual.ensures.1
+types::specs-returns-in_err-push_spec-clause-goes t c = passed_on (Gives _ _) c.from_residual.ensures.1 (halted no_memory)
 
 pub types::specs-returns-then-type_comes_again-clause-goes : goal.types::specs-returns-then-type_comes_again-clause-goes
 types::specs-returns-then-type_comes_again-clause-goes t c = halted (stopped c.barred.ensures (goes_behind c.words.invariant.0 c.in-Ok.ensures.goes _ (is_barred (borne _ (again_is _ (more_type _ _ c.tells_type-has_type.ensures c.words.invariant.1 refl) (sym c.if-type_comes_again.ensures))))))
@@ -465,7 +466,7 @@ pub types::member-returns-in-Err-declarator-clause-goes : goal.types::member-ret
 types::member-returns-in-Err-declarator-clause-goes t c = not_read c.all.invariant.0 c.in-Err-declarator.ensures.goes
 
 pub types::member-returns-in_err-push_declarator-clause-goes : goal.types::member-returns-in_err-push_declarator-clause-goes
-types::member-returns-in_err-push_declarator-clause-goes t c = starved c.from_residual.ensures.1
+types::member-returns-in_err-push_declarator-clause-goes t c = passed_on (Gives _ _) c.from_residual.ensures.1 (halted no_memory)
 
 pub types::member-returns-then-comes-clause-goes : goal.types::member-returns-then-comes-clause-goes
 types::member-returns-then-comes-clause-goes t c = halted (stopped c.barred.ensures (goes_behind c.all.invariant.0 c.in-Ok-declarator.ensures.goes _ (is_barred (borne _ (sym c.if-comes.ensures)))))
@@ -483,10 +484,10 @@ pub declarators::grouped-returns-in-Err-closed-clause-goes : goal.declarators::g
 declarators::grouped-returns-in-Err-closed-clause-goes t c = halted (halts (not_grouped (regiven c.deref.ensures c.if-not-is_given.ensures) c.in-Err-closed.ensures.goes) (λ why rest g. by (type_rule kind.grouped) (unborne _ c.requires.0) (direct_is _ _ _ c.requires.1) (take c.in-Ok.ensures.goes (goes_on (answer c.in-Ok-declarator.ensures.goes) (g _ _)))))
 
 pub declarators::grouped-returns-clause-goes : goal.declarators::grouped-returns-clause-goes
-declarators::grouped-returns-clause-goes t c = relayed c.tails.ensures.goes (λ x g. by (type_rule kind.grouped) (unborne _ c.requires.0) (direct_is _ _ _ c.requires.1) (take c.in-Ok.ensures.goes (goes_on (answer c.in-Ok-declarator.ensures.goes) (behind_group boxed_declarator (regiven c.deref.ensures c.if-not-is_given.ensures) c.in-Ok-closed.ensures.goes c.grouped_declarator-whole.ensures (λ e. here (tails_at e g) is_done))))) (λ why rest g. by (type_rule kind.grouped) (unborne _ c.requires.0) (direct_is _ _ _ c.requires.1) (take c.in-Ok.ensures.goes (goes_on (answer c.in-Ok-declarator.ensures.goes) (behind_group boxed_declarator (regiven c.deref.ensures c.if-not-is_given.ensures) c.in-Ok-closed.ensures.goes c.grouped_declarator-whole.ensures (λ e. stops_here (tails_at e g))))))
+declarators::grouped-returns-clause-goes t c = carried c.tails.ensures.goes (λ o g. by (type_rule kind.grouped) (unborne _ c.requires.0) (direct_is _ _ _ c.requires.1) (take c.in-Ok.ensures.goes (goes_on (answer c.in-Ok-declarator.ensures.goes) (behind_group boxed_declarator (regiven c.deref.ensures c.if-not-is_given.ensures) c.in-Ok-closed.ensures.goes c.grouped_declarator-whole.ensures (λ e. last_part same o (tails_at e g))))))
 
 pub declarators::named-returns-in-Err-clause-goes : goal.declarators::named-returns-in-Err-clause-goes
 declarators::named-returns-in-Err-clause-goes t c = halted (halts (stall (c.in-Err.ensures.goes (part.ADeclarator (part.Direct c.args.role)) (λ d. process.part 0 (scene_of c.args.context.now) (part.ADeclarator (part.Tails c.args.role true d)) process.give))) (λ why rest g. by (type_rule (kind.declared_name (direct_is _ _ _ c.requires.1).0)) (unborne _ c.requires.0) (direct_is _ _ _ c.requires.1).1 g))
 
 pub declarators::named-returns-clause-goes : goal.declarators::named-returns-clause-goes
-declarators::named-returns-clause-goes t c = relayed c.tails.ensures.goes (λ x g. by (type_rule (kind.declared_name (direct_is _ _ _ c.requires.1).0)) (unborne _ c.requires.0) (direct_is _ _ _ c.requires.1).1 (step (c.in-Ok.ensures.goes (part.ADeclarator (part.Direct c.args.role)) (λ d. process.part 0 (scene_of c.args.context.now) (part.ADeclarator (part.Tails c.args.role true d)) process.give)) _ (here g is_done))) (λ why rest g. by (type_rule (kind.declared_name (direct_is _ _ _ c.requires.1).0)) (unborne _ c.requires.0) (direct_is _ _ _ c.requires.1).1 (step (c.in-Ok.ensures.goes (part.ADeclarator (part.Direct c.args.role)) (λ d. process.part 0 (scene_of c.args.context.now) (part.ADeclarator (part.Tails c.args.role true d)) process.give)) _ (stops_here g)))
+declarators::named-returns-clause-goes t c = carried c.tails.ensures.goes (λ o g. by (type_rule (kind.declared_name (direct_is _ _ _ c.requires.1).0)) (unborne _ c.requires.0) (direct_is _ _ _ c.requires.1).1 (step (c.in-Ok.ensures.goes (part.ADeclarator (part.Direct c.args.role)) (λ d. process.part 0 (scene_of c.args.context.now) (part.ADeclarator (part.Tails c.args.role true d)) process.give)) _ (last_part same o g)))

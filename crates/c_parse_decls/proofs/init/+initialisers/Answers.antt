@@ -4,11 +4,12 @@ use Rattle.c_written.specs.WrittenDecl.{init_tree, inits_from}
 use Rattle.c_grammar.specs.Parts.{Initialiser, Initialisers, MoreInitialisers, NextInitialiser}
 use Rattle.std.proofs.Common.{refl, sym, ◌∙◌, arith}
 use Rattle.c_written.proofs.WrittenDeclTrees.{init_braces}
-use Rattle.c_parse_steps.proofs.Steps.{borne, if_false, if_true, starved, unborne}
+use Rattle.c_parse_steps.proofs.Steps.{borne, if_false, if_true, unborne, passed_on, carried}
 use Rattle.c_parse_decls.proofs.Starts.{brace_first}
-use Rattle.c_parse_steps.proofs.TypeSteps.{carried}
 use Rattle.c_parse_steps.proofs.Paths.{after, barred_at, begin, behind, ends, goes_so, inside, lasts, not_after, not_behind, not_inside}
-use Rattle.c_parse_decls.proofs.Steps.{last_inits, next_inits, same_inits}
+use Rattle.c_parse_decls.proofs.Steps.{same_inits}
+use Rattle.c_parse_steps.proofs.Last.{same, last_part}
+use Rattle.c_parse_steps.specs.Answers.{Gives, halted, no_memory}
 use Rattle.c_parse_decls.proofs.init.+initialisers.Goals as goal
 
 pub initialiser-returns-then-designator_ahead-clause-goes : goal.initialiser-returns-then-designator_ahead-clause-goes
@@ -36,7 +37,7 @@ pub initialisers-returns-in_err-first-clause-goes : goal.initialisers-returns-in
 initialisers-returns-in_err-first-clause-goes t c = not_behind c.from_residual.ensures.1 (begin {p = Initialisers} (λ o g. g) refl refl) c.in_err-first.ensures.goes
 
 pub initialisers-returns-in_err-items-clause-goes : goal.initialisers-returns-in_err-items-clause-goes
-initialisers-returns-in_err-items-clause-goes t c = starved c.from_residual-in_err-items.ensures.1
+initialisers-returns-in_err-items-clause-goes t c = passed_on (Gives _ _) c.from_residual-in_err-items.ensures.1 (halted no_memory)
 
 pub initialisers-returns-clause-goes : goal.initialisers-returns-clause-goes
 initialisers-returns-clause-goes t c = lasts (behind (begin {p = Initialisers} (λ o g. g) refl refl) c.in_ok-first.ensures.goes) (carried c.more_initialisers.ensures.goes (λ o g. same_inits c.in_ok-items.ensures g)) (λ i. refl)
@@ -45,16 +46,16 @@ pub more_initialisers-returns-in_err-_comma-clause-goes : goal.more_initialisers
 more_initialisers-returns-in_err-_comma-clause-goes t c = not_after c.from_residual.ensures.1 (begin {p = MoreInitialisers (inits_from c.loop-rest.items.items)} c.loop-rest.invariant.0 refl (if_false _ (sym c.comes.ensures ∙ c.loop-rest-test.true))) c.in_err-_comma.ensures.goes
 
 pub more_initialisers-returns-then-comes-clause-goes : goal.more_initialisers-returns-then-comes-clause-goes
-more_initialisers-returns-then-comes-clause-goes t c = carried c.comma_end.ensures.goes (λ o g. goes_so (after (begin {p = MoreInitialisers (inits_from c.loop-rest.items.items)} c.loop-rest.invariant.0 refl (if_false _ (sym c.comes.ensures ∙ c.loop-rest-test.true))) c.in_ok-_comma.ensures.goes) o (next_inits o g))
+more_initialisers-returns-then-comes-clause-goes t c = carried c.comma_end.ensures.goes (λ o g. goes_so (after (begin {p = MoreInitialisers (inits_from c.loop-rest.items.items)} c.loop-rest.invariant.0 refl (if_false _ (sym c.comes.ensures ∙ c.loop-rest-test.true))) c.in_ok-_comma.ensures.goes) o (last_part same o g))
 
 pub more_initialisers-returns-in_err-next-clause-goes : goal.more_initialisers-returns-in_err-next-clause-goes
-more_initialisers-returns-in_err-next-clause-goes t c = not_behind c.from_residual-in_err-next.ensures.1 (begin {p = NextInitialiser (inits_from c.loop-rest.items.items)} (λ o g. goes_so (after (begin {p = MoreInitialisers (inits_from c.loop-rest.items.items)} c.loop-rest.invariant.0 refl (if_false _ (sym c.comes.ensures ∙ c.loop-rest-test.true))) c.in_ok-_comma.ensures.goes) o (next_inits o g)) refl (if_false _ (sym c.comes-in-loop-rest.ensures ∙ c.if-comes.false))) c.in_err-next.ensures.goes
+more_initialisers-returns-in_err-next-clause-goes t c = not_behind c.from_residual-in_err-next.ensures.1 (begin {p = NextInitialiser (inits_from c.loop-rest.items.items)} (λ o g. goes_so (after (begin {p = MoreInitialisers (inits_from c.loop-rest.items.items)} c.loop-rest.invariant.0 refl (if_false _ (sym c.comes.ensures ∙ c.loop-rest-test.true))) c.in_ok-_comma.ensures.goes) o (last_part same o g)) refl (if_false _ (sym c.comes-in-loop-rest.ensures ∙ c.if-comes.false))) c.in_err-next.ensures.goes
 
 pub more_initialisers-returns-in_err-push_init-clause-goes : goal.more_initialisers-returns-in_err-push_init-clause-goes
-more_initialisers-returns-in_err-push_init-clause-goes t c = starved c.from_residual-in_err-push_init.ensures.1
+more_initialisers-returns-in_err-push_init-clause-goes t c = passed_on (Gives _ _) c.from_residual-in_err-push_init.ensures.1 (halted no_memory)
 
 pub more_initialisers-loop-rest-preserved : goal.more_initialisers-loop-rest-preserved
-more_initialisers-loop-rest-preserved t c = ((λ o g. goes_so (behind (begin {p = NextInitialiser (inits_from c.loop-rest.items.items)} (λ o g. goes_so (after (begin {p = MoreInitialisers (inits_from c.loop-rest.items.items)} c.loop-rest.invariant.0 refl (if_false _ (sym c.comes.ensures ∙ c.loop-rest-test.true))) c.in_ok-_comma.ensures.goes) o (next_inits o g)) refl (if_false _ (sym c.comes-in-loop-rest.ensures ∙ c.if-comes.false))) c.in_ok-next.ensures.goes) o (last_inits o (same_inits c.in_ok-push_init.ensures g))), omega (arith, c.in_ok-next.ensures.shorter, c.in_ok-_comma.ensures.shorter))
+more_initialisers-loop-rest-preserved t c = ((λ o g. goes_so (behind (begin {p = NextInitialiser (inits_from c.loop-rest.items.items)} (λ o g. goes_so (after (begin {p = MoreInitialisers (inits_from c.loop-rest.items.items)} c.loop-rest.invariant.0 refl (if_false _ (sym c.comes.ensures ∙ c.loop-rest-test.true))) c.in_ok-_comma.ensures.goes) o (last_part same o g)) refl (if_false _ (sym c.comes-in-loop-rest.ensures ∙ c.if-comes.false))) c.in_ok-next.ensures.goes) o (last_part same o (same_inits c.in_ok-push_init.ensures g))), omega (arith, c.in_ok-next.ensures.shorter, c.in_ok-_comma.ensures.shorter))
 
 pub more_initialisers-returns-in_err-_close-clause-goes : goal.more_initialisers-returns-in_err-_close-clause-goes
 more_initialisers-returns-in_err-_close-clause-goes t c = not_after c.from_residual-in_err-_close.ensures.1 (begin {p = MoreInitialisers (inits_from c.loop-rest.items.items)} c.loop-rest.invariant.0 refl (if_true _ (sym c.comes.ensures ∙ c.loop-rest-test.false))) c.in_err-_close.ensures.goes

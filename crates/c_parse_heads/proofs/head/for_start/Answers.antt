@@ -5,8 +5,9 @@ use Rattle.c_written.specs.declared.declaration.Decl.{Decl}
 use Rattle.c_written.specs.WrittenDecl.{decl_tree}
 use Rattle.c_written.specs.WrittenFile as trees
 use Rattle.c_written.proofs.WrittenFileTrees.{forstart_nothing, forstart_value, forstart_declares}
-use Rattle.c_parse_steps.proofs.Steps.{if_false, if_true, starved}
+use Rattle.c_parse_steps.proofs.Steps.{if_false, if_true, passed_on}
 use Rattle.c_parse_steps.proofs.Paths.{after, begin, behind, ends, not_after, not_behind, where_so}
+use Rattle.c_parse_steps.specs.Answers.{Gives, halted, no_memory}
 use Rattle.c_parse_heads.proofs.head.for_start.Goals as goal
 
 pub returns-in_err-_end-clause-goes : goal.returns-in_err-_end-clause-goes
@@ -22,7 +23,7 @@ pub returns-then-spec_ahead-clause-goes : goal.returns-then-spec_ahead-clause-go
 returns-then-spec_ahead-clause-goes c = ends (behind (where_so (begin {p = ForStart} (λ o g. g) refl (if_false _ (sym c.comes.ensures ∙ c.if-comes.false) ∙ if_true _ (sym c.spec_ahead.ensures ∙ c.if-spec_ahead.true))) (sym c.spec_ahead.ensures ∙ c.if-spec_ahead.true)) c.in_ok-decl.ensures.goes) (forstart_declares _ ∙ ap (λ (v : Decl). trees.Declares (decl_tree v)) c.in_ok-decl-2.ensures.ok)
 
 pub returns-in_err-decl-2-clause-goes : goal.returns-in_err-decl-2-clause-goes
-returns-in_err-decl-2-clause-goes c = starved c.from_residual-in_err-decl-2.ensures.1
+returns-in_err-decl-2-clause-goes c = passed_on (Gives _ _) c.from_residual-in_err-decl-2.ensures.1 (halted no_memory)
 
 pub returns-in_err-value-clause-goes : goal.returns-in_err-value-clause-goes
 returns-in_err-value-clause-goes c = not_behind c.from_residual-in_err-value.ensures.1 (where_so (begin {p = ForStart} (λ o g. g) refl (if_false _ (sym c.comes.ensures ∙ c.if-comes.false) ∙ if_false _ (sym c.spec_ahead.ensures ∙ c.if-spec_ahead.false))) (ap not (sym c.spec_ahead.ensures ∙ c.if-spec_ahead.false))) c.in_err-value.ensures.goes

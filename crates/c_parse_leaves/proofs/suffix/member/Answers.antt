@@ -2,19 +2,19 @@ use Rattle.std.proofs.Common.{refl}
 use Rattle.c_grammar.specs.Grammar.{expr_rule}
 use Rattle.c_grammar.specs.ExprRules as rule
 use Rattle.c_grammar.specs.Descent.{goes_on, is_done, stops}
-use Rattle.c_parse_steps.specs.Answers.{stepped}
-use Rattle.c_parse_steps.proofs.Steps.{stalls, starves, by, halts, refuse, take}
+use Rattle.c_parse_steps.specs.Answers.{stepped, Steps, stalled, no_memory}
+use Rattle.c_parse_steps.proofs.Steps.{by, halts, refuse, take, passed_on}
 use Rattle.c_parse_leaves.proofs.ExprSteps.{member_at}
 use Rattle.c_parse_leaves.proofs.suffix.member.Goals as goal
 
 pub returns-in_err-at-clause-goes : goal.returns-in_err-at-clause-goes
-returns-in_err-at-clause-goes c = λ p k. stalls c.from_residual.ensures.1 (halts (refuse c.in_err-at.ensures.goes) (λ why rest g. g _ _))
+returns-in_err-at-clause-goes c = λ p k. passed_on (Steps _ _) c.from_residual.ensures.1 (stalled (halts (refuse c.in_err-at.ensures.goes) (λ why rest g. g _ _)))
 
 pub returns-in_err-word-clause-goes : goal.returns-in_err-word-clause-goes
-returns-in_err-word-clause-goes c = λ p k. stalls c.from_residual-in_err-word.ensures.1 (halts (refuse c.in_err-word.ensures.goes) (λ why rest g. take c.in_ok-at.ensures.goes (stops (by (expr_rule rule.member_name) refl refl (g _ _)))))
+returns-in_err-word-clause-goes c = λ p k. passed_on (Steps _ _) c.from_residual-in_err-word.ensures.1 (stalled (halts (refuse c.in_err-word.ensures.goes) (λ why rest g. take c.in_ok-at.ensures.goes (stops (by (expr_rule rule.member_name) refl refl (g _ _))))))
 
 pub returns-in_err-name-clause-goes : goal.returns-in_err-name-clause-goes
-returns-in_err-name-clause-goes c = λ p k. starves c.from_residual-in_err-name.ensures.1
+returns-in_err-name-clause-goes c = λ p k. passed_on (Steps _ _) c.from_residual-in_err-name.ensures.1 (stalled no_memory)
 
 pub returns-clause-goes : goal.returns-clause-goes
 returns-clause-goes c = λ p k. stepped (λ o h. take c.in_ok-at.ensures.goes (goes_on (by (expr_rule rule.member_name) refl refl (take c.in_ok-word.ensures.goes is_done)) (member_at k c.in_ok-name.ensures h)))

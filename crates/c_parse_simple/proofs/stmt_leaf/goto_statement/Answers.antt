@@ -3,8 +3,9 @@ use Rattle.c_written.specs.WrittenFile as trees
 use Rattle.c_written.proofs.WrittenFileTrees.{stmt_goto}
 use Rattle.c_parse_simple.specs.declared.stmt_kind.StatementKind.TheVariants as statements
 use Rattle.c_parse_simple.proofs.Starts.{statement_begins}
-use Rattle.c_parse_steps.proofs.Steps.{starved}
+use Rattle.c_parse_steps.proofs.Steps.{passed_on}
 use Rattle.c_parse_steps.proofs.Paths.{after, ends, not_after}
+use Rattle.c_parse_steps.specs.Answers.{Gives, halted, no_memory}
 use Rattle.c_parse_simple.proofs.stmt_leaf.goto_statement.Goals as goal
 
 pub returns-in_err-at-clause-goes : goal.returns-in_err-at-clause-goes
@@ -17,7 +18,7 @@ pub returns-in_err-_end-clause-goes : goal.returns-in_err-_end-clause-goes
 returns-in_err-_end-clause-goes c = λ b. not_after c.from_residual-in_err-_end.ensures.1 (after (after (statement_begins statements.Goto c.requires refl) c.in_ok-at.ensures.goes) c.in_ok-word.ensures.goes) c.in_err-_end.ensures.goes
 
 pub returns-in_err-label-clause-goes : goal.returns-in_err-label-clause-goes
-returns-in_err-label-clause-goes c = λ b. starved c.from_residual-in_err-label.ensures.1
+returns-in_err-label-clause-goes c = λ b. passed_on (Gives _ _) c.from_residual-in_err-label.ensures.1 (halted no_memory)
 
 pub returns-clause-goes : goal.returns-clause-goes
 returns-clause-goes c = λ b. ends (after (after (after (statement_begins statements.Goto c.requires refl) c.in_ok-at.ensures.goes) c.in_ok-word.ensures.goes) c.in_ok-_end.ensures.goes) (stmt_goto _ _ ∙ ap (trees.Goto c.in_ok-at.at.now.pos) c.in_ok-label.ensures)

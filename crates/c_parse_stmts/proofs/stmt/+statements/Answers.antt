@@ -6,7 +6,7 @@ use Rattle.c_written.specs.declared.file.Stmt.{Stmt}
 use Rattle.c_written.specs.WrittenDecl.{decl_tree}
 use Rattle.c_grammar.specs.Choice.{is_else_word}
 use Rattle.c_grammar.specs.Descent.{fails, goes_on, passes, stops}
-use Rattle.c_parse_steps.specs.Answers.{stalled, stepped}
+use Rattle.c_parse_steps.specs.Answers.{stalled, stepped, Gives, Steps, halted, no_memory}
 use Rattle.c_grammar.specs.Made.{ends_open}
 use Rattle.c_grammar.specs.Refused.{first_is}
 use Rattle.c_written.specs.WrittenFile as trees
@@ -16,13 +16,13 @@ use Rattle.c_parse_steps.specs.Views.{boxed_expr, scene_of}
 use Rattle.c_written.proofs.WrittenFileTrees.{blockitem_declaration, blockitem_statement, blockitems_nil, stmt_block, stmt_default, stmt_label}
 use Rattle.c_parse_heads.specs.Kinds.{boxed_tree}
 use Rattle.c_parse_simple.specs.declared.stmt_kind.StatementKind.TheVariants as statements
-use Rattle.c_parse_steps.proofs.Steps.{answer, halt, halts, if_false, if_true, stalls, starved, starves, stopped}
+use Rattle.c_parse_steps.proofs.Steps.{answer, halt, halts, if_false, if_true, stopped, passed_on, carried, stall}
 use Rattle.c_parse_simple.proofs.Starts.{statement_begins}
 use Rattle.c_parse_stmts.proofs.Starts.{label_rule}
-use Rattle.c_parse_steps.proofs.TypeSteps.{carried}
 use Rattle.c_parse_steps.proofs.Paths.{after, begin, behind, ends, goes_so, inside, lasts, not_after, not_behind, not_inside, where_so}
 use Rattle.c_parse_simple.proofs.Steps.{not_tried, tried}
-use Rattle.c_parse_stmts.proofs.Steps.{for_led, held, in_scene, last_items, not_held, not_led, same_items, same_statement}
+use Rattle.c_parse_stmts.proofs.Steps.{for_led, held, in_scene, not_held, same_items, same_statement}
+use Rattle.c_parse_steps.proofs.Last.{same, last_part}
 use Rattle.c_parse_stmts.proofs.stmt.+statements.Goals as goal
 
 pub label-returns-in_err-at-clause-goes : goal.label-returns-in_err-at-clause-goes
@@ -35,7 +35,7 @@ pub label-returns-in_err-body-clause-goes : goal.label-returns-in_err-body-claus
 label-returns-in_err-body-clause-goes t c = not_held c.from_residual-in_err-body.ensures.1 (after (after (where_so (begin {p = AStmt (Statement c.args.switched)} (λ o g. g) refl (label_rule _ _ _ c.requires)) c.requires) c.in_ok-at.ensures.goes) c.in_ok-_colon.ensures.goes) c.in_err-body.ensures.goes
 
 pub label-returns-in_err-name-clause-goes : goal.label-returns-in_err-name-clause-goes
-label-returns-in_err-name-clause-goes t c = starved c.from_residual-in_err-name.ensures.1
+label-returns-in_err-name-clause-goes t c = passed_on (Gives _ _) c.from_residual-in_err-name.ensures.1 (halted no_memory)
 
 pub label-returns-clause-goes : goal.label-returns-clause-goes
 label-returns-clause-goes t c = ends (held (after (after (where_so (begin {p = AStmt (Statement c.args.switched)} (λ o g. g) refl (label_rule _ _ _ c.requires)) c.requires) c.in_ok-at.ensures.goes) c.in_ok-_colon.ensures.goes) c.in_ok-body.ensures.goes) (stmt_label _ _ _ ∙ ap (λ n. trees.Label c.in_ok-at.at.now.pos n (boxed_tree c.in_ok-body.body)) c.in_ok-name.ensures)
@@ -131,7 +131,7 @@ pub do_loop-returns-clause-goes : goal.do_loop-returns-clause-goes
 do_loop-returns-clause-goes t c = ends (after (tried (after (held (after (statement_begins statements.Do c.requires refl) c.in_ok-at.ensures.goes) c.in_ok-body.ensures.goes) c.in_ok-_word.ensures.goes) c.in_ok-condition.ensures.goes) c.in_ok-_end.ensures.goes) c.do_stmt.ensures
 
 pub for_loop-returns-in_err-opening-clause-goes : goal.for_loop-returns-in_err-opening-clause-goes
-for_loop-returns-in_err-opening-clause-goes t c = not_led c.from_residual.ensures.1 (c.in_err-opening.ensures.goes c.args.switched)
+for_loop-returns-in_err-opening-clause-goes t c = passed_on (Gives _ _) c.from_residual.ensures.1 (halted (stall (c.in_err-opening.ensures.goes c.args.switched)))
 
 pub for_loop-returns-in_err-body-clause-goes : goal.for_loop-returns-in_err-body-clause-goes
 for_loop-returns-in_err-body-clause-goes t c = not_held c.from_residual-in_err-body.ensures.1 (for_led {b = c.args.switched} c.in_ok-opening.ensures.goes) c.in_err-body.ensures.goes
@@ -143,10 +143,10 @@ pub substatement-returns-then-not-no_left_bracket-clause-goes : goal.substatemen
 substatement-returns-then-not-no_left_bracket-clause-goes t c = λ p k. stalled (stopped c.refused.ensures (fails (sym c.no_left_bracket.ensures ∙ c.if-not-no_left_bracket.true)))
 
 pub substatement-returns-in_err-whole-clause-goes : goal.substatement-returns-in_err-whole-clause-goes
-substatement-returns-in_err-whole-clause-goes t c = λ p k. stalls c.from_residual.ensures.1 (halts (halt c.in_err-whole.ensures.goes) (λ why rest g. passes (sym c.no_left_bracket.ensures ∙ c.if-not-no_left_bracket.false) (stops g)))
+substatement-returns-in_err-whole-clause-goes t c = λ p k. passed_on (Steps _ _) c.from_residual.ensures.1 (stalled (halts (halt c.in_err-whole.ensures.goes) (λ why rest g. passes (sym c.no_left_bracket.ensures ∙ c.if-not-no_left_bracket.false) (stops g))))
 
 pub substatement-returns-in_err-new-clause-goes : goal.substatement-returns-in_err-new-clause-goes
-substatement-returns-in_err-new-clause-goes t c = λ p k. starves c.from_residual-in_err-new.ensures.1
+substatement-returns-in_err-new-clause-goes t c = λ p k. passed_on (Steps _ _) c.from_residual-in_err-new.ensures.1 (stalled no_memory)
 
 pub substatement-returns-clause-goes : goal.substatement-returns-clause-goes
 substatement-returns-clause-goes t c = λ p k. stepped (λ o h. passes (sym c.no_left_bracket.ensures ∙ c.if-not-no_left_bracket.false) (goes_on (answer c.in_ok-whole.ensures.goes) (same_statement k (ap stmt_tree c.in_ok-new.ensures.ok) h)))
@@ -161,7 +161,7 @@ pub item-returns-then-spec_ahead-clause-goes : goal.item-returns-then-spec_ahead
 item-returns-then-spec_ahead-clause-goes t c = ends (behind (where_so (begin {p = Item} (λ o g. g) refl (if_true _ (sym c.spec_ahead.ensures ∙ c.if-spec_ahead.true))) (sym c.spec_ahead.ensures ∙ c.if-spec_ahead.true)) c.in_ok-decl.ensures.goes) (blockitem_declaration _ ∙ ap (λ (v : Decl). trees.Declaration (decl_tree v)) c.in_ok-decl-2.ensures.ok)
 
 pub item-returns-in_err-decl-2-clause-goes : goal.item-returns-in_err-decl-2-clause-goes
-item-returns-in_err-decl-2-clause-goes t c = starved c.from_residual-in_err-decl-2.ensures.1
+item-returns-in_err-decl-2-clause-goes t c = passed_on (Gives _ _) c.from_residual-in_err-decl-2.ensures.1 (halted no_memory)
 
 pub item-returns-in_err-stmt-clause-goes : goal.item-returns-in_err-stmt-clause-goes
 item-returns-in_err-stmt-clause-goes t c = not_behind c.from_residual-in_err-stmt.ensures.1 (where_so (begin {p = Item} (λ o g. g) refl (if_false _ (sym c.spec_ahead.ensures ∙ c.if-spec_ahead.false))) (ap not (sym c.spec_ahead.ensures ∙ c.if-spec_ahead.false))) c.in_err-stmt.ensures.goes
@@ -176,10 +176,10 @@ pub items-returns-in_err-next-clause-goes : goal.items-returns-in_err-next-claus
 items-returns-in_err-next-clause-goes t c = not_behind c.from_residual.ensures.1 (begin {p = Items (blockitems_from c.loop-rest.items.items)} c.loop-rest.invariant.0 refl (if_false _ (sym c.comes.ensures ∙ c.loop-rest-test.true))) c.in_err-next.ensures.goes
 
 pub items-returns-in_err-push_item-clause-goes : goal.items-returns-in_err-push_item-clause-goes
-items-returns-in_err-push_item-clause-goes t c = starved c.from_residual-in_err-push_item.ensures.1
+items-returns-in_err-push_item-clause-goes t c = passed_on (Gives _ _) c.from_residual-in_err-push_item.ensures.1 (halted no_memory)
 
 pub items-loop-rest-preserved : goal.items-loop-rest-preserved
-items-loop-rest-preserved t c = ((λ o g. goes_so (behind (begin {p = Items (blockitems_from c.loop-rest.items.items)} c.loop-rest.invariant.0 refl (if_false _ (sym c.comes.ensures ∙ c.loop-rest-test.true))) c.in_ok-next.ensures.goes) o (last_items o (same_items c.in_ok-push_item.ensures g))), omega (arith, c.in_ok-next.ensures.shorter))
+items-loop-rest-preserved t c = ((λ o g. goes_so (behind (begin {p = Items (blockitems_from c.loop-rest.items.items)} c.loop-rest.invariant.0 refl (if_false _ (sym c.comes.ensures ∙ c.loop-rest-test.true))) c.in_ok-next.ensures.goes) o (last_part same o (same_items c.in_ok-push_item.ensures g))), omega (arith, c.in_ok-next.ensures.shorter))
 
 pub items-returns-in_err-_close-clause-goes : goal.items-returns-in_err-_close-clause-goes
 items-returns-in_err-_close-clause-goes t c = not_after c.from_residual-in_err-_close.ensures.1 (begin {p = Items (blockitems_from c.loop-rest.items.items)} c.loop-rest.invariant.0 refl (if_true _ (sym c.comes.ensures ∙ c.loop-rest-test.false))) c.in_err-_close.ensures.goes
