@@ -5,3 +5,7 @@ pub mod Values
 pub mod Operators
 pub mod Stores
 pub mod Changes
+pub mod Places
+pub mod Assigns
+pub mod Casts
+pub mod Calls

@@ -119,6 +119,11 @@ plus_by structs scope at (Int t) (Pointer to c) a b e later v w p q r =
     (node scope at (binaries.IntPlusPointer n) a b v w (move_row structs scope to c t n b a later w v q p size) w.proper))
 plus_by structs scope at s t a b e later v w p q r = balanced_by scope at (binaries.Arithmetic arithmetics.Add) s t a b e (arithmetic scope arithmetics.Add) v w p q r
 
+pub plus_typed :
+    (structs : List StructDefTree) (scope : Scope) (at : Pos) (a b e : TExprTree) → IsLater structs scope.program.structs
+    → IsTypedValue scope a → IsTypedValue scope b → plus_row structs at (texpr_type a) (texpr_type b) a b ≡ Some e → IsTypedValue scope e
+plus_typed structs scope at a b e later v w r = plus_by structs scope at (texpr_type a) (texpr_type b) a b e later v w refl refl r
+
 minus_pointers :
     (structs : List StructDefTree) (scope : Scope) (at : Pos) (s t : CTypeTree) (c d one : Bool) (a b e : TExprTree) → IsLater structs scope.program.structs
     → IsTypedValue scope a → IsTypedValue scope b → texpr_type a ≡ Pointer s c → texpr_type b ≡ Pointer t d → is_same_but_const s t ≡ one

@@ -1,7 +1,7 @@
 -- Values and places of a typed program, whose types are those that a program may have.
 use Rattle.std.specs.Prelude.{true}
 use Rattle.c_syntax.specs.Types.{CTypeTree, Void, Function}
-use Rattle.c_syntax.specs.TypedExpr.{TExprTree, TLvalueTree}
+use Rattle.c_syntax.specs.TypedExpr.{TExprTree, TLvalueTree, TExprTrees, none, more}
 use Rattle.c_syntax.specs.TypedParts.{texpr_type, tlvalue_type}
 use Rattle.c_layout.specs.ProperTypes.{IsProperType}
 use Rattle.c_layout.specs.TypedNodes.{Scope, IsTypedExpr, IsTypedPlace}
@@ -28,3 +28,8 @@ pub record IsTypedLvalue (scope : Scope) (place : TLvalueTree) : Type 0 where
 abbrev pub IsTypedOperand : Scope → OperandTree → Type 0
 IsTypedOperand scope (Place place) = IsTypedLvalue scope place
 IsTypedOperand scope (Value e) = IsTypedValue scope e
+
+-- the arguments of a call
+unfoldable pub AreTypedValues : Scope → TExprTrees → Type 0
+AreTypedValues scope none = Unit {0}
+AreTypedValues scope (more e rest) = IsTypedValue scope e × AreTypedValues scope rest

@@ -1,0 +1,5 @@
+use Rattle.c_typing_laws.proofs.Casts as lemmas
+use Rattle.c_typing_laws.proofs.nodes.casts_are_typed.Goals as goal
+
+pub returns : goal.returns
+returns c = lemmas.casts_are_typed

@@ -1,0 +1,5 @@
+use Rattle.c_typing_laws.proofs.Assigns as lemmas
+use Rattle.c_typing_laws.proofs.nodes.stepped_are_typed.Goals as goal
+
+pub returns : goal.returns
+returns c = lemmas.stepped_are_typed
