@@ -23,7 +23,7 @@ module _ (graph : List (Option (List PlacedCall))) where
   way_is p f [] i = tt
   way_is p f (m ∷ made) i = (contains_got (calls_from graph f) i.0.n m i.0.call_is, way_is p m.callee made i.1)
 
-  way_push : (f : ℕ) (made : List PlacedCall) (call : PlacedCall) → IsWay graph f made → Contains (calls_from graph (chain_end f made)) call
+  pub way_push : (f : ℕ) (made : List PlacedCall) (call : PlacedCall) → IsWay graph f made → Contains (calls_from graph (chain_end f made)) call
       → IsWay graph f (made ++ call ∷ [])
   way_push f [] call w c = (c, tt)
   way_push f (m ∷ made) call w c = (w.0, way_push m.callee made call w.1 c)

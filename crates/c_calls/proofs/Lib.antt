@@ -1,6 +1,7 @@
 pub mod Forms
 mod Closed
 mod Left
+mod Deep
 mod Orders
 mod Steps
 mod Ways

@@ -35,7 +35,7 @@ one_if f x = cond (x == f) 1 0
 other_one : (f x : ℕ) → x ≢ f → one_if f x ≡ 0
 other_one f x n = grind (arith, n)
 
-same_one : (f : ℕ) → one_if f f ≡ 1
+pub same_one : (f : ℕ) → one_if f f ≡ 1
 same_one f = grind arith
 
 times_push_other : (f : ℕ) (xs : List ℕ) (y : ℕ) → y ≢ f → times f (xs ++ y ∷ []) ≡ times f xs
@@ -58,7 +58,7 @@ times_none P f (x ∷ xs) all n =
 contains_cons : (x : ℕ) (xs : List ℕ) (f : ℕ) → Contains xs f → Contains (x ∷ xs) f
 contains_cons x xs f c = (suc c.0, omega (arith, c.1), c.2)
 
-contains_counted : (f : ℕ) (xs : List ℕ) → 0 < times f xs → Contains xs f
+pub contains_counted : (f : ℕ) (xs : List ℕ) → 0 < times f xs → Contains xs f
 contains_counted f [] h = absurd (omega (arith, h))
 contains_counted f (x ∷ xs) h = elim (cases_eq x f) [
   | inl e ↦ (0, omega arith, e)

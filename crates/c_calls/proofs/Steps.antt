@@ -73,7 +73,7 @@ module _ (graph : List (Option (List PlacedCall))) (p : List Progress) (order : 
 
 -- ---- a call is gone through
 
-defined_inside : (graph : List (Option (List PlacedCall))) (f : ℕ) → IsDefined graph f → f < length graph
+pub defined_inside : (graph : List (Option (List PlacedCall))) (f : ℕ) → IsDefined graph f → f < length graph
 defined_inside [] f d = absurd d
 defined_inside (entry ∷ graph) zero d = omega arith
 defined_inside (entry ∷ graph) (suc f) d = let rest = defined_inside graph f d in omega (arith, rest)

@@ -1,3 +1,4 @@
+pub mod Depths
 pub mod Graph
 pub mod Placed
 pub mod Search

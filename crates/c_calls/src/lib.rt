@@ -12,11 +12,13 @@
 #![tactic(auto)]
 
 mod call;
+mod depth;
 mod exprs;
 mod graph;
 mod search;
 mod stmts;
 
 pub use call::{Call, Calls};
+pub use depth::{DepthError, check_depth};
 pub use graph::CallGraph;
 pub use search::{OrderError, order_of};
