@@ -1,0 +1,4 @@
+pub mod Places
+pub mod Kept
+pub mod Trees
+pub mod Worlds

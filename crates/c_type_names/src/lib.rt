@@ -1,0 +1,34 @@
+//! The names, tags, scopes, objects and literals of typing: the program so far as code, met with what
+//! `c_typing` says of it.
+//!
+//! A `World` is the program up to a place of the text. It is seen as the `World` of the definition
+//! (`world_of`, `specs/Worlds.antt`), and each call promises the definition's own equation: after `open`
+//! the program is `opened` of the one before, and so on.
+//!
+//! For example, where `x` is declared in a block in which an outer `x` is in scope, `meaning_of` gives the
+//! inner one; once the block is closed it gives the outer one again. A file may have any number of names:
+//! what is listed by name (`Table`) also keeps, for each name, the rising places at which it stands, so
+//! that a look takes no longer in a long list, and the end of a scope costs what the scope declared.
+//!
+//! | What | Stated in | Promised by |
+//! |---|---|---|
+//! | a list, looked up by name | `specs/Places.antt`, `specs/Kept.antt` | `Table` |
+//! | what names and tags stand for | `specs/Trees.antt` | - |
+//! | names, scopes, tags in scope | `Names` of `c_typing` | `World::{meaning_of, declared_here, first_here, open, close, declare, linked_as, tag_in_scope, tag_here}` |
+//! | structs and their tags | `Names` of `c_typing` | `World::{struct_named}` |
+//! | names that need no declaration | `Names` of `c_typing` | `input_type`, `is_reserved` |
+#![tactic(auto)]
+
+mod error;
+mod name_index;
+mod reserved;
+mod struct_tags;
+mod table;
+mod types;
+mod world;
+
+pub use error::NameError;
+pub use reserved::{input_type, is_reserved};
+pub use table::{Named, Table};
+pub use types::{Binding, CaseAt, Form, Labelled, Linked, Meaning, TagBinding, TagMeaning};
+pub use world::{Scope, World};
