@@ -14,6 +14,15 @@ fn from_to(lo: i128, hi: i128) -> Range {
     }
 }
 
+// Gives the variable any number from one to another.
+fn put(state: &mut State, x: u64, lo: i128, hi: i128) -> Result<(), NoMemory> {
+    let r = from_to(lo, hi);
+    if r.holds_some() {
+        state.havoc(Var(x), r)?;
+    }
+    Ok(())
+}
+
 fn read(alloc: Global, x: u64) -> Result<Box<NExpr>, NoMemory> {
     Ok(Box::new(alloc, NExpr::Read(Var(x)))?)
 }
@@ -23,8 +32,8 @@ fn read(alloc: Global, x: u64) -> Result<Box<NExpr>, NoMemory> {
 fn comparisons(rt: HostRuntime) -> Result<(), NoMemory> {
     let alloc = rt.alloc();
     let mut state = State::top(alloc);
-    state.havoc(Var(0), from_to(0, 9))?;
-    state.havoc(Var(1), from_to(3, 5))?;
+    put(&mut state, 0, 0, 9)?;
+    put(&mut state, 1, 3, 5)?;
     let test = NExpr::Binary(NOp::Lt, read(alloc, 0)?, read(alloc, 1)?);
     let mut out = Messages::new(alloc);
     let live = state.assume(&test, true, &Unknowing, &mut out)?;
