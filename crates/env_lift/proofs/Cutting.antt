@@ -1,0 +1,121 @@
+-- What a test says of its parts, and the ranges behind it.
+use Rattle.std.proofs.Common.{arith, ℕ, ℤ, pos, List, ◌≡◌, ⊎_elim, Option, Some, None, Bool, true, false, refl, sym, subst, ◌∙◌, ◌≤ℤ◌, ◌<ℤ◌}
+use Rattle.std.specs.Prelude.{IsTrue, IsSomeAnd, not, nat_eq}
+use Rattle.std.specs.Int.RustNames.{int_le, int_lt}
+use Rattle.std.specs.Ordering.{int_eq}
+use Rattle.std.proofs.lemmas.Int.{ints}
+use Rattle.std.proofs.lemmas.Option.{none-some}
+use Rattle.std.proofs.lemmas.Bool.{eq-eqb, ne_eqb, cond-true, cond-false, cases_eq, false≢true, not-true, not-false, not_from_false}
+use Rattle.std.proofs.lemmas.Bool.Decides.{Decides-int_eq}
+use Rattle.num_api.specs.declared.message.Range.{Range}
+use Rattle.num_api.specs.declared.expr.NOp.{NOp}
+use Rattle.num_api.specs.declared.expr.NOp.TheVariants.{Not, Eq, Ne, Lt, Le}
+use Rattle.num_api.specs.Exprs.{NExprTree, Const, Read, Unary, Binary}
+use Rattle.num_api.specs.Ranges.{NoWider, IsUnder}
+use Rattle.num_api.specs.Spans.{Span, FitsSpan, range_of}
+use Rattle.num_api.specs.Value.{value_of, unary_value, binary_value, truth, has_truth}
+use Rattle.num_api.specs.Plain.{Standing, less, at_most, greater, at_least, same, other, standing, turned, cut, cut_side, cut_sides, tested, plain, IsPlain}
+use Rattle.env_eval.proofs.Parts.{of_one-some, of_two-some}
+use Rattle.env_lift.specs.Standings.{Stands}
+use Rattle.env_lift.specs.Changes.{HasTruth, Compare}
+
+-- ---- standings
+
+pub turned_stands : (how : Standing) (x y : ℤ) → Stands how x y → Stands (turned how) y x
+turned_stands less x y h = h
+turned_stands at_most x y h = h
+turned_stands greater x y h = h
+turned_stands at_least x y h = h
+turned_stands same x y h = sym h
+turned_stands other x y h = λ e. h (sym e)
+
+-- a truth value of the wanted truth is that truth
+truth_is : (b wanted : Bool) (n : ℤ) → Some (truth b) ≡ Some n → IsTrue (has_truth wanted n) → b ≡ wanted
+truth_is true true n e h = refl
+truth_is true false n e h = let is : pos 1 ≡ n = cc in absurd (false≢true (subst (λ (m : ℤ). IsTrue (has_truth false m)) (sym is) h))
+truth_is false true n e h = let is : pos 0 ≡ n = cc in absurd (false≢true (subst (λ (m : ℤ). IsTrue (has_truth true m)) (sym is) h))
+truth_is false false n e h = refl
+
+eq_true : (x y : ℤ) → int_eq x y ≡ true → x ≡ y
+eq_true x y e = (Decides-int_eq x y).0 e
+
+eq_false : (x y : ℤ) → int_eq x y ≡ false → x ≡ y → ⊥
+eq_false x y e s = false≢true (sym e ∙ (Decides-int_eq x y).1 s)
+
+lt_true : (x y : ℤ) → int_lt x y ≡ true → x <ℤ y
+lt_true x y e = grind (arith, ints)
+
+lt_false : (x y : ℤ) → int_lt x y ≡ false → y ≤ℤ x
+lt_false x y e = grind (arith, ints)
+
+le_true : (x y : ℤ) → int_le x y ≡ true → x ≤ℤ y
+le_true x y e = grind (arith, ints)
+
+le_false : (x y : ℤ) → int_le x y ≡ false → y <ℤ x
+le_false x y e = grind (arith, ints)
+
+so : (found how : Standing) (x y : ℤ) → Some found ≡ Some how → Stands found x y → Stands how x y
+so found how x y e h = let is : found ≡ how = cc in subst (λ (s : Standing). Stands s x y) is h
+
+-- a comparison of this truth has sides that stand so
+pub op_stands : (op : NOp) (wanted : Bool) (how : Standing) (x y n : ℤ) → standing op wanted ≡ Some how → binary_value op x y ≡ Some n → IsTrue (has_truth wanted n) → Stands how x y
+op_stands Eq true how x y n e f h = so same how x y e (eq_true x y (truth_is (int_eq x y) true n f h))
+op_stands Eq false how x y n e f h = so other how x y e (eq_false x y (truth_is (int_eq x y) false n f h))
+op_stands Ne true how x y n e f h = so other how x y e (eq_false x y (not-true (int_eq x y) (truth_is (not (int_eq x y)) true n f h)))
+op_stands Ne false how x y n e f h = so same how x y e (eq_true x y (not-false (int_eq x y) (truth_is (not (int_eq x y)) false n f h)))
+op_stands Lt true how x y n e f h = so less how x y e (lt_true x y (truth_is (int_lt x y) true n f h))
+op_stands Lt false how x y n e f h = so at_least how x y e (lt_false x y (truth_is (int_lt x y) false n f h))
+op_stands Le true how x y n e f h = so at_most how x y e (le_true x y (truth_is (int_le x y) true n f h))
+op_stands Le false how x y n e f h = so greater how x y e (le_false x y (truth_is (int_le x y) false n f h))
+op_stands op wanted how x y n e f h = absurd (none-some how e)
+
+-- ---- tests
+
+pub sides_stand : (op : NOp) (a b : NExprTree) (wanted : Bool) (how : Standing) (v : List ℤ) → standing op wanted ≡ Some how → HasTruth (Binary op a b) wanted v → Compare a b how v
+sides_stand op a b wanted how v e h =
+    let step = of_two-some (binary_value op) (value_of v a) (value_of v b) h.0 h.1 in
+    (step.0, step.1, step.2, step.3, op_stands op wanted how step.0 step.1 h.0 e step.4 h.2)
+
+turned_truth : (wanted : Bool) (m : ℤ) → int_eq m (pos 0) ≡ wanted → IsTrue (has_truth (not wanted) m)
+turned_truth true m e = e
+turned_truth false m e = not_from_false (int_eq m (pos 0)) e
+
+pub negated : (a : NExprTree) (wanted : Bool) (v : List ℤ) → HasTruth (Unary Not a) wanted v → HasTruth a (not wanted) v
+negated a wanted v h =
+    let step = of_one-some (unary_value Not) (value_of v a) h.0 h.1 in
+    (step.0, step.1, turned_truth wanted step.0 (truth_is (int_eq step.0 (pos 0)) wanted h.0 step.2 h.2))
+
+-- ---- the ranges behind a comparison
+
+side_under : (known given : ℕ → Range) (e : NExprTree) (how : Standing) (s t : Span) → IsUnder known given → ((x : ℕ) → e ≡ Read x → NoWider (known x) (range_of (cut how s t))) → IsUnder known (cut_side given e how (Some s) (Some t))
+side_under known given (Const n) how s t u h = u
+side_under known given (Read x) how s t u h = λ y. ⊎_elim
+    (λ (q : y ≡ x).
+    subst (NoWider (known y)) (sym (cond-true (nat_eq y x) (range_of (cut how s t)) (given y) (eq-eqb y x q)))
+    (subst (λ (z : ℕ). NoWider (known z) (range_of (cut how s t))) (sym q) (h x refl)))
+    (λ (q : y ≡ x → ⊥). subst (NoWider (known y)) (sym (cond-false (nat_eq y x) (range_of (cut how s t)) (given y) (ne_eqb y x q))) (u y))
+    (cases_eq y x)
+side_under known given (Unary op a) how s t u h = u
+side_under known given (Binary op a b) how s t u h = u
+
+pub sides_under : (known given : ℕ → Range) (a b : NExprTree) (how : Standing) (p q : Option Span) (s t : Span) → p ≡ Some s → q ≡ Some t → IsUnder known given → ((x : ℕ) → a ≡ Read x → NoWider (known x) (range_of (cut how s t))) → ((x : ℕ) → b ≡ Read x → NoWider (known x) (range_of (cut (turned how) t s))) → IsUnder known (cut_sides given a b (Some how) p q)
+sides_under known given a b how p q s t e f u left right =
+    let both : IsUnder known (cut_sides given a b (Some how) (Some s) (Some t)) = side_under known (cut_side given a how (Some s) (Some t)) b (turned how) t s (side_under known given a how s t u left) right in
+    subst (λ (o : Option Span). IsUnder known (cut_sides given a b (Some how) o q)) (sym e)
+    (subst (λ (o : Option Span). IsUnder known (cut_sides given a b (Some how) (Some s) o)) (sym f) both)
+
+-- the plain rule leaves something of what it is defined for
+some_left : (P : Span → Type 0) (o : Option Span) → IsSomeAnd o P → (s : Span) × (o ≡ Some s)
+some_left P None h = absurd h
+some_left P (Some s) h = (s, refl)
+
+pub left_plain : (given : ℕ → Range) (e : NExprTree) → IsPlain given e → (s : Span) × (plain given e ≡ Some s)
+left_plain given (Const n) h = some_left FitsSpan (plain given (Const n)) h
+left_plain given (Read x) h = some_left FitsSpan (plain given (Read x)) h
+left_plain given (Unary op a) h = some_left FitsSpan (plain given (Unary op a)) h.0
+left_plain given (Binary op a b) h = some_left FitsSpan (plain given (Binary op a b)) h.0
+
+-- another operator of one operand cuts nothing
+pub tested_other : (given : ℕ → Range) (op : NOp) (a : NExprTree) (wanted : Bool) → (op ≡ Not → ⊥) → tested given (Unary op a) wanted ≡ given
+tested_other given Not a wanted h = absurd (h refl)
+tested_other given op a wanted h = refl

@@ -1,0 +1,5 @@
+pub mod Changing
+pub mod Weights
+pub mod Merging
+pub mod Cutting
+pub mod RangeCuts

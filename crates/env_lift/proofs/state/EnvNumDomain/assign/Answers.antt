@@ -1,0 +1,27 @@
+use Rattle.std.proofs.Common.{sym, subst, List, Some}
+use Rattle.num_api.specs.declared.message.Range.{Range}
+use Rattle.num_api.specs.Exprs.{nexpr_tree}
+use Rattle.num_api.specs.Ranges.{IsPoint, IsUnder}
+use Rattle.num_api.specs.Spans.{range_of}
+use Rattle.var_map.specs.declared.entries.Entry.{Entry}
+use Rattle.env_eval.specs.States.{known_in}
+use Rattle.env_eval.specs.Evaluation.{IsValue}
+use Rattle.env_eval.proofs.Parts.{wider, still_point}
+use Rattle.env_lift.specs.Laws.{first_flag}
+use Rattle.env_lift.proofs.Changing.{known_here, changed_under}
+use Rattle.env_lift.proofs.state.EnvNumDomain.assign.Goals as goal
+
+pub returns-clause-sharp_here : goal.returns-clause-sharp_here
+returns-clause-sharp_here g c = λ v n claimed p asked s f e.
+    let D = g.V.ValueDomain in let x = first_flag D.exact D.folds claimed in let r = c.met-value.result in
+    let value = subst (λ (state : List (Entry g.row.V.Denot)). IsValue D.admits D.known D.class D.exact D.folds state (nexpr_tree c.args.e.now) c.in-Some.value) c.self.view_is c.in-Some.ensures.some in
+    let point = still_point (D.known r) (D.known c.in-Some.value) n (D.known_some r x) (c.met-value.ensures.plain x) (value.point v n x p s f e) in
+    subst (λ (k : Range). IsPoint k n) (sym (known_here D.known c.args.x.0 (Some r) c.self.inside.state c.set.new.self c.in_ok-set.ensures.ok)) point
+
+pub returns-clause-plain : goal.returns-clause-plain
+returns-clause-plain g c = λ given s claimed u p d e.
+    let D = g.V.ValueDomain in let x = first_flag D.exact D.folds claimed in let r = c.met-value.result in
+    let value = subst (λ (state : List (Entry g.row.V.Denot)). IsValue D.admits D.known D.class D.exact D.folds state (nexpr_tree c.args.e.now) c.in-Some.value) c.self.view_is c.in-Some.ensures.some in
+    let before = subst (λ (state : List (Entry g.row.V.Denot)). IsUnder (known_in D.known state) given) (sym c.self.view_is) u in
+    changed_under D.known c.args.x.0 (Some r) c.self.inside.state c.set.new.self given (range_of s) c.in_ok-set.ensures.ok before
+    (wider (D.known r) (D.known c.in-Some.value) (range_of s) (c.met-value.ensures.plain x) (value.plain given s x u p e))

@@ -1,0 +1,115 @@
+// Changes of one variable's value.
+#![tactic(auto, using(num_api::proofs::Trees::nexpr_trees))]
+
+ghost use Rattle.std.specs.Prelude.{◌≡◌, ℤ, IsTrue, IfSome, IfNone, IfOk, Some};
+ghost use Rattle.ext_int.specs.Valuation.{value_at};
+ghost use Rattle.num_api.specs.Exprs.{nexpr_tree};
+ghost use Rattle.num_api.specs.Value.{value_of};
+ghost use Rattle.num_api.specs.Messages.{Holds};
+ghost use Rattle.num_api.specs.Ranges.{InRange, NoWider};
+ghost use Rattle.num_api.specs.Residues.{InResidue};
+ghost use Rattle.num_api.specs.declared.message.Range.{Range};
+ghost use Rattle.num_api.specs.declared.message.Message.TheVariants.{Between};
+ghost use Rattle.num_api.specs.declared.expr.Var.{Var as Variable};
+ghost use Rattle.num_api.specs.Lives.{is_live};
+ghost use Rattle.env_eval.specs.States.{known_of, known_in};
+ghost use Rattle.env_lift.specs.Changes.{MayAdmit, IsCut};
+
+use env_eval::eval;
+use num_api::{Live, Message, NExpr, NOp, Range, Residue, ValueDomain, Var};
+use std::alloc::AllocError as NoMemory;
+use var_map::VarMap;
+
+// What is left of a variable's value where it lies in another one too; `None` only where nothing is.
+fn left_of<V: ValueDomain>(old: Option<V>, told: &V) -> Option<V>
+    ensures some { IfSome result (λ r. (n : ℤ) → MayAdmit V.admits old n → V.admits told.now n → V.admits r n) }
+    ensures none { IfNone result ((n : ℤ) → MayAdmit V.admits old n → V.admits told.now n → ⊥) }
+    ensures under_old { IfSome result (λ r. IsTrue V.exact → NoWider (V.known r) (known_of V.known old)) }
+    ensures under_told { IfSome result (λ r. IsTrue V.exact → NoWider (V.known r) (V.known told.now)) }
+{
+    match old {
+        Some(value) => value.meet(told),
+        None => Some(*told),
+    }
+}
+
+// Keeps the valuations in which the variable lies in the value; a Dead answer leaves the state as it was.
+pub fn narrow<V: ValueDomain>(state: &mut VarMap<V>, x: Var, told: &V) -> Result<Live, NoMemory>
+    ensures cut { IfOk result (IsCut V.admits V.known V.exact state.old state.new (λ v. V.admits told.now (value_at v x.0))) }
+    ensures told { IfOk result (λ live. IsTrue V.exact → IsTrue (is_live live) → NoWider (known_in V.known state.new x.0) (V.known told.now)) }
+{
+    let Some(value) = left_of(state.get(x), told) else {
+        return Ok(Live::Dead);
+    };
+    state.set(x, value)?;
+    Ok(Live::Live)
+}
+
+// The value, met with a range that holds its number too; the value where the two share none.
+pub fn met<V: ValueDomain>(value: V, r: Range) -> V
+    ensures holds { (n : ℤ) → V.admits value n → InRange r n → V.admits result n }
+    ensures plain { IsTrue V.exact → NoWider (V.known result) (V.known value) }
+{
+    match part(&value, r) {
+        Some(both) => both,
+        None => value,
+    }
+}
+
+// The numbers of the value that lie in the range; `None` only where there is none.
+pub fn part<V: ValueDomain>(value: &V, r: Range) -> Option<V>
+    ensures some { IfSome result (λ p. (n : ℤ) → V.admits value.now n → InRange r n → V.admits p n) }
+    ensures none { IfNone result ((n : ℤ) → V.admits value.now n → InRange r n → ⊥) }
+    ensures plain { IfSome result (λ p. IsTrue V.exact → NoWider (V.known p) (V.known value.now) × NoWider (V.known p) r) }
+{
+    let within = V::within(r)?;
+    value.meet(&within)
+}
+
+// A value that admits the numbers of the class: its remainder, and any product by its modulus.
+fn of_class<V: ValueDomain>(c: Residue) -> V
+    ensures { (n : ℤ) → InResidue c n → V.admits result n }
+{
+    let Some(rem) = V::within(Range::point(c.rem)) else {
+        return V::top();
+    };
+    let Some(modulus) = V::within(Range::point(c.modulus)) else {
+        return V::top();
+    };
+    let multiples = V::binary(NOp::Mul, &V::top(), &modulus);
+    V::binary(NOp::Add, &rem, &multiples)
+}
+
+// Keeps the valuations in which the variable lies in the range.
+fn keep_between<V: ValueDomain>(state: &mut VarMap<V>, x: Var, r: Range) -> Result<Live, NoMemory>
+    ensures cut { IfOk result (IsCut V.admits V.known V.exact state.old state.new (λ v. InRange r (value_at v x.0))) }
+    ensures between { IfOk result (λ live. IsTrue V.exact → IsTrue (is_live live) → NoWider (known_in V.known state.new x.0) r) }
+{
+    match V::within(r) {
+        Some(told) => narrow(state, x, &told),
+        None => Ok(Live::Dead),
+    }
+}
+
+// Keeps the valuations in which the variable has the expression's value.
+fn keep_equal<V: ValueDomain>(state: &mut VarMap<V>, x: Var, e: &NExpr) -> Result<Live, NoMemory>
+    ensures { IfOk result (IsCut V.admits V.known V.exact state.old state.new (λ v. value_of v (nexpr_tree e.now) ≡ Some (value_at v x.0))) }
+{
+    match eval(state, e) {
+        Some(told) => narrow(state, x, &told),
+        None => Ok(Live::Dead),
+    }
+}
+
+// Keeps the valuations in which the message holds.
+pub fn accepted<V: ValueDomain>(state: &mut VarMap<V>, m: &Message) -> Result<Live, NoMemory>
+    ensures cut { IfOk result (IsCut V.admits V.known V.exact state.old state.new (λ v. Holds v m.now)) }
+    ensures between { IfOk result (λ live. (x : Variable) (r : Range) → IsTrue V.exact → m.now ≡ Between x r → IsTrue (is_live live) → NoWider (known_in V.known state.new x.0) r) }
+{
+    match m {
+        Message::Between(x, r) => keep_between(state, *x, *r),
+        Message::Class(x, c) => narrow(state, *x, &of_class::<V>(*c)),
+        Message::Equal(x, e) => keep_equal(state, *x, e),
+        Message::AtMost { .. } => Ok(Live::Live),
+    }
+}
