@@ -5,10 +5,13 @@ use Rattle.c_syntax.specs.Types.{CTypeTree}
 use Rattle.c_syntax.specs.Program.{StructDefTree}
 use Rattle.c_written.specs.WrittenFile.{OuterTree}
 use Rattle.c_typing.specs.World.{World, Typed}
+use Rattle.std.proofs.lemmas.List.Elements.{All-nil}
+use Rattle.c_typing.specs.Formed.{IsFormedMeaning, IsFormedTag}
 use Rattle.c_typing.specs.Context.{Context}
 use Rattle.c_typing.specs.File.{TypesOuters, nothing_yet}
 use Rattle.c_typing.specs.Decls.{sized_object}
-use Rattle.c_typing.specs.Laws.{has_members, IsSameFunction, IsSameObject, IsSameStruct, TypingAdds, StructsAreLaidOut}
+use Rattle.c_typing.specs.Later.{has_members}
+use Rattle.c_typing.specs.Laws.{IsSameFunction, IsSameObject, IsSameStruct, TypingAdds, StructsAreLaidOut}
 use Rattle.c_typing.proofs.MadeTables.{made_nothing, founded}
 use Rattle.c_typing.proofs.Good.{Good, Frame, complete_shut}
 use Rattle.c_typing.proofs.Reaches.{Reaches, kept, Goes, typed, stays, after, named, literal, struct, new_struct, enumeration, tag_changed, body, opens, scoped, object, counted, sized, initial, linked, defined, retyped, parameters, function, function_changed, labelled, cased, in_body}
@@ -108,12 +111,12 @@ in_scope w x u v a b c d e f k = continued_then w x v (all_same w x a b c) (cont
 continued : (w v : World) → Reaches w v → Continued w v
 continued w v (stays _) = all_same w w refl refl refl
 continued w v (after _ u _ r s) = continued_then w u v (continued w u r) (continued u v s)
-continued w v (named _ at name meaning) = all_same w _ refl refl refl
+continued w v (named _ at name meaning f) = all_same w _ refl refl refl
 continued w v (literal _ at bytes) = same_functions w _ refl refl (keep_append objects_order w.objects _)
 continued w v (struct _ tag) = all_same w _ refl refl refl
 continued w v (new_struct _ tag d) = all_same w _ refl refl refl
 continued w v (enumeration _ tag d) = all_same w _ refl refl refl
-continued w v (tag_changed _ tag at meaning) = all_same w _ refl refl refl
+continued w v (tag_changed _ tag at meaning f) = all_same w _ refl refl refl
 continued w v (body _ u x n members r begun s are) = continued_then w u _ (continued w u r) (continued_then u x _ (continued u x s) (all_same x _ refl refl refl))
 continued w v (opens _) = all_same w _ refl refl refl
 continued w v (scoped _ u r) = in_scope w _ u _ refl refl refl refl refl refl (continued _ u r)
@@ -122,7 +125,7 @@ continued w v (counted _ size) = all_same w _ refl refl refl
 continued w v (sized _ n ty size) =
     same_functions w _ refl refl (keep_change objects_order w.objects n (sized_object ty size) (λ x. record { name = refl; pos = refl; read_only = refl; is_static = refl }) _ refl)
 continued w v (initial _ n bytes) = all_same w _ refl refl refl
-continued w v (linked _ name meaning d) = all_same w _ refl refl refl
+continued w v (linked _ name meaning d f) = all_same w _ refl refl refl
 continued w v (defined _ name now) = all_same w _ refl refl refl
 continued w v (retyped _ list) = all_same w _ refl refl refl
 continued w v (parameters _ params) = same_functions w _ refl refl (keep_append objects_order w.objects _)
@@ -130,7 +133,7 @@ continued w v (function _ types f) = same_objects w _ refl (keep_append function
 continued w v (function_changed _ n change f) = same_objects w _ refl (keep_change functions_order w.functions n change f _ refl) (keep_all signatures_order w.signatures)
 continued w v (labelled _ labels) = all_same w _ refl refl refl
 continued w v (cased _ cases default) = all_same w _ refl refl refl
-continued w v (in_body _ u x first names tags r aside s) = continued_then w u _ (continued w u r) (in_scope u _ x _ refl refl refl refl refl refl (continued _ x s))
+continued w v (in_body _ u x first names tags r aside f s) = continued_then w u _ (continued w u r) (in_scope u _ x _ refl refl refl refl refl refl (continued _ x s))
 
 is_some_and : {A : Type 0} {R : A → A → Type 0} (x : A) (ys : List A) (k : ℕ) → At R x ys k → IsSomeAnd (slice_get ys k) (R x)
 is_some_and {R = R} x ys k a = subst (λ o. IsSomeAnd o (R x)) (sym a.there) a.related
@@ -141,7 +144,7 @@ reached (typed r) = r
 -- ---- structs
 
 pub nothing_good : Good nothing_yet
-nothing_good = record { incomplete = λ n p. absurd p; distinct = tt; made = made_nothing }
+nothing_good = record { incomplete = λ n p. absurd p; distinct = tt; made = made_nothing; formed = record { names = All-nil (λ b. IsFormedMeaning [] b.meaning); tags = All-nil (λ b. IsFormedTag [] b.meaning) } }
 
 -- a world that declarations reach is good
 pub good_after : (w : World) (around : Context) (list : List OuterTree) → TypesOuters nothing_yet around list (Typed tt w) → Good w

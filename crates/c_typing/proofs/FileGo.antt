@@ -1,6 +1,6 @@
 -- Statements, functions and files only make the changes of Reaches.
 use Rattle.std.proofs.Common.{sym, subst, refl}
-use Rattle.std.specs.Prelude.{ℕ, ℤ, Bool, true, false, if◌then◌else◌, Option, Some, None, List, [], ◌∷◌, length, ⊤}
+use Rattle.std.specs.Prelude.{ℕ, ℤ, Bool, true, false, if◌then◌else◌, Option, Some, None, List, [], ◌∷◌, length, map, All, ⊤}
 use Rattle.c_written.specs.declared.place.Pos.{Pos}
 use Rattle.c_written.specs.declared.int_type.IntType.{IntType}
 use Rattle.c_written.specs.declared.written.StorageWord.{StorageWord}
@@ -25,10 +25,13 @@ use Rattle.c_typing.specs.Stmts.{TypesStmt, without_cases}
 use Rattle.c_typing.specs.File as whole
 use Rattle.c_typing.specs.File.{Begun, TypesOuter, TypesOuters}
 use Rattle.c_typing.proofs.Reaches as reaches
-use Rattle.c_typing.proofs.Good.{Good, IsAside, good_in, aside_kept}
-use Rattle.c_typing.proofs.Reaches.{Reaches, Kept, kept, Goes, typed, refused, goes_same, goes_if, goes_unless, goes_after, AllGo, then_goes, scope_goes, is_goes, enters, GoesWith, typed_so, AllWith}
+use Rattle.std.proofs.lemmas.List.Elements.{All-weaker}
+use Rattle.c_typing.specs.Formed.{IsFormedMeaning}
+use Rattle.c_typing.proofs.Later.{meaning_later}
+use Rattle.c_typing.proofs.Good.{Good, IsAside, good_in, aside_kept, is_later}
+use Rattle.c_typing.proofs.Reaches.{Reaches, Kept, kept, Goes, typed, refused, goes_same, goes_if, goes_unless, goes_after, AllGo, then_goes, scope_goes, is_goes, enters, GoesWith, typed_so, AllWith, all_forget}
 use Rattle.c_typing.proofs.NodesGo.{within_limits, tested}
-use Rattle.c_typing.proofs.TypesGo.{unless_declared, laid, type_told, AreAside, ShapeIn, asides_kept, valued, go, go_specs, go_declarator}
+use Rattle.c_typing.proofs.TypesGo.{unless_declared, laid, type_told, none_yet, AreAside, ShapeIn, asides_kept, valued, go, go_specs, go_declarator}
 use Rattle.c_typing.proofs.DeclsGo.{function_declared, decl}
 
 -- ---- statements
@@ -162,7 +165,7 @@ mutual
 
 -- the head of a definition leaves the scope of its body, with the tags that its parameter list left aside; all from the world before its declarator
 pub data Heads (t : World) : Outcome Begun → Type 0 where
-  heads : (begun : Begun) (first : ℕ) (names : List Binding) (tags : List TagBinding) → Reaches t begun.outside → IsAside t begun.outside tags → Heads t (Typed begun (whole.in_body begun.outside first names tags))
+  heads : (begun : Begun) (first : ℕ) (names : List Binding) (tags : List TagBinding) → Reaches t begun.outside → IsAside t begun.outside tags → All (λ b. IsFormedMeaning begun.outside.structs b.meaning) names → Heads t (Typed begun (whole.in_body begun.outside first names tags))
   no_head : {r : _} → Heads t (Refused r)
 
 pub with_counted : (params : List ParameterTree) (w : World) → Goes w (whole.with_counted w params)
@@ -172,22 +175,29 @@ with_counted (param ∷ rest) w =
     within_limits param.pos _ w (goes_after (reaches.after _ _ _ (reaches.object w _) (reaches.counted _ _)) (with_counted rest _))
 
 -- a world behind the declarator, and the tags aside
-record Behind (t w : World) (tags : List TagBinding) : Type 0 where
+record Behind (t w : World) (bindings : List Binding) (tags : List TagBinding) : Type 0 where
   reached : Reaches t w
   aside : IsAside t w tags
+  names : All (λ b. IsFormedMeaning w.structs b.meaning) bindings
   good : Good w
 
-behind_then : {t w v : World} {tags : List TagBinding} → Behind t w tags → Reaches w v → Behind t v tags
-behind_then {t = t} {w = w} {v = v} {tags = tags} b r =
-    let k = kept w v r b.good in record { reached = reaches.after t w v b.reached r; aside = aside_kept t w v tags k.frame b.aside; good = k.good }
+behind_then : {t w v : World} {names : List Binding} {tags : List TagBinding} → Behind t w names tags → Reaches w v → Behind t v names tags
+behind_then {t = t} {w = w} {v = v} {names = names} {tags = tags} b r =
+    let k = kept w v r b.good in
+    let later = is_later w v b.good k.good k.frame in record {
+      reached = reaches.after t w v b.reached r;
+      aside = aside_kept t w v tags k.frame later b.aside;
+      names = All-weaker (λ x. IsFormedMeaning w.structs x.meaning) (λ x. IsFormedMeaning v.structs x.meaning) (λ x f. meaning_later w.structs v.structs later x.meaning f) names b.names;
+      good = k.good;
+    }
 
-body_begins : {t w : World} (n first : ℕ) (named : DeclaredName) (result : CTypeTree) (params : List ParameterTree) (names : List Binding) (tags : List TagBinding) (o : Outcome ⊤) → Behind t w tags → Goes w o → Heads t (whole.body_begins n first named result params names tags o)
+body_begins : {t w : World} (n first : ℕ) (named : DeclaredName) (result : CTypeTree) (params : List ParameterTree) (names : List Binding) (tags : List TagBinding) (o : Outcome ⊤) → Behind t w names tags → Goes w o → Heads t (whole.body_begins n first named result params names tags o)
 body_begins n first named result params names tags (Typed unit v) b (typed r) =
     let last = behind_then b (reaches.after _ _ _ r (reaches.function_changed v n _ (λ f. record { name = refl; result = refl }))) in
-    heads _ first names tags last.reached last.aside
+    heads _ first names tags last.reached last.aside last.names
 body_begins n first named result params names tags (Refused q) b p = no_head
 
-definition_begins : {t w : World} (named : DeclaredName) (result : CTypeTree) (params : List ParameterTree) (names : List Binding) (tags : List TagBinding) (o : Outcome (Option ℕ)) → Behind t w tags → Goes w o → Heads t (whole.definition_begins w named result params names tags o)
+definition_begins : {t w : World} (named : DeclaredName) (result : CTypeTree) (params : List ParameterTree) (names : List Binding) (tags : List TagBinding) (o : Outcome (Option ℕ)) → Behind t w names tags → Goes w o → Heads t (whole.definition_begins w named result params names tags o)
 definition_begins named result params names tags (Typed (Some n) v) b (typed r) =
     body_begins n (length v.objects) named result params names tags _ (behind_then b r) (with_counted params v)
 definition_begins named result params names tags (Typed None v) b p = no_head
@@ -201,7 +211,7 @@ definition_of t w around named (OpenArray ∷ rest) form good r a = no_head
 definition_of t w around named (FunctionOf params names tags ∷ rest) (Plain ty c) good r a = no_head
 definition_of t w around named (FunctionOf params names tags ∷ rest) (Unsized ty c) good r a = no_head
 definition_of t w around named (FunctionOf params names tags ∷ rest) (Callable types result) good r a =
-    definition_begins named result params names tags _ (record { reached = r; aside = a.0; good = good }) (function_declared w around named params types result true)
+    definition_begins named result params names tags _ (record { reached = r; aside = a.0.aside; names = a.0.formed; good = good }) (function_declared w around named params types result true)
 
 heads_if : {t : World} (b : Bool) {x y : Outcome Begun} → Heads t x → Heads t y → Heads t (if b then x else y)
 heads_if true p q = p
@@ -210,7 +220,7 @@ heads_if false p q = q
 definition_laid : (t w : World) (around : Context) (named : DeclaredName) (storage : List StorageWord) (steps : List Step) (o : Outcome Form) → Good w → Reaches t w → AreAside t w steps → Goes w o → Heads t (whole.definition_laid around named storage steps o)
 definition_laid t w around named storage steps (Typed form v) good r a (typed s) =
     let k = kept w v s good in
-    heads_if (is_word Typedef storage) no_head (definition_of t v around named steps form k.good (reaches.after t w v r s) (asides_kept t w v steps k.frame a))
+    heads_if (is_word Typedef storage) no_head (definition_of t v around named steps form k.good (reaches.after t w v r s) (asides_kept t w v steps k.frame (is_later w v good k.good k.frame) a))
 definition_laid t w around named storage steps (Refused q) good r a p = no_head
 
 pub definition : (t w : World) (around : Context) (first : Pos) (storage : List StorageWord) (steps : List Step) (base : Form) (name : Option DeclaredName) → Good w → Reaches t w → AreAside t w steps → Heads t (whole.definition_named w around first storage steps base name)
@@ -219,12 +229,13 @@ definition t w around first storage steps base (Some named) good r a = definitio
 
 -- the scope of the body
 pub in_scope_of : {t : World} {begun : Begun} {v : World} → Good t → Heads t (Typed begun v) → Good v
-in_scope_of {t = t} good (heads begun first names tags r aside) = good_in t begun.outside _ tags refl refl aside (kept t begun.outside r good).good
+in_scope_of {t = t} good (heads begun first names tags r aside f) =
+    good_in t begun.outside _ (map (whole.with_object_meaning first) names) tags refl refl refl (reaches.as_objects begun.outside.structs first names f) aside (kept t begun.outside r good).good
 
 -- from the head of a definition to its end
 pub ended : {t v u : World} {begun : Begun} (brace : Pos) (made : Made) → Heads t (Typed begun v) → Reaches v u → Reaches t (whole.definition_ends begun brace made u)
-ended {u = u} {begun = begun} brace made (heads _ first names tags r aside) s =
-    reaches.after _ _ _ (reaches.in_body _ begun.outside u first names tags r aside s) (reaches.function_changed _ begun.number _ (λ f. record { name = refl; result = refl }))
+ended {u = u} {begun = begun} brace made (heads _ first names tags r aside f) s =
+    reaches.after _ _ _ (reaches.in_body _ begun.outside u first names tags r aside f s) (reaches.function_changed _ begun.number _ (λ f. record { name = refl; result = refl }))
 
 -- a head, its body and what comes behind it
 head_goes :
@@ -252,7 +263,7 @@ definition_goes brace f g h good _ (stops p) = refused
 pub outer : (w : World) (around : Context) (tree : OuterTree) → AllGo w (TypesOuter w around tree)
 outer w around (files.Declared d) = then_goes (decl w around d) (λ made v r. is_goes goes_same)
 outer w around (files.Function at specs declarator brace body) =
-    then_goes (go_specs w _ _ specs) (λ s v r.
+    then_goes (all_forget (go_specs w _ _ specs (none_yet w))) (λ s v r.
     then_goes (is_goes (type_told specifiers.OfDeclaration (typing.first_of at specs) s v)) (λ base v2 r2.
     definition_goes brace (go_declarator v2 declarator)
     (λ shape v3 good r3 a. definition v2 v3 around (typing.first_of at specs) s.storage shape.steps base shape.name good r3 a)

@@ -1,23 +1,32 @@
 -- Worlds whose structs are as typing makes them, and what later worlds keep of their structs and tags.
 use Rattle.std.proofs.Common.{◌≡◌, ℕ, ◌<◌, ◌≤◌, List, [], ◌∷◌, ◌++◌, length, take, drop, refl, ap, sym, subst, ◌∙◌, ⊎_elim, arith}
-use Rattle.std.specs.Prelude.{Option, None, Some, option_map, unwrap_or, IsTrue, set, slice_get}
+use Rattle.std.specs.Prelude.{Bool, true, false, if◌then◌else◌, All, map, bytes_eq, Option, None, Some, option_map, unwrap_or, IsTrue, set, slice_get}
 use Rattle.std.proofs.lemmas.Bool.{cases_eq, false≢true}
 use Rattle.std.proofs.lemmas.List.{length-set, length-append}
+use Rattle.std.proofs.lemmas.List.Elements.{All-push, All-append, All-take, All-drop, All-map, All-weaker}
 use Rattle.c_written.specs.declared.place.Pos.{Pos}
 use Rattle.c_written.specs.declared.written.Tag.{Tag}
 use Rattle.c_syntax.specs.Program.{MemberTree, StructDefTree}
-use Rattle.c_typing.specs.World.{World, TagBinding, TagMeaning, StructTag, OpenEnumTag}
-use Rattle.c_typing.specs.Names.{opened, closed, with_struct, with_tag, with_tag_become, with_members, struct_of, tag_of}
+use Rattle.c_typing.specs.World.{World, Binding, Meaning, TagBinding, TagMeaning, StructTag, OpenEnumTag}
+use Rattle.c_typing.specs.Names.{opened, closed, tag_become, with_name, with_struct, with_tag, with_tag_become, with_members, struct_of, tag_of}
 use Rattle.c_layout.specs.Layout.{struct_space, spaces_by, in_table}
-use Rattle.c_typing.specs.Laws.{has_members, is_complete}
+use Rattle.c_typing.specs.Later.{has_members, is_complete, IsLater}
+use Rattle.c_typing.specs.Formed.{IsFormedMeaning, IsFormedTag}
+use Rattle.c_typing.proofs.Later.{meaning_later, tag_later}
 use Rattle.c_typing.proofs.Opens.{Opens, IsOpen, AreDistinct, open_either, open_take, open_drop, open_apart, distinct_take, distinct_drop, distinct_append, open_before, distinct_before}
-use Rattle.c_typing.proofs.MadeTables.{IsMade, AreMade, IsIncomplete, get_append, get_last, get_set, get_other, complete_below, Keeps, made_with, made_complete}
+use Rattle.c_typing.proofs.MadeTables.{IsMade, keeps_made, with_made, AreMade, IsIncomplete, get_append, get_last, get_set, get_other, complete_below, Keeps, made_with, made_complete}
+
+-- what names and tags stand for is formed
+pub record AreFormed (structs : List StructDefTree) (bindings : List Binding) (tag_bindings : List TagBinding) : Type 0 where
+  pub names : All (λ b. IsFormedMeaning structs b.meaning) bindings
+  pub tags : All (λ b. IsFormedTag structs b.meaning) tag_bindings
 
 -- each struct that a tag declares and does not define has no members yet, and complete structs are as typing makes them
 pub record Good (w : World) : Type 0 where
   pub incomplete : (n : ℕ) → IsOpen n w.tags → IsIncomplete w.structs n
   pub distinct : AreDistinct w.tags
   pub made : IsMade w.structs
+  pub formed : AreFormed w.structs w.names w.tags
 
 -- what a later world keeps: a struct that no tag leaves to be defined stays as it is
 pub record Frame (w v : World) : Type 0 where
@@ -55,13 +64,35 @@ complete_there a n c = at (slice_get a n) refl c
 pub frame_keeps : (w v : World) → Good w → Frame w v → Keeps w.structs v.structs
 frame_keeps w v good f n c = let at = complete_there w.structs n c in f.same n at.0 at.1 (complete_shut w good n c) ∙ sym at.1
 
+pub formed_grown : (a b : List StructDefTree) (names : List Binding) (tags : List TagBinding) → IsLater a b → AreFormed a names tags → AreFormed b names tags
+formed_grown a b names tags later formed = record {
+  names = All-weaker (λ x. IsFormedMeaning a x.meaning) (λ x. IsFormedMeaning b x.meaning) (λ x f. meaning_later a b later x.meaning f) names formed.names;
+  tags = All-weaker (λ x. IsFormedTag a x.meaning) (λ x. IsFormedTag b x.meaning) (λ x f. tag_later a b later x.meaning f) tags formed.tags;
+}
+
+-- tables that typing makes, of which one keeps the complete structs of the other
+pub later_made : (a b : List StructDefTree) → IsMade a → IsMade b → length a ≤ length b → Keeps a b → IsLater a b
+later_made a b made after longer keeps = record { laid_out = made.laid_out; still = after.laid_out; longer = longer; same = keeps }
+
+pub is_later : (w v : World) → Good w → Good v → Frame w v → IsLater w.structs v.structs
+is_later w v good after f = later_made w.structs v.structs good.made after.made f.longer (frame_keeps w v good f)
+
 -- ---- changes of other parts of a world
 
-pub good_same : (w v : World) → v.structs ≡ w.structs → v.tags ≡ w.tags → Good w → Good v
-good_same w v s t good = record {
+pub good_same : (w v : World) → v.structs ≡ w.structs → v.tags ≡ w.tags → v.names ≡ w.names → Good w → Good v
+good_same w v s t n good = record {
   incomplete = λ n p. subst (λ a. IsIncomplete a n) (sym s) (good.incomplete n (subst (λ tags. IsOpen n tags) t p));
   distinct = subst AreDistinct (sym t) good.distinct;
   made = subst IsMade (sym s) good.made;
+  formed = subst (λ a. AreFormed a v.names v.tags) (sym s) (subst (λ names. AreFormed w.structs names v.tags) (sym n) (subst (λ tags. AreFormed w.structs w.names tags) (sym t) good.formed));
+}
+
+pub good_named : (w : World) (at : Pos) (name : List ℕ) (m : Meaning) → IsFormedMeaning w.structs m → Good w → Good (with_name w at name m)
+good_named w at name m f good = record {
+  incomplete = good.incomplete;
+  distinct = good.distinct;
+  made = good.made;
+  formed = record { names = All-push (λ b. IsFormedMeaning w.structs b.meaning) w.names _ good.formed.names f; tags = good.formed.tags };
 }
 
 pub frame_same : (w v : World) → v.structs ≡ w.structs → v.tags ≡ w.tags → Frame w v
@@ -74,11 +105,17 @@ frame_same w v s t = record {
 
 -- ---- structs and tags
 
+later_with : (w : World) (tag : List ℕ) → Good w → IsLater w.structs (with_struct w tag).structs
+later_with w tag good =
+    later_made w.structs _ good.made (made_with w.structs tag good.made) (rw length-append (omega arith))
+    (λ n c. let at = complete_there w.structs n c in get_append w.structs _ n at.0 at.1 ∙ sym at.1)
+
 pub good_struct : (w : World) (tag : List ℕ) → Good w → Good (with_struct w tag)
 good_struct w tag good = record {
   incomplete = λ n p. let bare = good.incomplete n p in record { def = bare.def; there = get_append w.structs _ n bare.def bare.there; empty = bare.empty };
   distinct = good.distinct;
   made = made_with w.structs tag good.made;
+  formed = formed_grown w.structs _ w.names w.tags (later_with w tag good) good.formed;
 }
 
 pub frame_struct : (w : World) (tag : List ℕ) → Frame w (with_struct w tag)
@@ -107,6 +144,9 @@ good_new w tag defined good = record {
   distinct = distinct_append w.tags _ good.distinct ((λ n a p. p), tt)
       (λ n p q. ⊎_elim (λ a. apart n p (new_is (length w.structs) n _ refl a)) (λ none. none) q);
   made = made_with w.structs tag.name good.made;
+  formed =
+      let grown = formed_grown w.structs _ w.names w.tags (later_with w tag.name good) good.formed in
+      record { names = grown.names; tags = All-push (λ b. IsFormedTag (with_struct w tag.name).structs b.meaning) w.tags _ grown.tags (rw length-append (omega arith)) };
 }
   where
     apart : (n : ℕ) → IsOpen n w.tags → length w.structs ≡ n → ⊥
@@ -128,6 +168,7 @@ good_enum w tag defined good = record {
   incomplete = λ n p. ⊎_elim (λ l. good.incomplete n l) (λ r. ⊎_elim (λ a. absurd (no_struct n _ refl a)) (λ none. absurd none) r) (open_either n w.tags _ p);
   distinct = distinct_append w.tags _ good.distinct ((λ n a p. p), tt) (λ n p q. ⊎_elim (λ a. no_struct n _ refl a) (λ none. none) q);
   made = good.made;
+  formed = record { names = good.formed.names; tags = All-push (λ b. IsFormedTag w.structs b.meaning) w.tags _ good.formed.tags tt };
 }
 
 pub frame_enum : (w : World) (tag : Tag) (defined : Option Pos) → Frame w (with_tag w tag defined OpenEnumTag)
@@ -143,13 +184,31 @@ open_changed n w tag at m p =
     ⊎_elim (λ l. open_take n w.first_tag w.tags l) (λ r. open_drop n w.first_tag w.tags (open_before n at m tag (drop w.first_tag w.tags) r))
     (open_either n (take w.first_tag w.tags) _ p)
 
-pub good_changed : (w : World) (tag : List ℕ) (at : Pos) (m : TagMeaning) → Good w → Good (with_tag_become w tag (Some at) m)
-good_changed w tag at m good = record {
+formed_become :
+    (structs : List StructDefTree) (at : Pos) (m : TagMeaning) (b : TagBinding) (here : Bool) → IsFormedTag structs m → IsFormedTag structs b.meaning
+    → IsFormedTag structs (if here then record b { defined = Some at; meaning = m } else b).meaning
+formed_become structs at m b true f g = f
+formed_become structs at m b false f g = g
+
+tags_become :
+    (structs : List StructDefTree) (at : Pos) (m : TagMeaning) (tag : List ℕ) (tags : List TagBinding) → IsFormedTag structs m → All (λ b. IsFormedTag structs b.meaning) tags
+    → All (λ b. IsFormedTag structs b.meaning) (map (tag_become (Some at) m tag) tags)
+tags_become structs at m tag tags f all =
+    All-map (λ b. IsFormedTag structs b.meaning) (tag_become (Some at) m tag) tags
+    (All-weaker (λ b. IsFormedTag structs b.meaning) (λ b. IsFormedTag structs (tag_become (Some at) m tag b).meaning) (λ b g. formed_become structs at m b (bytes_eq b.tag tag) f g) tags all)
+
+pub good_changed : (w : World) (tag : List ℕ) (at : Pos) (m : TagMeaning) → IsFormedTag w.structs m → Good w → Good (with_tag_become w tag (Some at) m)
+good_changed w tag at m f good = record {
   incomplete = λ n p. good.incomplete n (open_changed n w tag at m p);
   distinct = distinct_append (take w.first_tag w.tags) _ (distinct_take w.first_tag w.tags good.distinct)
       (distinct_before at m tag (drop w.first_tag w.tags) (distinct_drop w.first_tag w.tags good.distinct))
       (λ n p q. open_apart n w.first_tag w.tags good.distinct p (open_before n at m tag (drop w.first_tag w.tags) q));
   made = good.made;
+  formed = record {
+    names = good.formed.names;
+    tags = All-append (λ b. IsFormedTag w.structs b.meaning) (take w.first_tag w.tags) _ (All-take (λ b. IsFormedTag w.structs b.meaning) w.first_tag w.tags good.formed.tags)
+        (tags_become w.structs at m tag (drop w.first_tag w.tags) f (All-drop (λ b. IsFormedTag w.structs b.meaning) w.first_tag w.tags good.formed.tags));
+  };
 }
 
 pub frame_changed : (w : World) (tag : List ℕ) (at : Pos) (m : TagMeaning) → Frame w (with_tag_become w tag (Some at) m)
@@ -167,6 +226,10 @@ good_closed u v good = record {
   incomplete = λ n p. good.incomplete n (open_take n (length u.tags) v.tags p);
   distinct = distinct_take (length u.tags) v.tags good.distinct;
   made = good.made;
+  formed = record {
+    names = All-take (λ b. IsFormedMeaning v.structs b.meaning) (length u.names) v.names good.formed.names;
+    tags = All-take (λ b. IsFormedTag v.structs b.meaning) (length u.tags) v.tags good.formed.tags;
+  };
 }
 
 pub frame_closed : (u v : World) → Frame (opened u) v → Frame u (closed u v)
@@ -193,9 +256,17 @@ good_body u w v n members begun f after are = record {
     empty = bare.empty;
   };
   distinct = after.distinct;
-  made = made_complete v.structs n (tag_of v.structs n) members after.made (incomplete_kept w v f n begun.incomplete begun.shut) are;
+  made = complete;
+  formed = formed_grown v.structs _ v.names v.tags
+      (later_made v.structs _ after.made complete (rw length-set (omega arith)) (keeps_made v.structs n (tag_of v.structs n) members bare_now)) after.formed;
 }
   where
+    bare_now : IsIncomplete v.structs n
+    bare_now = incomplete_kept w v f n begun.incomplete begun.shut
+
+    complete : IsMade (with_made v.structs n (tag_of v.structs n) members)
+    complete = made_complete v.structs n (tag_of v.structs n) members after.made bare_now are
+
     shut : IsOpen n v.tags → ⊥
     shut = f.shut n (complete_below w.structs n begun.incomplete.def begun.incomplete.there) begun.shut
 
@@ -224,25 +295,33 @@ pub record IsAside (t u : World) (tags : List TagBinding) : Type 0 where
   pub incomplete : (n : ℕ) → IsOpen n tags → IsIncomplete u.structs n
   pub apart : (n : ℕ) → IsOpen n tags → IsOpen n u.tags → ⊥
   pub distinct : AreDistinct tags
+  pub formed : All (λ b. IsFormedTag u.structs b.meaning) tags
   pub from : (n : ℕ) → IsOpen n tags → n < length t.structs → (IsOpen n t.tags → ⊥) → ⊥
 
-pub aside_kept : (t u v : World) (tags : List TagBinding) → Frame u v → IsAside t u tags → IsAside t v tags
-aside_kept t u v tags f aside = record {
+pub aside_kept : (t u v : World) (tags : List TagBinding) → Frame u v → IsLater u.structs v.structs → IsAside t u tags → IsAside t v tags
+aside_kept t u v tags f later aside = record {
   incomplete = λ n p. incomplete_kept u v f n (aside.incomplete n p) (aside.apart n p);
   apart = λ n p. let bare = aside.incomplete n p in f.shut n (complete_below u.structs n bare.def bare.there) (aside.apart n p);
   distinct = aside.distinct;
+  formed = All-weaker (λ b. IsFormedTag u.structs b.meaning) (λ b. IsFormedTag v.structs b.meaning) (λ b g. tag_later u.structs v.structs later b.meaning g) tags aside.formed;
   from = aside.from;
 }
 
 -- the body's scope, with them
-pub good_in : (t u v : World) (tags : List TagBinding) → v.structs ≡ u.structs → v.tags ≡ u.tags ++ tags → IsAside t u tags → Good u → Good v
-good_in t u v tags s e aside good = record {
+pub good_in :
+    (t u v : World) (names : List Binding) (tags : List TagBinding) → v.structs ≡ u.structs → v.tags ≡ u.tags ++ tags → v.names ≡ u.names ++ names
+    → All (λ b. IsFormedMeaning u.structs b.meaning) names → IsAside t u tags → Good u → Good v
+good_in t u v names tags s e m formed aside good = record {
   incomplete = λ n p. subst (λ a. IsIncomplete a n) (sym s) (⊎_elim (λ l. good.incomplete n l) (λ r. aside.incomplete n r) (open_either n u.tags tags (subst (λ x. IsOpen n x) e p)));
   distinct = subst AreDistinct (sym e) (distinct_append u.tags tags good.distinct aside.distinct (λ n p q. aside.apart n q p));
   made = subst IsMade (sym s) good.made;
+  formed = subst (λ a. AreFormed a v.names v.tags) (sym s) (subst (λ x. AreFormed u.structs x v.tags) (sym m) (subst (λ x. AreFormed u.structs (u.names ++ names) x) (sym e) (record {
+    names = All-append (λ b. IsFormedMeaning u.structs b.meaning) u.names names good.formed.names formed;
+    tags = All-append (λ b. IsFormedTag u.structs b.meaning) u.tags tags good.formed.tags aside.formed;
+  })));
 }
 
--- what was not bare before the parameter list is not bare in the body
+-- what was not open before the parameter list is not open in the body
 pub frame_in : (t u v : World) (tags : List TagBinding) → v.structs ≡ u.structs → v.tags ≡ u.tags ++ tags → IsAside t u tags → Frame t u → Frame t v
 frame_in t u v tags s e aside f = record {
   longer = subst (λ a. length t.structs ≤ length a) (sym s) f.longer;

@@ -2,9 +2,11 @@ pub mod One
 pub mod Opens
 pub mod MadeTables
 pub mod MadeMembers
+pub mod Later
 pub mod Good
 pub mod Reaches
 pub mod NodesGo
+pub mod FormsGo
 pub mod TypesGo
 pub mod DeclsGo
 pub mod FileGo

@@ -11,7 +11,7 @@ use Rattle.c_layout.specs.declared.layout.Sized.TheVariants.{Fits, Oversize}
 use Rattle.c_layout.specs.ProperTypes.{IsTold}
 use Rattle.c_layout.specs.Layout.{sized, Space, space_by, spaces_by, struct_space, members_of, in_table, laid_out, size_in, align_in, padded, members_end, offset_at}
 use Rattle.c_typing.specs.Operands.{told_size, is_unsized, complete_size}
-use Rattle.c_typing.specs.Laws.{has_members}
+use Rattle.c_typing.specs.Later.{has_members}
 use Rattle.c_typing.proofs.MadeTables.{IsHeldComplete, IsMade, AreMade, get_last, space_held, any_held}
 
 pub nothing_made : (structs : List StructDefTree) → AreMade structs []

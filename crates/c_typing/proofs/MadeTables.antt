@@ -10,7 +10,7 @@ use Rattle.c_layout.specs.LaidOut.{IsLaidOut}
 use Rattle.c_layout.specs.Heights.{held, Falls, NoneHoldsItself}
 use Rattle.c_layout.proofs.Unfolding.{some_map}
 use Rattle.c_typing.specs.Names.{struct_of}
-use Rattle.c_typing.specs.Laws.{has_members, is_complete}
+use Rattle.c_typing.specs.Later.{has_members, is_complete}
 
 -- the struct that an object of the type is, or has as its elements, is complete
 abbrev pub IsHeldComplete : List StructDefTree → CTypeTree → Type 0

@@ -1,11 +1,13 @@
 -- How a world goes on: each change that typing makes, and what parts of the text it makes it for.
 use Rattle.std.proofs.Common.{◌≡◌, refl, sym, subst}
-use Rattle.std.specs.Prelude.{ℕ, Bool, true, false, if◌then◌else◌, Option, None, Some, List, []}
+use Rattle.std.specs.Prelude.{ℕ, Bool, true, false, if◌then◌else◌, Option, None, Some, List, [], map, All}
 use Rattle.c_written.specs.declared.place.Pos.{Pos}
 use Rattle.c_written.specs.declared.written.Tag.{Tag}
 use Rattle.c_syntax.specs.Types.{CTypeTree}
-use Rattle.c_syntax.specs.Program.{MemberTree}
-use Rattle.c_typing.specs.World.{World, Meaning, TagMeaning, OpenEnumTag, Outcome, Typed, Refused, Refusal, Then, goes_on, stops, Is, unless}
+use Rattle.std.proofs.lemmas.List.Elements.{All-map, All-weaker}
+use Rattle.c_syntax.specs.Program.{MemberTree, StructDefTree}
+use Rattle.c_typing.specs.World as world
+use Rattle.c_typing.specs.World.{World, Meaning, Object, Missing, Parameter, TypeName, Enumeration, TagMeaning, OpenEnumTag, Outcome, Typed, Refused, Refusal, Then, goes_on, stops, Is, unless}
 use Rattle.c_typing.specs.Names.{opened, closed, with_name, with_struct, with_tag, with_tag_become, with_members, with_literal, with_initial}
 use Rattle.c_syntax.specs.declared.program.InitByte.{InitByte}
 use Rattle.c_syntax.specs.Types.{ObjectTree}
@@ -15,19 +17,20 @@ use Rattle.c_typing.specs.Declarators.{DeclaredName, ParameterTree}
 use Rattle.c_typing.specs.Decls as decls
 use Rattle.c_typing.specs.File as files
 use Rattle.c_typing.specs.Laws.{IsSameFunction}
+use Rattle.c_typing.specs.Formed.{IsFormedMeaning, IsFormedTag}
 use Rattle.c_typing.proofs.MadeTables.{AreMade}
-use Rattle.c_typing.proofs.Good.{Good, Frame, IsBegun, IsAside, with_new, frame_then, frame_same, frame_struct, frame_new, frame_enum, frame_changed, frame_closed, frame_body, frame_in, frame_shut, good_same, good_struct, good_new, good_enum, good_changed, good_closed, good_body, good_in}
+use Rattle.c_typing.proofs.Good.{Good, Frame, IsBegun, IsAside, with_new, frame_then, frame_same, frame_struct, frame_new, frame_enum, frame_changed, frame_closed, frame_body, frame_in, frame_shut, good_same, good_named, good_struct, good_new, good_enum, good_changed, good_closed, good_body, good_in}
 
 -- one world is had from another by the changes that typing makes
 pub data Reaches : World → World → Type 0 where
   stays : (w : World) → Reaches w w
   after : (u v w : World) → Reaches u v → Reaches v w → Reaches u w
-  named : (w : World) (at : Pos) (name : List ℕ) (meaning : Meaning) → Reaches w (with_name w at name meaning)
+  named : (w : World) (at : Pos) (name : List ℕ) (meaning : Meaning) → IsFormedMeaning w.structs meaning → Reaches w (with_name w at name meaning)
   literal : (w : World) (at : Pos) (bytes : List ℕ) → Reaches w (with_literal w at bytes)
   struct : (w : World) (tag : List ℕ) → Reaches w (with_struct w tag)
   new_struct : (w : World) (tag : Tag) (defined : Option Pos) → Reaches w (with_new w tag defined)
   enumeration : (w : World) (tag : Tag) (defined : Option Pos) → Reaches w (with_tag w tag defined OpenEnumTag)
-  tag_changed : (w : World) (tag : List ℕ) (at : Pos) (meaning : TagMeaning) → Reaches w (with_tag_become w tag (Some at) meaning)
+  tag_changed : (w : World) (tag : List ℕ) (at : Pos) (meaning : TagMeaning) → IsFormedTag w.structs meaning → Reaches w (with_tag_become w tag (Some at) meaning)
   body : (u w v : World) (n : ℕ) (members : List MemberTree) → Reaches u w → IsBegun u w n → Reaches w v → AreMade v.structs members → Reaches u (with_members v n members)
   opens : (w : World) → Reaches w (opened w)
   scoped : (u v : World) → Reaches (opened u) v → Reaches u (closed u v)
@@ -35,7 +38,7 @@ pub data Reaches : World → World → Type 0 where
   counted : (w : World) (size : ℕ) → Reaches w (decls.with_total w size)
   sized : (w : World) (n : ℕ) (ty : CTypeTree) (size : ℕ) → Reaches w (decls.with_sized w n ty size)
   initial : (w : World) (n : ℕ) (bytes : List InitByte) → Reaches w (with_initial w n bytes)
-  linked : (w : World) (named : DeclaredName) (meaning : Meaning) (defined : Bool) → Reaches w (decls.with_linked w named meaning defined)
+  linked : (w : World) (named : DeclaredName) (meaning : Meaning) (defined : Bool) → IsFormedMeaning w.structs meaning → Reaches w (decls.with_linked w named meaning defined)
   defined : (w : World) (name : List ℕ) (now : Bool) → Reaches w (decls.with_defined w name now)
   retyped : (w : World) (list : List Linked) → Reaches w (record w { linked = list })
   parameters : (w : World) (params : List ParameterTree) → Reaches w (decls.with_parameters w params)
@@ -43,51 +46,67 @@ pub data Reaches : World → World → Type 0 where
   function_changed : (w : World) (n : ℕ) (change : TFunctionTree → TFunctionTree) → ((f : TFunctionTree) → IsSameFunction f (change f)) → Reaches w (files.with_function_at w n change)
   labelled : (w : World) (labels : List Labelled) → Reaches w (record w { labels = labels })
   cased : (w : World) (cases : List CaseAt) (default : Option Pos) → Reaches w (record w { cases = cases; default = default })
-  in_body : (t u v : World) (first : ℕ) (names : List Binding) (tags : List TagBinding) → Reaches t u → IsAside t u tags → Reaches (files.in_body u first names tags) v → Reaches t (record (closed u v) { labels = []; cases = []; default = None })
+  in_body : (t u v : World) (first : ℕ) (names : List Binding) (tags : List TagBinding) → Reaches t u → IsAside t u tags → All (λ b. IsFormedMeaning u.structs b.meaning) names → Reaches (files.in_body u first names tags) v → Reaches t (record (closed u v) { labels = []; cases = []; default = None })
 
 -- a world that is reached is good, and keeps the structs of the one before
 pub record Kept (w v : World) : Type 0 where
   pub good : Good v
   pub frame : Frame w v
 
-kept_same : (w v : World) → v.structs ≡ w.structs → v.tags ≡ w.tags → Good w → Kept w v
-kept_same w v s t good = record { good = good_same w v s t good; frame = frame_same w v s t }
+kept_same : (w v : World) → v.structs ≡ w.structs → v.tags ≡ w.tags → v.names ≡ w.names → Good w → Kept w v
+kept_same w v s t n good = record { good = good_same w v s t n good; frame = frame_same w v s t }
+
+as_object : (structs : List StructDefTree) (first : ℕ) (m : Meaning) → IsFormedMeaning structs m → IsFormedMeaning structs (files.as_object first m)
+as_object structs first (Object n) f = f
+as_object structs first (Missing ty c) f = f
+as_object structs first (Parameter k ty c) f = tt
+as_object structs first (world.Function n) f = f
+as_object structs first (TypeName form) f = f
+as_object structs first (Enumeration n) f = f
+
+-- the names of a parameter list as those of its objects
+pub as_objects :
+    (structs : List StructDefTree) (first : ℕ) (names : List Binding) → All (λ b. IsFormedMeaning structs b.meaning) names
+    → All (λ b. IsFormedMeaning structs b.meaning) (map (files.with_object_meaning first) names)
+as_objects structs first names all =
+    All-map (λ b. IsFormedMeaning structs b.meaning) (files.with_object_meaning first) names
+    (All-weaker (λ b. IsFormedMeaning structs b.meaning) (λ b. IsFormedMeaning structs (files.with_object_meaning first b).meaning) (λ b f. as_object structs first b.meaning f) names all)
 
 pub kept : (w v : World) → Reaches w v → Good w → Kept w v
-kept w v (stays _) good = kept_same w w refl refl good
+kept w v (stays _) good = kept_same w w refl refl refl good
 kept w v (after _ u _ r s) good =
     let one = kept w u r good in let two = kept u v s one.good in record { good = two.good; frame = frame_then w u v one.frame two.frame }
-kept w v (named _ at name meaning) good = kept_same w _ refl refl good
-kept w v (literal _ at bytes) good = kept_same w _ refl refl good
+kept w v (named _ at name meaning f) good = record { good = good_named w at name meaning f good; frame = frame_same w _ refl refl }
+kept w v (literal _ at bytes) good = kept_same w _ refl refl refl good
 kept w v (struct _ tag) good = record { good = good_struct w tag good; frame = frame_struct w tag }
 kept w v (new_struct _ tag d) good = record { good = good_new w tag d good; frame = frame_new w tag d }
 kept w v (enumeration _ tag d) good = record { good = good_enum w tag d good; frame = frame_enum w tag d }
-kept w v (tag_changed _ tag at m) good = record { good = good_changed w tag at m good; frame = frame_changed w tag at m }
+kept w v (tag_changed _ tag at m f) good = record { good = good_changed w tag at m f good; frame = frame_changed w tag at m }
 kept w v (body _ u x n members r begun s are) good =
     let one = kept w u r good in let two = kept u x s one.good in record {
       good = good_body w u x n members begun two.frame two.good are;
       frame = frame_body w x n members begun.from (frame_then w u x one.frame two.frame);
     }
-kept w v (opens _) good = kept_same w _ refl refl good
+kept w v (opens _) good = kept_same w _ refl refl refl good
 kept w v (scoped _ u r) good =
-    let inner = kept (opened w) u r (good_same w _ refl refl good) in record { good = good_closed w u inner.good; frame = frame_closed w u inner.frame }
-kept w v (object _ x) good = kept_same w _ refl refl good
-kept w v (counted _ size) good = kept_same w _ refl refl good
-kept w v (sized _ n ty size) good = kept_same w _ refl refl good
-kept w v (initial _ n bytes) good = kept_same w _ refl refl good
-kept w v (linked _ name meaning d) good = kept_same w _ refl refl good
-kept w v (defined _ name now) good = kept_same w _ refl refl good
-kept w v (retyped _ list) good = kept_same w _ refl refl good
-kept w v (parameters _ params) good = kept_same w _ refl refl good
-kept w v (function _ types f) good = kept_same w _ refl refl good
-kept w v (function_changed _ n change f) good = kept_same w _ refl refl good
-kept w v (labelled _ labels) good = kept_same w _ refl refl good
-kept w v (cased _ cases default) good = kept_same w _ refl refl good
-kept w v (in_body _ u x first names tags r aside s) good =
+    let inner = kept (opened w) u r (good_same w _ refl refl refl good) in record { good = good_closed w u inner.good; frame = frame_closed w u inner.frame }
+kept w v (object _ x) good = kept_same w _ refl refl refl good
+kept w v (counted _ size) good = kept_same w _ refl refl refl good
+kept w v (sized _ n ty size) good = kept_same w _ refl refl refl good
+kept w v (initial _ n bytes) good = kept_same w _ refl refl refl good
+kept w v (linked _ x meaning d f) good = record { good = good_same (with_name w x.pos x.name meaning) _ refl refl refl (good_named w x.pos x.name meaning f good); frame = frame_same w _ refl refl }
+kept w v (defined _ name now) good = kept_same w _ refl refl refl good
+kept w v (retyped _ list) good = kept_same w _ refl refl refl good
+kept w v (parameters _ params) good = kept_same w _ refl refl refl good
+kept w v (function _ types f) good = kept_same w _ refl refl refl good
+kept w v (function_changed _ n change f) good = kept_same w _ refl refl refl good
+kept w v (labelled _ labels) good = kept_same w _ refl refl refl good
+kept w v (cased _ cases default) good = kept_same w _ refl refl refl good
+kept w v (in_body _ u x first names tags r aside f s) good =
     let one = kept w u r good in
     let frame = frame_in w u (files.in_body u first names tags) tags refl refl aside one.frame in
-    let two = kept (files.in_body u first names tags) x s (good_in w u _ tags refl refl aside one.good) in record {
-      good = good_same (closed u x) _ refl refl (good_closed u x two.good);
+    let two = kept (files.in_body u first names tags) x s (good_in w u _ (map (files.with_object_meaning first) names) tags refl refl refl (as_objects u.structs first names f) aside one.good) in record {
+      good = good_same (closed u x) _ refl refl refl (good_closed u x two.good);
       frame = frame_then w (closed u x) _ (frame_shut w u x (frame_then w (files.in_body u first names tags) x frame two.frame)) (frame_same (closed u x) _ refl refl);
     }
 
@@ -198,3 +217,15 @@ pub scope_with :
     → (Good w → Good u) → AllGo u first → ((a : A) (v : World) → Reaches u v → Kept u v → AllWith w Q (next a v)) → AllWith w Q (Then first next)
 scope_with entry f g good o (goes_on {a = a} {w = v} p s) = met_in (entry good) (f (entry good) _ p) (λ r k. g a v r k good o s)
 scope_with entry f g good _ (stops p) = refused_so
+
+met_list :
+    {A B : Type 0} {u w v : World} {a : A} {o : Outcome B} {P : A → World → Type 0} {Q : B → World → Type 0}
+    → Good u → GoesWith u P (Typed a v) → (Reaches u v → P a v → Kept u v → GoesWith w Q o) → GoesWith w Q o
+met_list {u = u} {v = v} good (typed_so r p) next = next r p (kept u v r good)
+
+-- the same of a part that has a property
+pub list_with :
+    {A B : Type 0} {w : World} {first : Outcome A → Type 0} {next : A → World → Outcome B → Type 0} {P : A → World → Type 0} {Q : B → World → Type 0}
+    → (u : World) → (Good w → Good u) → AllWith u P first → ((a : A) (v : World) → Reaches u v → P a v → Kept u v → AllWith w Q (next a v)) → AllWith w Q (Then first next)
+list_with u entry f g good o (goes_on {a = a} {w = v} p s) = met_list (entry good) (f (entry good) _ p) (λ r q k. g a v r q k good o s)
+list_with u entry f g good _ (stops p) = refused_so

@@ -1,6 +1,6 @@
 -- A good world and a tree have an outcome.
 use Rattle.std.proofs.Common.{refl}
-use Rattle.std.specs.Prelude.{Bool, Some}
+use Rattle.std.specs.Prelude.{Bool, Some, []}
 use Rattle.c_written.specs.WrittenParts.{expr_pos}
 use Rattle.c_typing.specs.Constants.{constant_value}
 use Rattle.c_written.specs.Written as written
@@ -12,10 +12,12 @@ use Rattle.c_typing.specs.Declarators.{Shape}
 use Rattle.c_typing.specs.Typing as typing
 use Rattle.c_typing.specs.Typing.{Types, TypesArgs, TypesSpecs, TypesSpec, TypesMembers, TypesMemberNames, TypesEnumerators, TypesDeclarator, TypesParams, Valued}
 use Rattle.c_typing.proofs.MadeMembers.{nothing_made}
-use Rattle.c_typing.proofs.Good.{Good}
+use Rattle.std.proofs.lemmas.List.Elements.{All-push}
+use Rattle.c_typing.specs.Formed.{IsFormed}
+use Rattle.c_typing.proofs.Good.{Good, is_later}
 use Rattle.c_typing.proofs.Reaches.{Kept, kept, Goes, typed, AllGo, is_goes, enters, GoesWith, typed_so, forget, AllWith, all_forget, is_with}
 use Rattle.c_typing.proofs.TypesGo as types_go
-use Rattle.c_typing.proofs.TypesGo.{MadeIn, made_after, valued, go, go_list, go_specs, go_spec, go_members, go_names, go_enumerators, go_declarator, go_params}
+use Rattle.c_typing.proofs.TypesGo.{MadeIn, made_after, SpecsIn, ShapeIn, ParamsIn, none_yet, no_params_yet, params_after, valued, go, go_list, go_specs, go_spec, go_members, go_names, go_enumerators, go_declarator, go_params}
 
 -- some outcome is of this kind
 abbrev pub Has : {A : Type 0} → (Outcome A → Type 0) → Type 0
@@ -58,17 +60,17 @@ value w e good h g = then_has good (valued (go w e)) (then_has good (go w e) h (
 
 pub of_type_name :
     {w : World} (first : _) {specs : Outcome specifiers.SpecsTree → Type 0} {declarator : World → Outcome Shape → Type 0} → Good w
-    → AllGo w specs → Has specs → ((v : World) → AllGo v (declarator v)) → ((v : World) → Good v → Has (declarator v)) → Has (typing.OfTypeName first specs declarator)
+    → AllWith w SpecsIn specs → Has specs → ((v : World) → AllWith v (ShapeIn v) (declarator v)) → ((v : World) → Good v → Has (declarator v)) → Has (typing.OfTypeName first specs declarator)
 of_type_name first good f h g d =
-    then_has good f h (λ s v k. then_has k.good (is_goes (types_go.type_told specifiers.OfPlainType first s v)) (is_has _) (λ base v2 k2.
-    then_has k2.good (g v2) (d v2 k2.good) (λ shape v3 k3. is_has _)))
+    then_has good (all_forget f) h (λ s v k. then_has k.good (is_goes (types_go.type_told specifiers.OfPlainType first s v)) (is_has _) (λ base v2 k2.
+    then_has k2.good (all_forget (g v2)) (d v2 k2.good) (λ shape v3 k3. is_has _)))
 
 pub of_parameter :
     {w : World} (n : _) (first : _) {specs : Outcome specifiers.SpecsTree → Type 0} {declarator : World → Outcome Shape → Type 0} → Good w
-    → AllGo w specs → Has specs → ((v : World) → AllGo v (declarator v)) → ((v : World) → Good v → Has (declarator v)) → Has (typing.OfParameter n first specs declarator)
+    → AllWith w SpecsIn specs → Has specs → ((v : World) → AllWith v (ShapeIn v) (declarator v)) → ((v : World) → Good v → Has (declarator v)) → Has (typing.OfParameter n first specs declarator)
 of_parameter n first good f h g d =
-    then_has good f h (λ s v k. then_has k.good (is_goes (types_go.type_told specifiers.OfParameter first s v)) (is_has _) (λ base v2 k2.
-    then_has k2.good (g v2) (d v2 k2.good) (λ shape v3 k3. is_has _)))
+    then_has good (all_forget f) h (λ s v k. then_has k.good (is_goes (types_go.type_told specifiers.OfParameter first s v)) (is_has _) (λ base v2 k2.
+    then_has k2.good (all_forget (g v2)) (d v2 k2.good) (λ shape v3 k3. is_has _)))
 
 mutual
   unfolding Types TypesArgs TypesSpecs TypesSpec TypesMembers TypesMemberNames TypesEnumerators TypesDeclarator TypesParams
@@ -88,12 +90,12 @@ mutual
   some w (written.Unary at op a) good = part w a good (some w a good) (λ x v k. is_has _)
   some w (written.SizeofExpr at a) good = part w a good (some w a good) (λ x v k. is_has _)
   some w (written.SizeofType at specs declarator) good =
-      then_has good (types_go.of_type_name _ (go_specs w _ _ specs) (λ v. all_forget (go_declarator v declarator)))
-      (of_type_name _ good (go_specs w _ _ specs) (some_specs w _ _ specs good) (λ v. all_forget (go_declarator v declarator)) (λ v g. some_declarator v declarator g))
+      then_has good (all_forget (types_go.of_type_name _ (go_specs w _ _ specs (none_yet w)) (λ v. go_declarator v declarator)))
+      (of_type_name _ good (go_specs w _ _ specs (none_yet w)) (some_specs w _ _ specs good) (λ v. go_declarator v declarator) (λ v g. some_declarator v declarator g))
       (λ form v k. is_has _)
   some w (written.Cast at specs declarator a) good =
-      then_has good (types_go.of_type_name _ (go_specs w _ _ specs) (λ v. all_forget (go_declarator v declarator)))
-      (of_type_name _ good (go_specs w _ _ specs) (some_specs w _ _ specs good) (λ v. all_forget (go_declarator v declarator)) (λ v g. some_declarator v declarator g))
+      then_has good (all_forget (types_go.of_type_name _ (go_specs w _ _ specs (none_yet w)) (λ v. go_declarator v declarator)))
+      (of_type_name _ good (go_specs w _ _ specs (none_yet w)) (some_specs w _ _ specs good) (λ v. go_declarator v declarator) (λ v g. some_declarator v declarator g))
       (λ form v k. value v a k.good (some v a k.good) (λ x v2 k2. is_has _))
   some w (written.Binary at op a b) good = value w a good (some w a good) (λ x v k. value v b k.good (some v b k.good) (λ y v2 k2. is_has _))
   some w (written.Cond at c a b) good =
@@ -108,14 +110,14 @@ mutual
 
   pub some_specs : (w : World) (alone : Bool) (done : _) (specs : written.SpecTrees) → Good w → Has (TypesSpecs w alone done specs)
   some_specs w alone done written.no_specs good = is_has _
-  some_specs w alone done (written.more_specs spec rest) good = then_has good (go_spec w alone spec) (some_spec w alone spec good) (λ part v k. some_specs v alone _ rest k.good)
+  some_specs w alone done (written.more_specs spec rest) good = then_has good (all_forget (go_spec w alone spec)) (some_spec w alone spec good) (λ part v k. some_specs v alone _ rest k.good)
 
   pub some_spec : (w : World) (alone : Bool) (spec : written.SpecTree) → Good w → Has (TypesSpec w alone spec)
   some_spec w alone (written.Storage at word) good = is_has _
   some_spec w alone (written.Const at) good = is_has _
   some_spec w alone (written.Basic at word) good = is_has _
   some_spec w alone (written.TypedefName at name) good = is_has _
-  some_spec w alone (written.Struct at tag) good = then_has good (is_goes (types_go.struct_found w alone tag _)) (is_has _) (λ n v k. is_has _)
+  some_spec w alone (written.Struct at tag) good = then_has good (is_goes (forget (types_go.struct_found w alone tag good))) (is_has _) (λ n v k. is_has _)
   some_spec w alone (written.StructBody at tag members) good =
       then_has good (is_goes (forget (types_go.struct_opened w tag good))) (is_has _) (λ n v k.
       then_has k.good (all_forget (go_members v _ members (nothing_made v.structs))) (some_members v _ members (nothing_made v.structs) k.good) (λ done v2 k2. is_has _))
@@ -127,7 +129,7 @@ mutual
   pub some_members : (w : World) (done : _) (members : written.MemberDeclTrees) → MadeIn done w → Good w → Has (TypesMembers w done members)
   some_members w done written.no_members made good = is_has _
   some_members w done (written.more_members (written.Members at specs list) rest) made good =
-      then_has good (go_specs w _ _ specs) (some_specs w _ _ specs good) (λ s v k.
+      then_has good (all_forget (go_specs w _ _ specs (none_yet w))) (some_specs w _ _ specs good) (λ s v k.
       then_has k.good (is_goes (types_go.type_told specifiers.OfPlainType (typing.first_of at specs) s v)) (is_has _) (λ base v2 k2.
       let made2 = made_after v v2 done k.good k2.frame (made_after w v done good k.frame made) in
       so_has k2.good (go_names v2 _ base done list made2) (some_names v2 _ base done list made2 k2.good) (λ members v3 k3 made3.
@@ -157,16 +159,16 @@ mutual
   some_declarator w (written.OpenArray at inner) good = then_has good (all_forget (go_declarator w inner)) (some_declarator w inner good) (λ shape v k. is_has _)
   some_declarator w (written.Function at inner params) good =
       then_has good (all_forget (go_declarator w inner)) (some_declarator w inner good) (λ shape v k.
-      then_has (enters k.good) (go_params (names.opened v) _ params) (some_params (names.opened v) _ params (enters k.good)) (λ list v2 k2. is_has _))
+      then_has (enters k.good) (all_forget (go_params (names.opened v) [] params (no_params_yet (names.opened v)))) (some_params (names.opened v) [] params (no_params_yet (names.opened v)) (enters k.good)) (λ list v2 k2. is_has _))
   some_declarator w (written.VoidFunction at inner) good = then_has good (all_forget (go_declarator w inner)) (some_declarator w inner good) (λ shape v k. is_has _)
 
-  pub some_params : (w : World) (done : _) (params : written.ParamTrees) → Good w → Has (TypesParams w done params)
-  some_params w done written.no_params good = is_has _
-  some_params w done (written.more_params (written.Named at specs declarator) rest) good =
-      then_has good (types_go.of_parameter _ _ (go_specs w _ _ specs) (λ v. all_forget (go_declarator v declarator)))
-      (of_parameter _ _ good (go_specs w _ _ specs) (some_specs w _ _ specs good) (λ v. all_forget (go_declarator v declarator)) (λ v g. some_declarator v declarator g))
-      (λ param v k. some_params v _ rest k.good)
-  some_params w done (written.more_params (written.Abstract at specs declarator) rest) good =
-      then_has good (types_go.of_parameter _ _ (go_specs w _ _ specs) (λ v. all_forget (go_declarator v declarator)))
-      (of_parameter _ _ good (go_specs w _ _ specs) (some_specs w _ _ specs good) (λ v. all_forget (go_declarator v declarator)) (λ v g. some_declarator v declarator g))
-      (λ param v k. some_params v _ rest k.good)
+  pub some_params : (w : World) (done : _) (params : written.ParamTrees) → ParamsIn done w → Good w → Has (TypesParams w done params)
+  some_params w done written.no_params all good = is_has _
+  some_params w done (written.more_params (written.Named at specs declarator) rest) all good =
+      so_has good ((types_go.of_parameter _ _ (go_specs w _ _ specs (none_yet w)) (λ v. go_declarator v declarator)))
+      (of_parameter _ _ good (go_specs w _ _ specs (none_yet w)) (some_specs w _ _ specs good) (λ v. go_declarator v declarator) (λ v g. some_declarator v declarator g))
+      (λ param v k p. some_params v _ rest (All-push (λ x. IsFormed v.structs x.ty) done param (params_after w v done (is_later w v good k.good k.frame) all) p) k.good)
+  some_params w done (written.more_params (written.Abstract at specs declarator) rest) all good =
+      so_has good ((types_go.of_parameter _ _ (go_specs w _ _ specs (none_yet w)) (λ v. go_declarator v declarator)))
+      (of_parameter _ _ good (go_specs w _ _ specs (none_yet w)) (some_specs w _ _ specs good) (λ v. go_declarator v declarator) (λ v g. some_declarator v declarator g))
+      (λ param v k p. some_params v _ rest (All-push (λ x. IsFormed v.structs x.ty) done param (params_after w v done (is_later w v good k.good k.frame) all) p) k.good)

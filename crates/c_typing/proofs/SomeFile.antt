@@ -30,16 +30,19 @@ use Rattle.c_typing.specs.Names.{opened}
 use Rattle.c_typing.specs.File.{Begun, TypesOuter, TypesOuters, nothing_yet, outcome_of}
 use Rattle.c_typing.specs.Laws.{FilesHaveSome}
 use Rattle.c_typing.proofs.MadeTables.{IsMade}
-use Rattle.c_typing.proofs.Good.{Good}
+use Rattle.c_typing.specs.Formed.{IsFormedForm}
+use Rattle.c_typing.proofs.Later.{form_later}
+use Rattle.c_typing.proofs.FormsGo.{type_told_at}
+use Rattle.c_typing.proofs.Good.{Good, is_later}
 use Rattle.c_typing.proofs.Reaches as reaches
-use Rattle.c_typing.proofs.Reaches.{Reaches, Kept, kept, AllGo, is_goes, enters, GoesWith, typed_so, AllWith, all_forget}
+use Rattle.c_typing.proofs.Reaches.{Reaches, Kept, kept, AllGo, is_goes, enters, GoesWith, typed_so, AllWith, all_forget, is_with}
 use Rattle.c_typing.proofs.TypesGo as types_go
-use Rattle.c_typing.proofs.TypesGo.{AreAside, ShapeIn, valued, go, go_specs, go_declarator}
+use Rattle.c_typing.proofs.TypesGo.{AreAside, ShapeIn, steps_formed, none_yet, valued, go, go_specs, go_declarator}
 use Rattle.c_typing.proofs.DeclsGo as decls_go
 use Rattle.c_typing.proofs.FileGo as file_go
 use Rattle.c_typing.proofs.FileGo.{Heads}
 use Rattle.c_typing.proofs.Adds.{nothing_good}
-use Rattle.c_typing.proofs.Some.{Has, is_has, then_has, value, some, some_specs, some_declarator}
+use Rattle.c_typing.proofs.Some.{Has, is_has, then_has, so_has, value, some, some_specs, some_declarator}
 
 -- ---- which part an item fills
 
@@ -179,19 +182,22 @@ init_of_has w (AnObject object) None good = is_has _
 init_of_has w (AnObject object) (Some init) good =
     then_has good (decls_go.init w object.is_static object.ty (frame_for w object) init) (init_has w object.is_static object.ty (frame_for w object) init good) (λ by v k. is_has _)
 
-declarators_has : (w : World) (around : Context) (first storage base : _) (done : Made) (items : List InitDeclaratorTree) → Good w → Has (TypesInitDeclarators w around first storage base done items)
+declarators_has : (w : World) (around : Context) (first storage base : _) (done : Made) (items : List InitDeclaratorTree) → IsFormedForm w.structs base → Good w → Has (TypesInitDeclarators w around first storage base done items)
 unfolding TypesInitDeclarators
-declarators_has w around first storage base done [] good = is_has _
-declarators_has w around first storage base done (item ∷ rest) good =
-    then_has good (all_forget (go_declarator w item.declarator)) (some_declarator w item.declarator good) (λ shape v k.
-    then_has k.good (is_goes (decls_go.declared v around first storage base _ shape)) (is_has _) (λ what v2 k2.
-    then_has k2.good (decls_go.init_of v2 what item.init) (init_of_has v2 what item.init k2.good) (λ made v3 k3. declarators_has v3 around first storage base _ rest k3.good)))
+declarators_has w around first storage base done [] f good = is_has _
+declarators_has w around first storage base done (item ∷ rest) f good =
+    so_has good (go_declarator w item.declarator) (some_declarator w item.declarator good) (λ shape v k a.
+    let one = form_later w.structs v.structs (is_later w v good k.good k.frame) base f in
+    then_has k.good (is_goes (decls_go.declared v around first storage base _ shape (steps_formed w v shape.steps a) one)) (is_has _) (λ what v2 k2.
+    let two = form_later v.structs v2.structs (is_later v v2 k.good k2.good k2.frame) base one in
+    then_has k2.good (decls_go.init_of v2 what item.init) (init_of_has v2 what item.init k2.good) (λ made v3 k3.
+    declarators_has v3 around first storage base _ rest (form_later v2.structs v3.structs (is_later v2 v3 k2.good k3.good k3.frame) base two) k3.good)))
 
 decl_has : (w : World) (around : Context) (decl : DeclTree) → Good w → Has (TypesDecl w around decl)
 decl_has w around decl good =
-    then_has good (go_specs w _ _ decl.specs) (some_specs w _ _ decl.specs good) (λ s v k.
-    then_has k.good (is_goes (types_go.type_told specifiers.OfDeclaration (typing.first_of decl.pos decl.specs) s v)) (is_has _) (λ base v2 k2.
-    declarators_has v2 around _ _ base _ decl.inits k2.good))
+    so_has good (go_specs w _ _ decl.specs (none_yet w)) (some_specs w _ _ decl.specs good) (λ s v k p.
+    so_has k.good (is_with (λ g. types_go.form_in _ (type_told_at specifiers.OfDeclaration (typing.first_of decl.pos decl.specs) s v p))) (is_has _) (λ base v2 k2 f.
+    declarators_has v2 around _ _ base _ decl.inits f k2.good))
 
 -- ---- statements
 
@@ -312,7 +318,7 @@ definition_has {t} {first} {x} {next} good f h g d = by h.0 h.1
 outer_has : (w : World) (around : Context) (tree : OuterTree) → Good w → Has (TypesOuter w around tree)
 outer_has w around (files.Declared d) good = then_has good (decls_go.decl w around d) (decl_has w around d good) (λ made v k. is_has _)
 outer_has w around (files.Function at specs declarator brace body) good =
-    then_has good (go_specs w _ _ specs) (some_specs w _ _ specs good) (λ s v k.
+    then_has good (all_forget (go_specs w _ _ specs (none_yet w))) (some_specs w _ _ specs good) (λ s v k.
     then_has k.good (is_goes (types_go.type_told specifiers.OfDeclaration (typing.first_of at specs) s v)) (is_has _) (λ base v2 k2.
     definition_has k2.good (go_declarator v2 declarator) (some_declarator v2 declarator k2.good)
     (λ shape v3 g r a. file_go.definition v2 v3 around (typing.first_of at specs) s.storage shape.steps base shape.name g r a)

@@ -1,12 +1,14 @@
 -- Types of expressions, specs and declarators only make the changes of Reaches.
 use Rattle.std.proofs.Common.{◌≡◌, refl, sym, subst, ⊎_elim, arith}
-use Rattle.std.specs.Prelude.{ℕ, ◌+◌, ◌^◌, nat_lt, ◌||◌, ℤ, pos, negsuc, Bool, Option, Some, None, List, [], ◌∷◌, ◌++◌, length, take, drop}
-use Rattle.std.proofs.lemmas.List.{map-append}
+use Rattle.std.specs.Prelude.{ℕ, ◌+◌, ◌^◌, ◌<◌, nat_lt, ◌||◌, ◌+ℤ◌, ℤ, pos, negsuc, Bool, true, false, if◌then◌else◌, Option, Some, None, option_map, List, [], ◌∷◌, ◌++◌, length, take, drop, reverse, find, All, bytes_eq}
+use Rattle.std.proofs.lemmas.Bool.{ltb-true}
+use Rattle.std.proofs.lemmas.List.Elements.{All-nil, All-push, All-drop, All-map, All-weaker}
+use Rattle.std.proofs.lemmas.List.{map-append, length-append, length-set}
 use Rattle.c_written.specs.declared.place.Pos.{Pos}
 use Rattle.c_written.specs.declared.written.Tag.{Tag}
 use Rattle.c_written.specs.Written as written
 use Rattle.c_syntax.specs.Types.{CTypeTree, Void, Int, Pointer, Array, Struct, Function}
-use Rattle.c_typing.specs.World.{World, Form, Plain, Unsized, Callable, Meaning, Object, Missing, Parameter, TypeName, Enumeration, TagMeaning, StructTag, EnumTag, OpenEnumTag, TagBinding, Refusal, ObjectTooLarge, Unsupported, Outcome, Typed, Refused, Then, goes_on, stops, Is}
+use Rattle.c_typing.specs.World.{World, Form, Plain, Unsized, Callable, Meaning, Object, Missing, Parameter, TypeName, Enumeration, TagMeaning, StructTag, EnumTag, OpenEnumTag, Binding, TagBinding, Refusal, NotConstant, ObjectTooLarge, Unsupported, Outcome, Typed, Refused, Then, goes_on, stops, Is}
 use Rattle.c_written.specs.declared.construct.Construct.TheVariants as constructs
 use Rattle.c_layout.specs.RowTypes.{has_const_elements}
 use Rattle.c_typing.specs.World as world
@@ -23,8 +25,12 @@ use Rattle.c_typing.proofs.Reaches as reaches
 use Rattle.c_typing.proofs.Opens.{Opens, IsOpen, open_either, open_drop, open_apart, distinct_drop, found_open, found_closed}
 use Rattle.c_typing.proofs.MadeTables.{AreMade, IsIncomplete, get_last, complete_below, made_kept, empty_struct}
 use Rattle.c_typing.proofs.MadeMembers.{nothing_made, made_more, complete_held}
-use Rattle.c_typing.proofs.Good.{Good, Frame, IsBegun, IsAside, frame_then, frame_same, frame_closed, frame_keeps, aside_kept}
-use Rattle.c_typing.proofs.Reaches.{Reaches, Kept, kept, Goes, typed, refused, goes_same, goes_if, goes_unless, goes_after, AllGo, then_goes, scope_goes, is_goes, enters, GoesWith, typed_so, refused_so, with_after, with_if, AllWith, all_forget, is_with, then_with, so_with, scope_with}
+use Rattle.c_typing.proofs.Good.{Good, Frame, IsBegun, IsAside, frame_then, frame_same, frame_closed, frame_keeps, aside_kept, is_later, good_closed}
+use Rattle.c_typing.proofs.Reaches.{Reaches, Kept, kept, Goes, typed, refused, goes_same, goes_if, goes_unless, goes_after, AllGo, then_goes, scope_goes, is_goes, enters, GoesWith, typed_so, refused_so, with_after, with_if, AllWith, all_forget, is_with, then_with, so_with, list_with}
+use Rattle.c_typing.specs.Later.{IsLater}
+use Rattle.c_typing.specs.Formed.{IsFormed, IsFormedForm, IsFormedMeaning, IsFormedTag}
+use Rattle.c_typing.proofs.Later.{formed_later, all_later, form_later, meaning_later}
+use Rattle.c_typing.proofs.FormsGo.{FormAt, formed_at, unformed, found_each, mapped, all_reverse, type_told_at, IsFormedStep, AreFormedSteps, laid_at, parameter_formed, int_is}
 use Rattle.c_typing.proofs.NodesGo as nodes_go
 
 -- ---- names and tags
@@ -36,22 +42,44 @@ unless_declared at (Some first) p = refused
 pub new_struct : (w : World) (tag : Tag) (defined : Option Pos) → Goes w (names.new_struct w tag defined)
 new_struct w tag defined = typed (reaches.new_struct w tag defined)
 
-pub struct_from_outside : (w : World) (alone : Bool) (tag : Tag) (m : Option TagMeaning) → Goes w (names.struct_from_outside w alone tag m)
-struct_from_outside w alone tag None = new_struct w tag None
-struct_from_outside w alone tag (Some (StructTag n)) = goes_if alone (new_struct w tag None) goes_same
-struct_from_outside w alone tag (Some EnumTag) = new_struct w tag None
-struct_from_outside w alone tag (Some OpenEnumTag) = new_struct w tag None
+-- a struct by its number, in the world that is left
+abbrev pub NumberIn : ℕ → World → Type 0
+NumberIn n v = n < length v.structs
 
-pub struct_here : (w : World) (tag : Tag) (b : TagBinding) (m : TagMeaning) → Goes w (names.struct_here w tag b m)
-struct_here w tag b (StructTag n) = goes_same
-struct_here w tag b EnumTag = refused
-struct_here w tag b OpenEnumTag = refused
+new_in : (w : World) (tag : Tag) (defined : Option Pos) → GoesWith w NumberIn (names.new_struct w tag defined)
+new_in w tag defined = typed_so (reaches.new_struct w tag defined) (rw length-append (omega arith))
 
-pub struct_found : (w : World) (alone : Bool) (tag : Tag) (b : Option TagBinding) → Goes w (names.struct_found w alone tag b)
-struct_found w alone tag None = struct_from_outside w alone tag _
-struct_found w alone tag (Some b) = struct_here w tag b _
+outside_if : (w : World) (tag : Tag) (n : ℕ) (alone : Bool) → n < length w.structs → GoesWith w NumberIn (if alone then names.new_struct w tag None else Typed n w)
+outside_if w tag n true h = new_in w tag None
+outside_if w tag n false h = typed_so (reaches.stays w) h
 
--- a struct between its braces, in the world in which they bare
+outside_in :
+    (w : World) (alone : Bool) (tag : Tag) (m : Option TagMeaning) → ((meaning : TagMeaning) → m ≡ Some meaning → IsFormedTag w.structs meaning)
+    → GoesWith w NumberIn (names.struct_from_outside w alone tag m)
+outside_in w alone tag None f = new_in w tag None
+outside_in w alone tag (Some (StructTag n)) f = outside_if w tag n alone (f (StructTag n) refl)
+outside_in w alone tag (Some EnumTag) f = new_in w tag None
+outside_in w alone tag (Some OpenEnumTag) f = new_in w tag None
+
+here_in : (w : World) (tag : Tag) (b : TagBinding) (m : TagMeaning) → IsFormedTag w.structs m → GoesWith w NumberIn (names.struct_here w tag b m)
+here_in w tag b (StructTag n) f = typed_so (reaches.stays w) f
+here_in w tag b EnumTag f = refused_so
+here_in w tag b OpenEnumTag f = refused_so
+
+found_in :
+    (w : World) (alone : Bool) (tag : Tag) (o : Option TagBinding) → Good w → names.tag_here w tag.name ≡ o → GoesWith w NumberIn (names.struct_found w alone tag o)
+found_in w alone tag None good e =
+    outside_in w alone tag (option_map (λ b. b.meaning) (names.tag_in_scope w tag.name)) (λ meaning r.
+    mapped (λ b. b.meaning) (names.tag_in_scope w tag.name) meaning (IsFormedTag w.structs) (λ b q.
+    found_each (λ c. IsFormedTag w.structs c.meaning) (λ c. bytes_eq c.tag tag.name) (reverse w.tags) b (all_reverse (λ c. IsFormedTag w.structs c.meaning) w.tags good.formed.tags) q) r)
+found_in w alone tag (Some b) good e =
+    here_in w tag b b.meaning (found_each (λ c. IsFormedTag w.structs c.meaning) (λ c. bytes_eq c.tag tag.name) (drop w.first_tag w.tags) b
+    (All-drop (λ c. IsFormedTag w.structs c.meaning) w.first_tag w.tags good.formed.tags) e)
+
+pub struct_found : (w : World) (alone : Bool) (tag : Tag) → Good w → GoesWith w NumberIn (names.struct_named w alone tag)
+struct_found w alone tag good = found_in w alone tag (names.tag_here w tag.name) good refl
+
+-- a struct between its braces, in the world in which they open
 abbrev Begins : World → ℕ → World → Type 0
 Begins w n v = IsBegun w v n
 
@@ -72,7 +100,7 @@ begins_new w tag good = typed_so (reaches.new_struct w tag (Some tag.pos)) (reco
 begins_found :
     (w : World) (tag : Tag) (b : TagBinding) (n : ℕ) → Good w → names.tag_here w tag.name ≡ Some b → b.meaning ≡ StructTag n → b.defined ≡ None
     → GoesWith w (Begins w) (Typed n (names.with_tag_become w tag.name (Some tag.pos) (StructTag n)))
-begins_found w tag b n good e m d = typed_so (reaches.tag_changed w tag.name tag.pos (StructTag n)) (record {
+begins_found w tag b n good e m d = typed_so (reaches.tag_changed w tag.name tag.pos (StructTag n) (complete_below w.structs n now.def now.there)) (record {
   incomplete = good.incomplete n (open_drop n w.first_tag w.tags here);
   shut = λ p. ⊎_elim (λ l. open_apart n w.first_tag w.tags good.distinct l here)
       (λ r. found_closed n tag.pos (StructTag n) tag.name (drop w.first_tag w.tags) b (distinct_drop w.first_tag w.tags good.distinct) e opens r)
@@ -80,6 +108,9 @@ begins_found w tag b n good e m d = typed_so (reaches.tag_changed w tag.name tag
   from = λ h c. c (open_drop n w.first_tag w.tags here);
 })
   where
+    now : IsIncomplete w.structs n
+    now = good.incomplete n (open_drop n w.first_tag w.tags (found_open n tag.name (drop w.first_tag w.tags) b e (record { declared = m; undefined = d })))
+
     opens : Opens n b
     opens = record { declared = m; undefined = d }
 
@@ -136,7 +167,7 @@ enum_opened w (Some tag) = enum_begins w tag _
 
 pub enum_closes : (w : World) (tag : Option Tag) → Reaches w (names.enum_closed w tag)
 enum_closes w None = reaches.stays w
-enum_closes w (Some tag) = reaches.tag_changed w tag.name tag.pos _
+enum_closes w (Some tag) = reaches.tag_changed w tag.name tag.pos _ tt
 
 -- ---- specs
 
@@ -147,14 +178,47 @@ or_undeclared at (Some form) w = goes_same
 pub type_told : (place : specifiers.Place) (at : Pos) (s : specifiers.SpecsTree) (w : World) → Goes w (specifiers.type_told place at s w)
 type_told place at s w = goes_if _ (or_undeclared at _ w) refused
 
-pub typedef_named : (w : World) (at : Pos) (m : Option Meaning) → Goes w (typing.typedef_named w at m)
-typedef_named w at None = refused
-typedef_named w at (Some (Object n)) = refused
-typedef_named w at (Some (Missing ty is_const)) = refused
-typedef_named w at (Some (Parameter k ty is_const)) = refused
-typedef_named w at (Some (world.Function n)) = refused
-typedef_named w at (Some (TypeName form)) = goes_same
-typedef_named w at (Some (Enumeration n)) = refused
+-- a type in the world that is left
+abbrev pub FormIn : Form → World → Type 0
+FormIn form v = IsFormedForm v.structs form
+
+pub form_in : {w : World} (o : Outcome Form) → FormAt w o → GoesWith w FormIn o
+form_in (Typed form v) (formed_at _ f) = typed_so (reaches.stays _) f
+form_in (Refused r) f = refused_so
+
+-- the types that specs have so far
+abbrev pub SpecsIn : specifiers.SpecsTree → World → Type 0
+SpecsIn s v = All (IsFormedForm v.structs) s.types
+
+abbrev pub PartIn : specifiers.SpecPart → World → Type 0
+PartIn (specifiers.StoragePart word) v = Unit {0}
+PartIn specifiers.ConstPart v = Unit {0}
+PartIn (specifiers.WordPart word) v = Unit {0}
+PartIn (specifiers.TypePart form) v = IsFormedForm v.structs form
+
+pub with_part : (v : World) (s : specifiers.SpecsTree) (part : specifiers.SpecPart) → SpecsIn s v → PartIn part v → SpecsIn (specifiers.with_part s part) v
+with_part v s (specifiers.StoragePart word) all p = all
+with_part v s specifiers.ConstPart all p = all
+with_part v s (specifiers.WordPart word) all p = all
+with_part v s (specifiers.TypePart form) all p = All-push (IsFormedForm v.structs) s.types form all p
+
+pub specs_after : (w v : World) (s : specifiers.SpecsTree) → IsLater w.structs v.structs → SpecsIn s w → SpecsIn s v
+specs_after w v s later all = All-weaker (IsFormedForm w.structs) (IsFormedForm v.structs) (λ form f. form_later w.structs v.structs later form f) s.types all
+
+-- what a name means is formed
+pub meaning_formed : (w : World) (name : List ℕ) (m : Meaning) → Good w → names.meaning_of w name ≡ Some m → IsFormedMeaning w.structs m
+meaning_formed w name m good e =
+    mapped (λ b. b.meaning) (find (λ b. bytes_eq b.name name) (reverse w.names)) m (IsFormedMeaning w.structs) (λ b q.
+    found_each (λ c. IsFormedMeaning w.structs c.meaning) (λ c. bytes_eq c.name name) (reverse w.names) b (all_reverse (λ c. IsFormedMeaning w.structs c.meaning) w.names good.formed.names) q) e
+
+pub typedef_named : (w : World) (at : Pos) (m : Option Meaning) → ((meaning : Meaning) → m ≡ Some meaning → IsFormedMeaning w.structs meaning) → GoesWith w PartIn (typing.typedef_named w at m)
+typedef_named w at None f = refused_so
+typedef_named w at (Some (Object n)) f = refused_so
+typedef_named w at (Some (Missing ty is_const)) f = refused_so
+typedef_named w at (Some (Parameter k ty is_const)) f = refused_so
+typedef_named w at (Some (world.Function n)) f = refused_so
+typedef_named w at (Some (TypeName form)) f = typed_so (reaches.stays w) (f (TypeName form) refl)
+typedef_named w at (Some (Enumeration n)) f = refused_so
 
 -- ---- declarators, laid
 
@@ -208,55 +272,90 @@ unfolding declarators.laid
 laid w at [] base = goes_same
 laid w at (step ∷ rest) base = after_step w at step _
 
-pub sized_name : {w : World} (first : Pos) (o : Outcome Form) → Goes w o → Goes w (typing.sized_name first o)
-sized_name first (Typed (Plain ty c) w) p = p
-sized_name first (Typed (Unsized ty c) w) p = refused
-sized_name first (Typed (Callable params result) w) p = p
-sized_name first (Refused r) p = p
+sized_in : {w : World} (first : Pos) (o : Outcome Form) → FormAt w o → FormAt w (typing.sized_name first o)
+sized_in first (Typed (Plain ty c) w) p = p
+sized_in first (Typed (Unsized ty c) w) p = unformed
+sized_in first (Typed (Callable params result) w) p = p
+sized_in first (Refused r) p = unformed
 
-pub unnamed : {w : World} (name : Option DeclaredName) (o : Outcome Form) → Goes w o → Goes w (typing.unnamed name o)
-unnamed None o p = p
-unnamed (Some named) o p = refused
+unnamed_in : {w : World} (name : Option DeclaredName) (o : Outcome Form) → FormAt w o → FormAt w (typing.unnamed name o)
+unnamed_in None o p = p
+unnamed_in (Some named) o p = unformed
 
-pub type_name : (w : World) (first : Pos) (base : Form) (shape : Shape) → Goes w (typing.type_name w first base shape)
-type_name w first base shape = unnamed shape.name _ (sized_name first _ (laid w first shape.steps base))
+pub type_name :
+    (w : World) (first : Pos) (base : Form) (shape : Shape) → AreFormedSteps w.structs shape.steps → IsFormedForm w.structs base → GoesWith w FormIn (typing.type_name w first base shape)
+type_name w first base shape s f = form_in _ (unnamed_in shape.name _ (sized_in first _ (laid_at w first shape.steps base s f)))
 
 -- ---- members, enumerators, parameters
 
 pub enumerator : (w : World) (at value_at : Pos) (name : List ℕ) (n : Option ℤ) → Goes w (typing.enumerator w at value_at name n)
 enumerator w at value_at name None = refused
-enumerator w at value_at name (Some n) = goes_if _ (unless_declared at _ (typed (reaches.named w at name _))) refused
+enumerator w at value_at name (Some n) = by (typing.is_int n) refl
+  where
+    by : (b : Bool) → typing.is_int n ≡ b → Goes w (if b then names.unless_declared at (names.first_here w at name) (Typed (n +ℤ pos 1) (names.with_name w at name (Enumeration n))) else Refused (NotConstant value_at))
+    by true e = unless_declared at _ (typed (reaches.named w at name (Enumeration n) (int_is n e)))
+    by false e = refused
 
 -- ---- the tags that parameter lists leave aside
 
-abbrev pub tags_in : Step → List TagBinding
-tags_in (PointerTo c) = []
-tags_in (ArrayOf at n) = []
-tags_in OpenArray = []
-tags_in (FunctionOf params names tags) = tags
+aside_none : (t v : World) → IsAside t v []
+aside_none t v = record { incomplete = λ n p. absurd p; apart = λ n p q. p; distinct = tt; formed = All-nil (λ b. IsFormedTag v.structs b.meaning); from = λ n p h c. p }
+
+-- a parameter list: its parameters and names are formed, and its tags stand aside
+pub record ListIn (t v : World) (params : List ParameterTree) (names : List Binding) (tags : List TagBinding) : Type 0 where
+  pub types : All (IsFormed v.structs) (declarators.types_of_params params)
+  pub formed : All (λ b. IsFormedMeaning v.structs b.meaning) names
+  pub aside : IsAside t v tags
+
+abbrev pub StepIn : World → World → Step → Type 0
+StepIn t v (PointerTo c) = Unit {0}
+StepIn t v (ArrayOf at n) = 0 < n
+StepIn t v OpenArray = Unit {0}
+StepIn t v (FunctionOf params names tags) = ListIn t v params names tags
 
 abbrev pub AreAside : World → World → List Step → Type 0
 AreAside t v [] = Unit {0}
-AreAside t v (step ∷ rest) = IsAside t v (tags_in step) × AreAside t v rest
+AreAside t v (step ∷ rest) = StepIn t v step × AreAside t v rest
 
 -- a declarator whose parameter lists leave tags aside, from the world in which it begins
 abbrev pub ShapeIn : World → Shape → World → Type 0
 ShapeIn t shape v = AreAside t v shape.steps
 
-aside_none : (t v : World) → IsAside t v []
-aside_none t v = record { incomplete = λ n p. absurd p; apart = λ n p q. p; distinct = tt; from = λ n p h c. p }
+step_kept : (t u v : World) (step : Step) → Frame u v → IsLater u.structs v.structs → StepIn t u step → StepIn t v step
+step_kept t u v (PointerTo c) f later a = a
+step_kept t u v (ArrayOf at n) f later a = a
+step_kept t u v OpenArray f later a = a
+step_kept t u v (FunctionOf params names tags) f later a = record {
+  types = all_later u.structs v.structs later (declarators.types_of_params params) a.types;
+  formed = All-weaker (λ b. IsFormedMeaning u.structs b.meaning) (λ b. IsFormedMeaning v.structs b.meaning) (λ b g. meaning_later u.structs v.structs later b.meaning g) names a.formed;
+  aside = aside_kept t u v tags f later a.aside;
+}
 
-pub asides_kept : (t u v : World) (steps : List Step) → Frame u v → AreAside t u steps → AreAside t v steps
-asides_kept t u v [] f a = tt
-asides_kept t u v (step ∷ rest) f a = (aside_kept t u v (tags_in step) f a.0, asides_kept t u v rest f a.1)
+pub asides_kept : (t u v : World) (steps : List Step) → Frame u v → IsLater u.structs v.structs → AreAside t u steps → AreAside t v steps
+asides_kept t u v [] f later a = tt
+asides_kept t u v (step ∷ rest) f later a = (step_kept t u v step f later a.0, asides_kept t u v rest f later a.1)
 
-asides_then : (t v : World) (steps : List Step) (step : Step) → AreAside t v steps → IsAside t v (tags_in step) → AreAside t v (steps ++ step ∷ [])
+asides_then : (t v : World) (steps : List Step) (step : Step) → AreAside t v steps → StepIn t v step → AreAside t v (steps ++ step ∷ [])
 asides_then t v [] step a b = (b, tt)
 asides_then t v (x ∷ rest) step a b = (a.0, asides_then t v rest step a.1 b)
 
+step_formed : (t v : World) (step : Step) → StepIn t v step → IsFormedStep v.structs step
+step_formed t v (PointerTo c) a = tt
+step_formed t v (ArrayOf at n) a = a
+step_formed t v OpenArray a = tt
+step_formed t v (FunctionOf params names tags) a = a.types
+
+pub steps_formed : (t v : World) (steps : List Step) → AreAside t v steps → AreFormedSteps v.structs steps
+steps_formed t v [] a = tt
+steps_formed t v (step ∷ rest) a = (step_formed t v step a.0, steps_formed t v rest a.1)
+
 array_sized : (t w : World) (size_at : Pos) (shape : Shape) (n : Option ℤ) → AreAside t w shape.steps → GoesWith w (ShapeIn t) (typing.array_sized w size_at shape n)
 array_sized t w size_at shape None a = refused_so
-array_sized t w size_at shape (Some (pos n)) a = with_if _ (typed_so (reaches.stays w) (asides_then t w shape.steps _ a (aside_none t w))) refused_so
+array_sized t w size_at shape (Some (pos n)) a = by (nat_lt 0 n) refl
+  where
+    by : (b : Bool) → nat_lt 0 n ≡ b → GoesWith w (ShapeIn t) (if b then Typed (typing.with_step shape (ArrayOf size_at n)) w else Refused (NotConstant size_at))
+    by true e = typed_so (reaches.stays w) (asides_then t w shape.steps (ArrayOf size_at n) a (ltb-true 0 n e))
+    by false e = refused_so
 array_sized t w size_at shape (Some (negsuc n)) a = refused_so
 
 -- the tags of a parameter list, when its scope ends
@@ -265,6 +364,7 @@ list_aside t u v f g good = record {
   incomplete = λ n p. good.incomplete n (open_drop n (length u.tags) v.tags p);
   apart = λ n p q. open_apart n (length u.tags) v.tags good.distinct q p;
   distinct = distinct_drop (length u.tags) v.tags good.distinct;
+  formed = All-drop (λ b. IsFormedTag v.structs b.meaning) (length u.tags) v.tags good.formed.tags;
   from = λ n p h c. (frame_then t (names.opened u) v (frame_then t u (names.opened u) f (frame_same u (names.opened u) refl refl)) g).shut n h c
       (open_drop n (length u.tags) v.tags p);
 }
@@ -328,59 +428,104 @@ pub unless_named_before : {A : Type 0} (w : World) (name : Option DeclaredName) 
 unless_named_before w None p = p
 unless_named_before w (Some named) p = unless_declared named.pos _ p
 
-pub with_parameter : (w : World) (name : Option DeclaredName) (meaning : Meaning) → Reaches w (typing.with_parameter w name meaning)
-with_parameter w None meaning = reaches.stays w
-with_parameter w (Some named) meaning = reaches.named w named.pos named.name meaning
+-- a parameter of a formed type, in the world that is left
+abbrev pub ParamIn : ParameterTree → World → Type 0
+ParamIn param v = IsFormed v.structs param.ty
 
-pub parameter_sized : (w : World) (at : Pos) (name : Option DeclaredName) (k : ℕ) (ty : CTypeTree) (c : Bool) → Goes w (typing.parameter_sized w at name k ty c)
-parameter_sized w at name k (Struct n) c = unless_named_before w name refused
-parameter_sized w at name k Void c = unless_named_before w name (typed (with_parameter w name _))
-parameter_sized w at name k (Int t) c = unless_named_before w name (typed (with_parameter w name _))
-parameter_sized w at name k (Pointer to d) c = unless_named_before w name (typed (with_parameter w name _))
-parameter_sized w at name k (Array of d n) c = unless_named_before w name (typed (with_parameter w name _))
-parameter_sized w at name k (Function n) c = unless_named_before w name (typed (with_parameter w name _))
+with_before : (w : World) (name : Option DeclaredName) {o : Outcome ParameterTree} → GoesWith w ParamIn o → GoesWith w ParamIn (typing.unless_named_before w name o)
+with_before w None p = p
+with_before w (Some named) p = with_declared named.pos _ p
 
-pub parameter_of : (w : World) (at : Pos) (name : Option DeclaredName) (k : ℕ) (form : Form) → Goes w (typing.parameter_of w at name k form)
-parameter_of w at name k (Plain ty c) = if_sized _ _ _ (λ size. parameter_sized w at name k ty c)
-parameter_of w at name k (Unsized ty c) = unless_named_before w name refused
-parameter_of w at name k (Callable params result) = unless_named_before w name refused
+pub with_parameter : (w : World) (name : Option DeclaredName) (k : ℕ) (ty : CTypeTree) (c : Bool) → IsFormed w.structs ty → Reaches w (typing.with_parameter w name (Parameter k ty c))
+with_parameter w None k ty c f = reaches.stays w
+with_parameter w (Some named) k ty c f = reaches.named w named.pos named.name (Parameter k ty c) f
 
-pub parameter_laid : {w : World} (at : Pos) (name : Option DeclaredName) (k : ℕ) (o : Outcome Form) → Goes w o → Goes w (typing.parameter_laid at name k o)
-parameter_laid at name k (Typed form v) (typed r) = goes_after r (parameter_of v at name k (declarators.parameter_type form))
-parameter_laid at name k (Refused q) p = refused
+with_kept : (w : World) (name : Option DeclaredName) (k : ℕ) (ty : CTypeTree) (c : Bool) → IsFormed w.structs ty → IsFormed (typing.with_parameter w name (Parameter k ty c)).structs ty
+with_kept w None k ty c f = f
+with_kept w (Some named) k ty c f = f
 
-pub parameter_made : (w : World) (first : Pos) (base : Form) (k : ℕ) (shape : Shape) → Goes w (typing.parameter_made w first base k shape)
-parameter_made w first base k shape = parameter_laid _ shape.name k _ (laid w _ shape.steps base)
+one_parameter :
+    (w : World) (at : Pos) (name : Option DeclaredName) (k : ℕ) (ty : CTypeTree) (c : Bool) → IsFormed w.structs ty
+    → GoesWith w ParamIn (typing.unless_named_before w name (Typed (typing.parameter_tree at name ty c) (typing.with_parameter w name (Parameter k ty c))))
+one_parameter w at name k ty c f = with_before w name (typed_so (with_parameter w name k ty c f) (with_kept w name k ty c f))
+
+pub parameter_sized : (w : World) (at : Pos) (name : Option DeclaredName) (k : ℕ) (ty : CTypeTree) (c : Bool) → IsFormed w.structs ty → GoesWith w ParamIn (typing.parameter_sized w at name k ty c)
+parameter_sized w at name k (Struct n) c f = with_before w name refused_so
+parameter_sized w at name k Void c f = one_parameter w at name k Void c f
+parameter_sized w at name k (Int t) c f = one_parameter w at name k (Int t) c f
+parameter_sized w at name k (Pointer to d) c f = one_parameter w at name k (Pointer to d) c f
+parameter_sized w at name k (Array of d n) c f = one_parameter w at name k (Array of d n) c f
+parameter_sized w at name k (Function n) c f = absurd f
+
+pub parameter_of : (w : World) (at : Pos) (name : Option DeclaredName) (k : ℕ) (form : Form) → IsFormedForm w.structs form → GoesWith w ParamIn (typing.parameter_of w at name k form)
+parameter_of w at name k (Plain ty c) f = with_size _ _ (complete_size w.structs ty) (λ size e. parameter_sized w at name k ty c f)
+parameter_of w at name k (Unsized ty c) f = with_before w name refused_so
+parameter_of w at name k (Callable params result) f = with_before w name refused_so
+
+pub parameter_laid : {w : World} (at : Pos) (name : Option DeclaredName) (k : ℕ) (o : Outcome Form) → FormAt w o → GoesWith w ParamIn (typing.parameter_laid at name k o)
+parameter_laid at name k (Typed form v) (formed_at _ f) = parameter_of v at name k (declarators.parameter_type form) (parameter_formed v.structs form f)
+parameter_laid at name k (Refused q) p = refused_so
+
+pub parameter_made :
+    (w : World) (first : Pos) (base : Form) (k : ℕ) (shape : Shape) → AreFormedSteps w.structs shape.steps → IsFormedForm w.structs base → GoesWith w ParamIn (typing.parameter_made w first base k shape)
+parameter_made w first base k shape s f = parameter_laid _ shape.name k _ (laid_at w _ shape.steps base s f)
 
 -- ---- the relation
 
 pub valued : {w : World} {first : Outcome OperandTree → Type 0} → AllGo w first → AllGo w (Valued first)
 valued f = then_goes f (λ x v r. is_goes goes_same)
 
-pub of_type_name : {w : World} (first : Pos) {specs : Outcome specifiers.SpecsTree → Type 0} {declarator : World → Outcome Shape → Type 0} → AllGo w specs → ((v : World) → AllGo v (declarator v)) → AllGo w (typing.OfTypeName first specs declarator)
+pub of_type_name :
+    {w : World} (first : Pos) {specs : Outcome specifiers.SpecsTree → Type 0} {declarator : World → Outcome Shape → Type 0}
+    → AllWith w SpecsIn specs → ((v : World) → AllWith v (ShapeIn v) (declarator v)) → AllWith w FormIn (typing.OfTypeName first specs declarator)
 of_type_name first f g =
-    then_goes f (λ s v r. then_goes (is_goes (type_told specifiers.OfPlainType first s v)) (λ base v2 r2. then_goes (g v2) (λ shape v3 r3. is_goes (type_name v3 first base shape))))
+    so_with f (λ s v r p k. so_with (is_with (λ good. form_in _ (type_told_at specifiers.OfPlainType first s v p))) (λ base v2 r2 b k2.
+    so_with (g v2) (λ shape v3 r3 a k3. is_with (λ good.
+    type_name v3 first base shape (steps_formed v2 v3 shape.steps a) (form_later v2.structs v3.structs (is_later v2 v3 k2.good k3.good k3.frame) base b)))))
 
-pub of_parameter : {w : World} (k : ℕ) (first : Pos) {specs : Outcome specifiers.SpecsTree → Type 0} {declarator : World → Outcome Shape → Type 0} → AllGo w specs → ((v : World) → AllGo v (declarator v)) → AllGo w (typing.OfParameter k first specs declarator)
-of_parameter k first f g =
-    then_goes f (λ s v r. then_goes (is_goes (type_told specifiers.OfParameter first s v)) (λ base v2 r2. then_goes (g v2) (λ shape v3 r3. is_goes (parameter_made v3 first base k shape))))
+pub of_parameter :
+    {w : World} (k : ℕ) (first : Pos) {specs : Outcome specifiers.SpecsTree → Type 0} {declarator : World → Outcome Shape → Type 0}
+    → AllWith w SpecsIn specs → ((v : World) → AllWith v (ShapeIn v) (declarator v)) → AllWith w ParamIn (typing.OfParameter k first specs declarator)
+of_parameter n first f g =
+    so_with f (λ s v r p k. so_with (is_with (λ good. form_in _ (type_told_at specifiers.OfParameter first s v p))) (λ base v2 r2 b k2.
+    so_with (g v2) (λ shape v3 r3 a k3. is_with (λ good.
+    parameter_made v3 first base n shape (steps_formed v2 v3 shape.steps a) (form_later v2.structs v3.structs (is_later v2 v3 k2.good k3.good k3.frame) base b)))))
+
+-- nothing so far
+pub none_yet : (w : World) → SpecsIn specifiers.no_specs_yet w
+none_yet w = All-nil (IsFormedForm w.structs)
+
+abbrev pub ParamsIn : List ParameterTree → World → Type 0
+ParamsIn params v = All (λ param. IsFormed v.structs param.ty) params
+
+pub no_params_yet : (w : World) → ParamsIn [] w
+no_params_yet w = All-nil (λ param. IsFormed w.structs param.ty)
+
+pub params_after : (w v : World) (params : List ParameterTree) → IsLater w.structs v.structs → ParamsIn params w → ParamsIn params v
+params_after w v params later all = All-weaker (λ x. IsFormed w.structs x.ty) (λ x. IsFormed v.structs x.ty) (λ x f. formed_later w.structs v.structs later x.ty f) params all
 
 -- ---- a struct in its braces
 
-closes : {w v u : World} {n : ℕ} {done : List MemberMade} → Reaches w v → IsBegun w v n → GoesWith v MadeIn (Typed done u) → Goes w (typing.struct_made u n done)
-closes {w = w} {v = v} {u = u} {n = n} {done = done} r begun (typed_so s made) = typed (reaches.body w v u n (typing.members_made done) r begun s made)
+closes : {w v u : World} {n : ℕ} {done : List MemberMade} → Reaches w v → IsBegun w v n → Kept v u → GoesWith v MadeIn (Typed done u) → GoesWith w PartIn (typing.struct_made u n done)
+closes {w = w} {v = v} {u = u} {n = n} {done = done} r begun k (typed_so s made) =
+    let h = complete_below v.structs n begun.incomplete.def begun.incomplete.there in let l = k.frame.longer in
+    typed_so (reaches.body w v u n (typing.members_made done) r begun s made) (rw length-set (omega arith))
+
+kept_made : {v u : World} {done : List MemberMade} → Good v → GoesWith v MadeIn (Typed done u) → Kept v u
+kept_made {v = v} {u = u} good (typed_so s made) = kept v u s good
 
 in_braces :
     {w v : World} {n : ℕ} {types : Outcome (List MemberMade) → Type 0} → Good w → GoesWith w (Begins w) (Typed n v) → AllWith v MadeIn types
-    → (o : Outcome specifiers.SpecPart) → Then types (λ done u. Is (typing.struct_made u n done)) o → Goes w o
-in_braces {w = w} {v = v} good (typed_so r begun) f o (goes_on p e) = subst (λ z. Goes w z) (sym e) (closes r begun (f (kept w v r good).good _ p))
-in_braces good h f _ (stops p) = refused
+    → (o : Outcome specifiers.SpecPart) → Then types (λ done u. Is (typing.struct_made u n done)) o → GoesWith w PartIn o
+in_braces {w = w} {v = v} good (typed_so r begun) f o (goes_on p e) =
+    let here = (kept w v r good).good in let s = f here _ p in subst (λ z. GoesWith w PartIn z) (sym e) (closes r begun (kept_made here s) s)
+in_braces good h f _ (stops p) = refused_so
 
 body_goes :
     {w : World} {x : Outcome ℕ} {types : World → Outcome (List MemberMade) → Type 0} → (Good w → GoesWith w (Begins w) x) → ((v : World) → AllWith v MadeIn (types v))
-    → AllGo w (Then (Is x) (λ n v. Then (types v) (λ done u. Is (typing.struct_made u n done))))
+    → AllWith w PartIn (Then (Is x) (λ n v. Then (types v) (λ done u. Is (typing.struct_made u n done))))
 body_goes {w = w} b f good o (goes_on {a = n} {w = v} p s) = in_braces good (subst (λ z. GoesWith w (Begins w) z) (sym p) (b good)) (f v) o s
-body_goes b f good _ (stops p) = refused
+body_goes b f good _ (stops p) = refused_so
 
 mutual
   unfolding Types TypesArgs TypesSpecs TypesSpec TypesMembers TypesMemberNames TypesEnumerators TypesDeclarator TypesParams
@@ -400,9 +545,9 @@ mutual
   go w (written.Unary at op a) = then_goes (go w a) (λ x v r. is_goes (nodes_go.unary v at op x))
   go w (written.SizeofExpr at a) = then_goes (go w a) (λ x v r. is_goes (nodes_go.given _ _ v))
   go w (written.SizeofType at specs declarator) =
-      then_goes (of_type_name _ (go_specs w _ _ specs) (λ v. all_forget (go_declarator v declarator))) (λ form v r. is_goes (nodes_go.size_of_form v at form))
+      then_goes (all_forget (of_type_name _ (go_specs w _ _ specs (none_yet w)) (λ v. go_declarator v declarator))) (λ form v r. is_goes (nodes_go.size_of_form v at form))
   go w (written.Cast at specs declarator a) =
-      then_goes (of_type_name _ (go_specs w _ _ specs) (λ v. all_forget (go_declarator v declarator)))
+      then_goes (all_forget (of_type_name _ (go_specs w _ _ specs (none_yet w)) (λ v. go_declarator v declarator)))
       (λ form v r. then_goes (valued (go v a)) (λ x v2 r2. is_goes (nodes_go.cast v2 at form x)))
   go w (written.Binary at op a b) = then_goes (valued (go w a)) (λ x v r. then_goes (valued (go v b)) (λ y v2 r2. is_goes (nodes_go.given _ _ v2)))
   go w (written.Cond at c a b) =
@@ -415,26 +560,26 @@ mutual
   go_list w done written.no_exprs = is_goes goes_same
   go_list w done (written.more_exprs e es) = then_goes (valued (go w e)) (λ x v r. go_list v _ es)
 
-  pub go_specs : (w : World) (alone : Bool) (done : _) (specs : written.SpecTrees) → AllGo w (TypesSpecs w alone done specs)
-  go_specs w alone done written.no_specs = is_goes goes_same
-  go_specs w alone done (written.more_specs spec rest) = then_goes (go_spec w alone spec) (λ part v r. go_specs v alone _ rest)
+  pub go_specs : (w : World) (alone : Bool) (done : _) (specs : written.SpecTrees) → SpecsIn done w → AllWith w SpecsIn (TypesSpecs w alone done specs)
+  go_specs w alone done written.no_specs all good = is_with (λ g. typed_so (reaches.stays w) all) good
+  go_specs w alone done (written.more_specs spec rest) all good =
+      so_with (go_spec w alone spec) (λ part v r p k. go_specs v alone _ rest (with_part v done part (specs_after w v done (is_later w v good k.good k.frame) all) p)) good
 
-  pub go_spec : (w : World) (alone : Bool) (spec : written.SpecTree) → AllGo w (TypesSpec w alone spec)
-  go_spec w alone (written.Storage at word) = is_goes goes_same
-  go_spec w alone (written.Const at) = is_goes goes_same
-  go_spec w alone (written.Basic at word) = is_goes goes_same
-  go_spec w alone (written.TypedefName at name) = is_goes (typedef_named w at _)
-  go_spec w alone (written.Struct at tag) = then_goes (is_goes (struct_found w alone tag _)) (λ n v r. is_goes goes_same)
-  go_spec w alone (written.StructBody at tag members) =
-      body_goes (struct_opened w tag) (λ v. go_members v [] members (nothing_made v.structs))
-  go_spec w alone (written.Enum at tag) = then_goes (is_goes (enum_found w tag _)) (λ unit v r. is_goes goes_same)
+  pub go_spec : (w : World) (alone : Bool) (spec : written.SpecTree) → AllWith w PartIn (TypesSpec w alone spec)
+  go_spec w alone (written.Storage at word) = is_with (λ good. typed_so (reaches.stays w) tt)
+  go_spec w alone (written.Const at) = is_with (λ good. typed_so (reaches.stays w) tt)
+  go_spec w alone (written.Basic at word) = is_with (λ good. typed_so (reaches.stays w) tt)
+  go_spec w alone (written.TypedefName at name) = is_with (λ good. typedef_named w at _ (λ m e. meaning_formed w name m good e))
+  go_spec w alone (written.Struct at tag) = so_with (is_with (λ good. struct_found w alone tag good)) (λ n v r p k. is_with (λ good. typed_so (reaches.stays v) p))
+  go_spec w alone (written.StructBody at tag members) = body_goes (struct_opened w tag) (λ v. go_members v [] members (nothing_made v.structs))
+  go_spec w alone (written.Enum at tag) = then_with (is_goes (enum_found w tag _)) (λ unit v r k. is_with (λ good. typed_so (reaches.stays v) tt))
   go_spec w alone (written.EnumBody at tag list) =
-      then_goes (is_goes (enum_opened w tag)) (λ unit v r. then_goes (go_enumerators v _ list) (λ next v2 r2. is_goes (typed (enum_closes v2 tag))))
+      then_with (is_goes (enum_opened w tag)) (λ unit v r k. then_with (go_enumerators v _ list) (λ next v2 r2 k2. is_with (λ good. typed_so (enum_closes v2 tag) tt)))
 
   pub go_members : (w : World) (done : _) (members : written.MemberDeclTrees) → MadeIn done w → AllWith w MadeIn (TypesMembers w done members)
   go_members w done written.no_members made good = is_with (λ g. typed_so (reaches.stays w) made) good
   go_members w done (written.more_members (written.Members at specs list) rest) made good =
-      then_with (go_specs w _ _ specs) (λ s v r k. then_with (is_goes (type_told specifiers.OfPlainType (typing.first_of at specs) s v)) (λ base v2 r2 k2.
+      then_with (all_forget (go_specs w _ _ specs (none_yet w))) (λ s v r k. then_with (is_goes (type_told specifiers.OfPlainType (typing.first_of at specs) s v)) (λ base v2 r2 k2.
       so_with (go_names v2 _ base done list (made_after v v2 done k.good k2.frame (made_after w v done good k.frame made)))
       (λ members v3 r3 made3 k3. go_members v3 _ rest made3))) good
 
@@ -456,22 +601,31 @@ mutual
   go_declarator w (written.Name at name) = is_with (λ good. typed_so (reaches.stays w) tt)
   go_declarator w (written.Grouped at inner) = go_declarator w inner
   go_declarator w (written.Pointer at is_const inner) =
-      so_with (go_declarator w inner) (λ shape v r a k. is_with (λ good. typed_so (reaches.stays v) (asides_then w v shape.steps _ a (aside_none w v))))
+      so_with (go_declarator w inner) (λ shape v r a k. is_with (λ good. typed_so (reaches.stays v) (asides_then w v shape.steps (PointerTo is_const) a tt)))
   go_declarator w (written.Array at inner size) =
       so_with (go_declarator w inner) (λ shape v r a k. then_with (valued (go v size)) (λ x v2 r2 k2.
-      is_with (λ good. array_sized w v2 (expr_pos size) shape (constant_value x) (asides_kept w v v2 shape.steps k2.frame a))))
+      is_with (λ good. array_sized w v2 (expr_pos size) shape (constant_value x) (asides_kept w v v2 shape.steps k2.frame (is_later v v2 k.good k2.good k2.frame) a))))
   go_declarator w (written.OpenArray at inner) =
-      so_with (go_declarator w inner) (λ shape v r a k. is_with (λ good. typed_so (reaches.stays v) (asides_then w v shape.steps _ a (aside_none w v))))
+      so_with (go_declarator w inner) (λ shape v r a k. is_with (λ good. typed_so (reaches.stays v) (asides_then w v shape.steps OpenArray a tt)))
   go_declarator w (written.Function at inner params) =
-      so_with (go_declarator w inner) (λ shape v r a k. scope_with enters (go_params (names.opened v) _ params) (λ list v2 r2 k2.
+      so_with (go_declarator w inner) (λ shape v r a k. list_with (names.opened v) enters (go_params (names.opened v) [] params (no_params_yet (names.opened v))) (λ list v2 r2 p k2.
       is_with (λ good. typed_so (reaches.scoped v v2 r2)
-      (asides_then w (names.closed v v2) shape.steps _ (asides_kept w v _ shape.steps (frame_closed v v2 k2.frame) a) (list_aside w v v2 k.frame k2.frame k2.good)))))
+      (asides_then w (names.closed v v2) shape.steps (FunctionOf list (drop (length v.names) v2.names) (drop (length v.tags) v2.tags))
+      (asides_kept w v _ shape.steps (frame_closed v v2 k2.frame) (is_later v (names.closed v v2) k.good (good_closed v v2 k2.good) (frame_closed v v2 k2.frame)) a)
+      (record {
+        types = All-map (IsFormed v2.structs) (λ param. param.ty) list p;
+        formed = All-drop (λ b. IsFormedMeaning v2.structs b.meaning) (length v.names) v2.names k2.good.formed.names;
+        aside = list_aside w v v2 k.frame k2.frame k2.good;
+      })))))
   go_declarator w (written.VoidFunction at inner) =
-      so_with (go_declarator w inner) (λ shape v r a k. is_with (λ good. typed_so (reaches.stays v) (asides_then w v shape.steps _ a (aside_none w v))))
+      so_with (go_declarator w inner) (λ shape v r a k. is_with (λ good. typed_so (reaches.stays v) (asides_then w v shape.steps (FunctionOf [] [] []) a
+      (record { types = All-nil (IsFormed v.structs); formed = All-nil (λ b. IsFormedMeaning v.structs b.meaning); aside = aside_none w v }))))
 
-  pub go_params : (w : World) (done : _) (params : written.ParamTrees) → AllGo w (TypesParams w done params)
-  go_params w done written.no_params = is_goes goes_same
-  go_params w done (written.more_params (written.Named at specs declarator) rest) =
-      then_goes (of_parameter _ _ (go_specs w _ _ specs) (λ v. all_forget (go_declarator v declarator))) (λ param v r. go_params v _ rest)
-  go_params w done (written.more_params (written.Abstract at specs declarator) rest) =
-      then_goes (of_parameter _ _ (go_specs w _ _ specs) (λ v. all_forget (go_declarator v declarator))) (λ param v r. go_params v _ rest)
+  pub go_params : (w : World) (done : _) (params : written.ParamTrees) → ParamsIn done w → AllWith w ParamsIn (TypesParams w done params)
+  go_params w done written.no_params all good = is_with (λ g. typed_so (reaches.stays w) all) good
+  go_params w done (written.more_params (written.Named at specs declarator) rest) all good =
+      so_with (of_parameter _ _ (go_specs w _ _ specs (none_yet w)) (λ v. go_declarator v declarator))
+      (λ param v r p k. go_params v _ rest (All-push (λ x. IsFormed v.structs x.ty) done param (params_after w v done (is_later w v good k.good k.frame) all) p)) good
+  go_params w done (written.more_params (written.Abstract at specs declarator) rest) all good =
+      so_with (of_parameter _ _ (go_specs w _ _ specs (none_yet w)) (λ v. go_declarator v declarator))
+      (λ param v r p k. go_params v _ rest (All-push (λ x. IsFormed v.structs x.ty) done param (params_after w v done (is_later w v good k.good k.frame) all) p)) good

@@ -1,11 +1,11 @@
 -- What holds of typing.
-use Rattle.std.specs.Prelude.{◌≡◌, ℕ, Bool, true, false, IsTrue, Some, IsSomeAnd, List, [], ◌∷◌, slice_get}
+use Rattle.std.specs.Prelude.{◌≡◌, ℕ, IsTrue, Some, IsSomeAnd, List, slice_get}
 use Rattle.c_written.specs.WrittenFile.{FileTree, OuterTree}
 use Rattle.c_syntax.specs.Types.{CTypeTree, ObjectTree}
-use Rattle.c_syntax.specs.Program.{MemberTree, StructDefTree, TFunctionTree}
-use Rattle.c_layout.specs.Layout.{members_of}
+use Rattle.c_syntax.specs.Program.{StructDefTree, TFunctionTree}
 use Rattle.c_layout.specs.LaidOut.{IsLaidOut}
 use Rattle.c_layout.specs.Heights.{NoneHoldsItself}
+use Rattle.c_typing.specs.Later.{has_members}
 use Rattle.c_typing.specs.World.{World, Outcome, Typed}
 use Rattle.c_typing.specs.Context.{Context}
 use Rattle.c_typing.specs.File.{FileOutcome, TypesFile, TypesOuters, nothing_yet}
@@ -17,14 +17,6 @@ One {A} kind = (o q : Outcome A) → kind o → kind q → o ≡ q
 -- a file has one outcome at most: a typed program, or its first refusal
 abbrev pub FilesHaveOne : Type 0
 FilesHaveOne = (file : FileTree) (o q : FileOutcome) → TypesFile file o → TypesFile file q → o ≡ q
-
--- whether a struct has its members, from its `}` on (C11 6.7.2.1p8)
-abbrev pub has_members : List MemberTree → Bool
-has_members [] = false
-has_members (member ∷ rest) = true
-
-abbrev pub is_complete : List StructDefTree → ℕ → Bool
-is_complete structs n = has_members (members_of structs n)
 
 -- a function that keeps its name and its result (C11 6.7p4)
 pub record IsSameFunction (f g : TFunctionTree) : Type 0 where

@@ -15,5 +15,7 @@ pub mod Decls
 pub mod Stmts
 pub mod Settled
 pub mod File
+pub mod Later
+pub mod Formed
 pub mod Laws
 pub mod Samples

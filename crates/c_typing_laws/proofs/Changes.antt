@@ -22,10 +22,10 @@ use Rattle.c_layout.specs.RowTypes.{IsInteger, MoveRow, CompoundRow, StepRow}
 use Rattle.c_layout.specs.TypedNodes.{Scope}
 use Rattle.c_typing.specs.Operands.{complete_size}
 use Rattle.c_typing.specs.Rows.{CompoundTree, compound_integers, compound_shift, compound_move}
-use Rattle.c_typing_laws.specs.Later.{IsLater}
+use Rattle.c_typing.specs.Later.{IsLater}
 use Rattle.c_typing_laws.specs.TypedValues.{IsTypedValue}
 use Rattle.c_typing_laws.specs.RowLaws.{IsChange, ChangesAreTyped, StepsAreTyped}
-use Rattle.c_typing_laws.proofs.Later.{size_later}
+use Rattle.c_typing.proofs.Later.{size_later}
 use Rattle.c_typing_laws.proofs.Wide.{balanced_again}
 use Rattle.c_typing_laws.proofs.Values.{value_given, fits, as_int_value, as_int_type}
 use Rattle.c_typing_laws.proofs.Operators.{no_node}

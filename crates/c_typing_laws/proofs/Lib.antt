@@ -1,4 +1,3 @@
-pub mod Later
 pub mod Same
 pub mod Wide
 pub mod Values

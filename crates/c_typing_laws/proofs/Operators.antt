@@ -27,10 +27,10 @@ use Rattle.c_typing.specs.SameTypes.{is_same_but_const}
 use Rattle.c_typing.specs.Operands.{as_int, as_null, complete_size}
 use Rattle.c_typing.specs.Constants.{is_null_constant}
 use Rattle.c_typing.specs.Rows.{is_scalar, balanced_row, shift_row, moved_row, plus_row, minus_row, order_row, equality_row}
-use Rattle.c_typing_laws.specs.Later.{IsLater}
+use Rattle.c_typing.specs.Later.{IsLater}
 use Rattle.c_typing_laws.specs.TypedValues.{IsTypedValue}
 use Rattle.c_typing_laws.specs.RowLaws.{OperatorsAreTyped}
-use Rattle.c_typing_laws.proofs.Later.{size_later}
+use Rattle.c_typing.proofs.Later.{size_later}
 use Rattle.c_typing_laws.proofs.Same.{one_but_const}
 use Rattle.c_typing_laws.proofs.Wide.{promoted_same, balanced_same}
 use Rattle.c_typing_laws.proofs.Values.{value_given, fits, as_int_value, as_int_type, null_value}

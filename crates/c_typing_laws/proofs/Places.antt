@@ -25,11 +25,11 @@ use Rattle.c_typing.specs.World.{World, Refusal, Typed, Refused, unless}
 use Rattle.c_typing.specs.Operands.{OperandTree, Place, Value, read_by, value_of, is_unsized}
 use Rattle.c_typing.specs.Rows.{is_scalar, unary_row, star_row, plus_row, member_node, member_at, member_row, arrow_row, index_row}
 use Rattle.c_typing.specs.Nodes.{given, given_place}
-use Rattle.c_typing.specs.Laws.{has_members}
-use Rattle.c_typing_laws.specs.Later.{IsLater}
+use Rattle.c_typing.specs.Later.{has_members}
+use Rattle.c_typing.specs.Later.{IsLater}
 use Rattle.c_typing_laws.specs.TypedValues.{IsTypedValue, IsObjectType, IsTypedLvalue, IsTypedOperand}
 use Rattle.c_typing_laws.specs.NodeLaws.{ReadsAreTyped, PrefixesAreTyped, BinariesAreTyped, IndexesAreTyped, MembersAreTyped, ArrowsAreTyped, ObjectsAreTyped}
-use Rattle.c_typing_laws.proofs.Later.{members_later}
+use Rattle.c_typing.proofs.Later.{members_later}
 use Rattle.c_typing_laws.proofs.Wide.{promoted_same}
 use Rattle.c_typing_laws.proofs.Values.{value_given, as_int_value, as_int_type}
 use Rattle.c_typing_laws.proofs.Operators.{no_node, made, proper_of, plus_typed, scalar_value, operators_are_typed}

@@ -14,10 +14,10 @@ use Rattle.c_typing.specs.SameTypes.{is_same}
 use Rattle.c_typing.specs.Operands.{as_type, as_null, complete_size}
 use Rattle.c_typing.specs.Constants.{is_null_constant}
 use Rattle.c_typing.specs.Rows.{store_row, stored_row, extent_of, Stored, Scalar, Copied}
-use Rattle.c_typing_laws.specs.Later.{IsLater}
+use Rattle.c_typing.specs.Later.{IsLater}
 use Rattle.c_typing_laws.specs.TypedValues.{IsTypedValue}
 use Rattle.c_typing_laws.specs.RowLaws.{IsStored, IsPut, ValuesAreStored, ValuesArePut}
-use Rattle.c_typing_laws.proofs.Later.{size_later, align_later}
+use Rattle.c_typing.proofs.Later.{size_later, align_later}
 use Rattle.c_typing_laws.proofs.Same.{one_type}
 use Rattle.c_typing_laws.proofs.Values.{value_given, as_int_value, as_int_type, as_pointer_value, as_type_type, null_value}
 use Rattle.c_typing_laws.proofs.Operators.{no_node}

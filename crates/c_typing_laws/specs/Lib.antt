@@ -1,4 +1,3 @@
-pub mod Later
 pub mod TypedValues
 pub mod RowLaws
 pub mod NodeLaws

@@ -18,7 +18,7 @@ use Rattle.c_typing.specs.World.{World, Plain, Typed, Function}
 use Rattle.c_typing.specs.Names.{meaning_of}
 use Rattle.c_typing.specs.Operands.{OperandTree, value_of}
 use Rattle.c_typing.specs.Nodes.{object_place, number, character, unary, binary, indexed, member, arrow, assigned, compound, stepped, conditional, sequenced, size_of, cast, result_of, params_of, called}
-use Rattle.c_typing_laws.specs.Later.{IsLater}
+use Rattle.c_typing.specs.Later.{IsLater}
 use Rattle.c_typing_laws.specs.TypedValues.{IsTypedValue, IsTypedLvalue, IsTypedOperand, AreTypedValues}
 
 -- the value in a place (C11 6.3.2.1p2 and p3)

@@ -13,7 +13,7 @@ use Rattle.c_layout.specs.ProperTypes.{IsProperType}
 use Rattle.c_layout.specs.RowTypes.{StoreRow, CopyRow, CompoundRow, StepRow}
 use Rattle.c_layout.specs.TypedNodes.{Scope}
 use Rattle.c_typing.specs.Rows.{binary_row, store_row, stored_row, Stored, Scalar, Copied, compound_row, CompoundTree, step_row}
-use Rattle.c_typing_laws.specs.Later.{IsLater}
+use Rattle.c_typing.specs.Later.{IsLater}
 use Rattle.c_typing_laws.specs.TypedValues.{IsTypedValue}
 
 -- an operator between two values (C11 6.5.5 to 6.5.14)
