@@ -1,6 +1,8 @@
 pub mod Forms
 mod Closed
+mod Inlining
 mod Left
+pub mod Counts
 mod Deep
 mod Orders
 mod Steps

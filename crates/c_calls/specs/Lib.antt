@@ -1,4 +1,5 @@
 pub mod Depths
 pub mod Graph
+pub mod Inlined
 pub mod Placed
 pub mod Search

@@ -16,9 +16,11 @@ mod depth;
 mod exprs;
 mod graph;
 mod search;
+mod size;
 mod stmts;
 
 pub use call::{Call, Calls};
 pub use depth::{DepthError, check_depth};
 pub use graph::CallGraph;
 pub use search::{OrderError, order_of};
+pub use size::inlined_size;
