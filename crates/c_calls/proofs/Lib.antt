@@ -1,5 +1,6 @@
 pub mod Forms
 mod Closed
+mod Firsts
 mod Inlining
 mod Left
 pub mod Counts

@@ -3,3 +3,4 @@ pub mod Graph
 pub mod Inlined
 pub mod Placed
 pub mod Search
+pub mod Undefined
