@@ -65,19 +65,19 @@ each_at P (x ∷ xs) zero d less h = h zero
 each_at P (x ∷ xs) (suc k) d less h = each_at (λ k. P (suc k)) xs k d (omega (arith, less)) (λ k. h (suc k))
 
 module _ (graph : List (Option (List PlacedCall))) (order : List ℕ) (o : IsOrderOf graph order) (i : ℕ) (inside : i < length order) where
-  abbrev next : ℕ
+  abbrev pub next : ℕ
   next = get_or order i 0
 
   -- what a function of the order calls stands before any place that is not before it
-  called_before : (k : ℕ) → k ≤ i → All (λ call. Contains (take i order) call.callee) (calls_from graph (get_or order k 0))
+  pub called_before : (k : ℕ) → k ≤ i → All (λ call. Contains (take i order) call.callee) (calls_from graph (get_or order k 0))
   called_before k le = All-weaker (λ call. Contains (take k order) call.callee) (λ call. Contains (take i order) call.callee)
       (λ call c. contains_front order k i call.callee le c) (calls_from graph (get_or order k 0))
       (each_at (λ k f. All (λ call. Contains (take k order) call.callee) (calls_from graph f)) order k 0 (omega (arith, le, inside)) o.callees_first)
 
-  once : times next order ≡ 1
+  pub once : times next order ≡ 1
   once = o.once next (All-get_or (IsDefined graph) order i 0 inside o.defined)
 
-  other : (f : ℕ) → Contains (take i order) f → f ≢ next
+  pub other : (f : ℕ) → Contains (take i order) f → f ≢ next
   other f c e = not_before next order i inside refl once (subst (Contains (take i order)) e c)
 
   -- the calls of the next function are of functions that stand before it

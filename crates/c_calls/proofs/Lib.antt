@@ -1,6 +1,9 @@
 pub mod Forms
 mod Closed
+mod Firsts
+mod Inlining
 mod Left
+pub mod Counts
 mod Deep
 mod Orders
 mod Steps

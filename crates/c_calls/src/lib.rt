@@ -1,14 +1,21 @@
-//! The calls of a program: which a function makes, and whether they lead from a function back to itself.
+//! The calls of a program: an order in which each function stands after those that it calls, and what its runs may
+//! come to by calls.
 //!
-//! The calls of each function are taken out of its typed body once, in their order, as a `CallGraph`. All that is
-//! asked of calls is asked of this graph, by loops: a program may have 70,000 functions that call one another in
-//! a chain.
+//! The calls of each function are taken out of its typed body once, in their order, as a `CallGraph`. All else is
+//! asked of this graph, by loops: a program may have 70,000 functions that call one another in a chain. Each call
+//! takes time in the size of the graph.
 //!
-//! For example, where `f` calls `g` and `g` calls `f`, the closed list has the call of `g` and the call of `f`.
+//! For example, where `main` calls `f`, and `f` calls itself twice, there is no order, and the closed list has the
+//! first call of `f` in `f`. Without it the order is `f`, `main`, and the inlined size of `main` counts the
+//! statements of `f` once for each call.
 //!
 //! | What | Stated in `specs/` | Promised by |
 //! |---|---|---|
-//! | the calls of a function | `Calls` of c_layout | `CallGraph::of` |
+//! | the calls of a function | `Calls` of c_layout; `Graph` | `CallGraph::of` |
+//! | closed lists of calls, orders | `Graph` | `order_of` |
+//! | calls of functions without a body | `Undefined` | `undefined_call` |
+//! | chains of more than 64 calls | `Graph`, `Depths` | `check_depth` |
+//! | inlined sizes | `Inlined` | `inlined_size` |
 #![tactic(auto)]
 
 mod call;
@@ -16,9 +23,15 @@ mod depth;
 mod exprs;
 mod graph;
 mod search;
+mod size;
 mod stmts;
+#[cfg(test)]
+mod tests;
+mod undefined;
 
 pub use call::{Call, Calls};
 pub use depth::{DepthError, check_depth};
 pub use graph::CallGraph;
 pub use search::{OrderError, order_of};
+pub use size::inlined_size;
+pub use undefined::undefined_call;
