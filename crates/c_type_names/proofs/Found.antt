@@ -1,6 +1,6 @@
 -- What is found in a list that is seen through trees.
 use Rattle.std.proofs.Common.{◌≡◌, refl, sym, ap, ◌∙◌, ℕ, zero, suc, Bool, true, false, cond, List, [], ◌∷◌, ◌++◌, drop, map, Bor, Option, Some, None}
-use Rattle.std.specs.Prelude.{find, reverse}
+use Rattle.std.specs.Prelude.{find, reverse, IfSome, slice_get, slice_set}
 use Rattle.std.specs.Option.{option_map, option_copied}
 use Rattle.std.proofs.lemmas.List.{map-append, reverse-append}
 
@@ -45,3 +45,9 @@ first_itself tree test n xs = sym (same_option (find test (drop n (map tree xs))
 
 pub last_itself : {A B : Type 0} (tree : A → B) (test : B → Bool) (xs : List A) → find test (reverse (map tree xs)) ≡ option_map tree (find (λ a. test (tree a)) (reverse xs))
 last_itself tree test xs = sym (same_option (find test (reverse (map tree xs)))) ∙ last_tree tree (λ b. b) test xs
+
+-- one put in the place of another of the same name
+pub set_named : {A : Type 0} (name_of : A → List ℕ) (xs : List A) (n : ℕ) (x : A) → IfSome (slice_get xs n) (λ old. name_of x ≡ name_of old) → map name_of xs ≡ map name_of (slice_set xs n x)
+set_named name_of [] n x h = refl
+set_named name_of (y ∷ ys) zero x h = ap (λ v. v ∷ map name_of ys) (sym h)
+set_named name_of (y ∷ ys) (suc n) x h = ap (λ v. name_of y ∷ v) (set_named name_of ys n x h)

@@ -63,7 +63,7 @@ low_step true low p o l h = l
 low_step false low p None l h = tt
 low_step false low p (Some q) l h = omega arith
 
-found_low : (test : ℕ → Bool) (low high : ℕ) (ps : List ℕ) → Rise low high ps → IfSome (find test ps) (λ p. low ≤ p)
+pub found_low : (test : ℕ → Bool) (low high : ℕ) (ps : List ℕ) → Rise low high ps → IfSome (find test ps) (λ p. low ≤ p)
 found_low test low high [] h = tt
 found_low test low high (p ∷ ps) h = low_step (test p) low p (find test ps) h.0 (found_low test (suc p) high ps h.2)
 

@@ -1,5 +1,6 @@
 -- What the code holds of names and tags, as the definition of typing has it.
-use Rattle.std.specs.Prelude.{List, map}
+use Rattle.std.specs.Prelude.{ℕ, zero, suc, List, [], ◌∷◌, map, Option}
+use Rattle.c_written.specs.declared.place.Pos.{Pos}
 use Rattle.c_syntax.specs.Types.{ctype_tree}
 use Rattle.c_typing.specs.World as typing
 use Rattle.c_type_names.specs.declared.types.Form.{Form}
@@ -46,3 +47,9 @@ labelled_tree l = record { label = l.label; pos = l.pos }
 
 abbrev pub case_tree : CaseAt → typing.CaseAt
 case_tree c = record { value = c.value; pos = c.pos }
+
+-- the tag at a place now has this place of its definition and this meaning
+abbrev pub redefined_at : Option Pos → typing.TagMeaning → ℕ → List typing.TagBinding → List typing.TagBinding
+redefined_at defined meaning n [] = []
+redefined_at defined meaning zero (b ∷ bs) = record b { defined = defined; meaning = meaning } ∷ bs
+redefined_at defined meaning (suc n) (b ∷ bs) = b ∷ redefined_at defined meaning n bs

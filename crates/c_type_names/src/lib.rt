@@ -19,8 +19,10 @@
 //! | names that need no declaration | `Names` of `c_typing` | `input_type`, `is_reserved` |
 #![tactic(auto)]
 
+mod enum_tags;
 mod error;
 mod name_index;
+mod objects;
 mod reserved;
 mod struct_tags;
 mod table;

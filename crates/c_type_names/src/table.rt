@@ -36,7 +36,8 @@ impl<T: Named> Model for Table<T> {
 }
 
 impl<T: Named> Table<T> {
-    ghost use Rattle.std.specs.Prelude.{◌≡◌, [], ◌∷◌, ◌++◌, length, take, drop, reverse, find, IfOk, OnOk};
+    ghost use Rattle.std.specs.Prelude.{◌≡◌, [], ◌∷◌, ◌++◌, ◌<◌, length, map, take, drop, reverse, find, slice_get, slice_set, Some, IfSome, IfOk, OnOk};
+    ghost use Rattle.c_type_names.specs.Places.{first_place};
     ghost use Rattle.std.specs.Option.{option_copied};
     ghost use Rattle.std.specs.Str.{bytes_eq};
 
@@ -72,6 +73,31 @@ impl<T: Named> Table<T> {
     {
         let place = self.index.first_from(name, from)?;
         self.items.get(place)
+    }
+
+    /// The place of the first one from a place on that has the name.
+    pub fn place_from(&self, name: &[u8], from: usize) -> Option<usize>
+        ensures place { result ≡ first_place from name.now (map T.name_of self.now) }
+        ensures small { IfSome result (λ place. place < usize.MAX) }
+    {
+        self.index.first_from(name, from)
+    }
+
+    /// The one at a place.
+    pub fn get(&self, place: usize) -> &T
+        requires { place < length self.now }
+        ensures { slice_get self.now place ≡ Some result.now }
+    {
+        &self.items[place]
+    }
+
+    /// Puts another one of the same name at a place.
+    pub fn replace(&mut self, place: usize, item: T)
+        requires inside { place < length self.old }
+        requires same_name { IfSome (slice_get self.old place) (λ old. T.name_of item ≡ T.name_of old) }
+        ensures { self.new ≡ slice_set self.old place item }
+    {
+        self.items[place] = item;
     }
 
     /// The list with one more at its end.

@@ -1,6 +1,6 @@
 // The program so far.
 
-ghost use Rattle.std.specs.Prelude.{◌≡◌};
+ghost use Rattle.std.specs.Prelude.{◌≡◌, ◌≤◌};
 
 use crate::reserved::is_reserved;
 use crate::table::Table;
@@ -31,6 +31,7 @@ pub struct World {
     pub labels: Table<Labelled>,
     pub cases: Vec<CaseAt>,
     pub default: Option<Pos>,
+    ghost small: { total ≤ 65536 },
 }
 
 /// The names and tags that were in scope where a scope began.
