@@ -11,6 +11,7 @@
 
 mod changes;
 mod cuts;
+mod inverses;
 mod merges;
 mod ranges;
 mod standings;
