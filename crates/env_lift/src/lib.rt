@@ -14,6 +14,7 @@ mod cuts;
 mod inverses;
 mod merges;
 mod ranges;
+mod rounds;
 mod standings;
 mod state;
 mod told;
