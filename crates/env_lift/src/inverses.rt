@@ -111,7 +111,8 @@ fn from_product<V: ValueDomain>(a: &V, b: &V, product: &V) -> Option<(V, V)>
 
 // What is left of two operands; `None` only where nothing is.
 pub fn operands<V: ValueDomain>(op: NOp, a: &V, b: &V, value: &V) -> Option<(V, V)>
-    ensures some { IfSome result (λ p. (x y n : ℤ) → V.admits a.now x → V.admits b.now y → binary_value op x y ≡ Some n → V.admits value.now n → V.admits p.0 x × V.admits p.1 y) }
+    ensures some { IfSome result (λ p. (x y n : ℤ) → V.admits a.now x → V.admits b.now y → binary_value op x y ≡ Some n → V.admits value.now n
+        → V.admits p.0 x × V.admits p.1 y) }
     ensures none { IfNone result ((x y n : ℤ) → V.admits a.now x → V.admits b.now y → binary_value op x y ≡ Some n → V.admits value.now n → ⊥) }
 {
     match op {

@@ -84,7 +84,8 @@ pub fn keep_rounds<V: ValueDomain>(
     truth: bool,
 ) -> Result<Live, NoMemory>
     ensures cut { IfOk result (IsCut V.admits V.known V.exact state.old state.new (HasTruth (nexpr_tree e.now) truth)) }
-    ensures plain { IfOk result (λ live. (given : ℕ → Range) → IsTrue V.exact → IsUnder (known_in V.known state.old) given → IsPlain given (nexpr_tree e.now) → IsTrue (is_live live) → IsUnder (known_in V.known state.new) (tested given (nexpr_tree e.now) truth)) }
+    ensures plain { IfOk result (λ live. (given : ℕ → Range) → IsTrue V.exact → IsUnder (known_in V.known state.old) given
+        → IsPlain given (nexpr_tree e.now) → IsTrue (is_live live) → IsUnder (known_in V.known state.new) (tested given (nexpr_tree e.now) truth)) }
 {
     let before = read_ranges(alloc, state, e)?;
     match keep_truth(state, e, truth)? {
