@@ -1,6 +1,6 @@
 -- States that differ at one variable, and cuts in turn.
 use Rattle.std.proofs.Common.{ℕ, ℤ, List, ◌≡◌, ⊎_elim, Option, Some, None, Bool, refl, sym, subst, ap, ◌∙◌}
-use Rattle.std.specs.Prelude.{IsTrue, IfOk, OnOk, nat_eq}
+use Rattle.std.specs.Prelude.{IsTrue, IfSome, IfNone, IfOk, OnOk, nat_eq}
 use Rattle.std.proofs.Common.{Result, Ok, Err}
 use Rattle.std.proofs.lemmas.Bool.{eq-eqb, ne_eqb, cond-true, cond-false, cases_eq}
 use Rattle.ext_int.specs.Valuation.{value_at}
@@ -16,6 +16,18 @@ use Rattle.env_eval.proofs.Parts.{wider, as_wide}
 use Rattle.env_lift.specs.Changes.{MayAdmit, IsChanged, IsCut}
 
 -- ---- answers
+
+pub some_map : {T : Type 0} (P Q : T → Type 0) (o : Option T) → IfSome o P → ((t : T) → P t → Q t) → IfSome o Q
+some_map P Q None h f = tt
+some_map P Q (Some t) h f = f t h
+
+pub none_map : {T : Type 0} (P Q : Type 0) (o : Option T) → IfNone o P → (P → Q) → IfNone o Q
+none_map P Q None h f = f h
+none_map P Q (Some t) h f = tt
+
+pub none_any : {T : Type 0} (P : Type 0) (o : Option T) → P → IfNone o P
+none_any P None p = p
+none_any P (Some t) p = tt
 
 pub ok_map : {T E : Type 0} (P Q : T → Type 0) (r : Result T E) → IfOk r P → ((t : T) → P t → Q t) → IfOk r Q
 ok_map P Q (Ok t) h f = f t h

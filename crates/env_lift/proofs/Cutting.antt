@@ -17,7 +17,9 @@ use Rattle.num_api.specs.Value.{value_of, unary_value, binary_value, truth, has_
 use Rattle.num_api.specs.Plain.{Standing, less, at_most, greater, at_least, same, other, standing, turned, cut, cut_side, cut_sides, tested, plain, IsPlain}
 use Rattle.env_eval.proofs.Parts.{of_one-some, of_two-some}
 use Rattle.env_lift.specs.Standings.{Stands}
-use Rattle.env_lift.specs.Changes.{HasTruth, Compare}
+use Rattle.var_map.specs.declared.entries.Entry.{Entry}
+use Rattle.env_eval.specs.States.{AllAdmit}
+use Rattle.env_lift.specs.Changes.{HasTruth, Compare, LiesIn}
 
 -- ---- standings
 
@@ -119,3 +121,14 @@ left_plain given (Binary op a b) h = some_left FitsSpan (plain given (Binary op 
 pub tested_other : (given : ℕ → Range) (op : NOp) (a : NExprTree) (wanted : Bool) → (op ≡ Not → ⊥) → tested given (Unary op a) wanted ≡ given
 tested_other given Not a wanted h = absurd (h refl)
 tested_other given op a wanted h = refl
+
+-- ---- operands
+
+-- where the whole lies in a value, the operands lie in what is left of them
+pub operands_lie : {V : Type 0} (A : V → ℤ → Type 0) (state : List (Entry V)) (op : NOp) (a b : NExprTree) (value p q : V)
+    → ((v : List ℤ) (x y n : ℤ) → AllAdmit A state v → value_of v a ≡ Some x → value_of v b ≡ Some y → binary_value op x y ≡ Some n → A value n → A p x × A q y)
+    → (v : List ℤ) → AllAdmit A state v → LiesIn A (Binary op a b) value v → LiesIn A a p v × LiesIn A b q v
+operands_lie A state op a b value p q law v h l =
+    let step = of_two-some (binary_value op) (value_of v a) (value_of v b) l.0 l.1 in
+    let both = law v step.0 step.1 l.0 h step.2 step.3 step.4 l.2 in
+    ((step.0, step.2, both.0), (step.1, step.3, both.1))

@@ -3,3 +3,4 @@ pub mod Weights
 pub mod Merging
 pub mod Cutting
 pub mod RangeCuts
+pub mod Inverting

@@ -22,7 +22,8 @@ abbrev pub IsChanged : {V : Type 0} → ℕ → Option V → List (Entry V) → 
 IsChanged x value before after = (y : ℕ) → value_in after y ≡ (if nat_eq y x then value else value_in before y)
 
 -- a cut keeps the valuations of which P holds, answers Dead only where there is none, and makes no range wider
-pub record IsCut {V : Type 0} (A : V → ℤ → Type 0) (K : V → Range) (exact : Bool) (before after : List (Entry V)) (P : List ℤ → Type 0) (live : LiveOrDead) : Type 0 where
+pub record IsCut {V : Type 0} (A : V → ℤ → Type 0) (K : V → Range) (exact : Bool) (before after : List (Entry V))
+    (P : List ℤ → Type 0) (live : LiveOrDead) : Type 0 where
   pub keeps : (v : List ℤ) → AllAdmit A before v → P v → IsTrue (is_live live) × AllAdmit A after v
   pub narrows : IsTrue exact → IsUnder (known_in K after) (known_in K before)
 

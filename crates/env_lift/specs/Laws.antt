@@ -12,14 +12,16 @@ use Rattle.env_eval.specs.States.{AllAdmit, known_of, known_in}
 abbrev pub total_weight : {V : Type 0} → (V → ℕ) → List (Entry V) → ℕ
 total_weight W state = sum_by (λ e. W e.value + 1) state
 
-pub known_holds_in : {V : Type 0} (A : V → ℤ → Type 0) (K : V → Range) → ((a : V) (n : ℤ) → A a n → InRange (K a) n) → (state : List (Entry V)) (v : List ℤ) (x : ℕ) → AllAdmit A state v → InRange (known_in K state x) (value_at v x)
+pub known_holds_in : {V : Type 0} (A : V → ℤ → Type 0) (K : V → Range) → ((a : V) (n : ℤ) → A a n → InRange (K a) n)
+    → (state : List (Entry V)) (v : List ℤ) (x : ℕ) → AllAdmit A state v → InRange (known_in K state x) (value_at v x)
 known_holds_in {V} A K law state v x p = of (value_in state x) (p x)
   where
     of : (found : Option V) → ((a : V) → found ≡ Some a → A a (value_at v x)) → InRange (known_of K found) (value_at v x)
     of None h = record { low = tt; high = tt }
     of (Some a) h = law a (value_at v x) (h a refl)
 
-pub known_some_in : {V : Type 0} (K : V → Range) → ((a : V) → IsTrue (holds_some (K a))) → (state : List (Entry V)) (x : ℕ) → IsTrue (holds_some (known_in K state x))
+pub known_some_in : {V : Type 0} (K : V → Range) → ((a : V) → IsTrue (holds_some (K a))) → (state : List (Entry V)) (x : ℕ)
+    → IsTrue (holds_some (known_in K state x))
 known_some_in {V} K law state x = of (value_in state x)
   where
     of : (found : Option V) → IsTrue (holds_some (known_of K found))

@@ -104,7 +104,8 @@ fn keep_equal<V: ValueDomain>(state: &mut VarMap<V>, x: Var, e: &NExpr) -> Resul
 // Keeps the valuations in which the message holds.
 pub fn accepted<V: ValueDomain>(state: &mut VarMap<V>, m: &Message) -> Result<Live, NoMemory>
     ensures cut { IfOk result (IsCut V.admits V.known V.exact state.old state.new (λ v. Holds v m.now)) }
-    ensures between { IfOk result (λ live. (x : Variable) (r : Range) → IsTrue V.exact → m.now ≡ Between x r → IsTrue (is_live live) → NoWider (known_in V.known state.new x.0) r) }
+    ensures between { IfOk result (λ live. (x : Variable) (r : Range) → IsTrue V.exact → m.now ≡ Between x r → IsTrue (is_live live)
+        → NoWider (known_in V.known state.new x.0) r) }
 {
     match m {
         Message::Between(x, r) => keep_between(state, *x, *r),

@@ -11,8 +11,10 @@
 
 mod changes;
 mod cuts;
+mod inverses;
 mod merges;
 mod ranges;
+mod rounds;
 mod standings;
 mod state;
 mod told;

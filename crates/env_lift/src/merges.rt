@@ -21,7 +21,8 @@ pub fn joined<V: ValueDomain>(
 ) -> Result<VarMap<V>, NoMemory>
     ensures left { IfOk result (λ s. (v : List ℤ) → AllAdmit V.admits first.now v → AllAdmit V.admits s v) }
     ensures right { IfOk result (λ s. (v : List ℤ) → AllAdmit V.admits second.now v → AllAdmit V.admits s v) }
-    ensures plain { IfOk result (λ s. (given found : ℕ → Range) → IsTrue V.exact → IsUnder (known_in V.known first.now) given → IsUnder (known_in V.known second.now) found → IsUnder (known_in V.known s) (λ x. hull (given x) (found x))) }
+    ensures plain { IfOk result (λ s. (given found : ℕ → Range) → IsTrue V.exact → IsUnder (known_in V.known first.now) given
+        → IsUnder (known_in V.known second.now) found → IsUnder (known_in V.known s) (λ x. hull (given x) (found x))) }
 {
     first.merge(
         second,
@@ -45,7 +46,8 @@ pub fn widened<V: ValueDomain, U: Fn(i128) -> Option<i128>, S: Steps>(
     ensures left { IfOk result (λ s. (v : List ℤ) → AllAdmit V.admits first.now v → AllAdmit V.admits s v) }
     ensures right { IfOk result (λ s. (v : List ℤ) → AllAdmit V.admits second.now v → AllAdmit V.admits s v) }
     ensures no_rise { IfOk result (λ s. total_weight (V.weight S.list) s ≤ total_weight (V.weight S.list) first.now) }
-    ensures falls { IfOk result (λ s. all_met V.holds first.now second.now ≡ false → total_weight (V.weight S.list) s < total_weight (V.weight S.list) first.now) }
+    ensures falls { IfOk result (λ s. all_met V.holds first.now second.now ≡ false
+        → total_weight (V.weight S.list) s < total_weight (V.weight S.list) first.now) }
 {
     first.merge(
         second,

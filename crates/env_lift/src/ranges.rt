@@ -145,7 +145,8 @@ fn apart(s: Range, t: Range) -> Range
 // A range that holds the numbers of the first which stand so to some number of the second.
 pub fn cut_range(how: Standing, s: Range, t: Range) -> Range
     ensures holds { (x y : ℤ) → InRange s x → InRange t y → Stands (standing_of how) x y → InRange result x }
-    ensures plain { (p q : Span) → IsTrue (holds_some t) → NoWider s (range_of p) → NoWider t (range_of q) → NoWider result (range_of (cut (standing_of how) p q)) }
+    ensures plain { (p q : Span) → IsTrue (holds_some t) → NoWider s (range_of p) → NoWider t (range_of q)
+        → NoWider result (range_of (cut (standing_of how) p q)) }
 {
     match how {
         Standing::Less => below(s, t.hi),

@@ -6,9 +6,10 @@ ghost use Rattle.var_map.specs.Passes.{all_met};
 ghost use Rattle.env_lift.specs.Laws.{total_weight, known_holds_in, known_some_in, first_flag, both_flags};
 
 use crate::changes::{accepted, met};
-use crate::cuts::{keep_truth, may_hold};
+use crate::cuts::may_hold;
 use crate::merges::{covers_all, joined, widened};
 use crate::ranges::{may_be, no_numbers};
+use crate::rounds::keep_rounds;
 use crate::told::{put_facts, tell, tell_read};
 use env_eval::eval;
 use num_api::{
@@ -135,7 +136,7 @@ impl<V: ValueDomain> NumDomain for Env<V> {
         if !may_hold(&self.state, e, truth) || !may_be(ask.range(e), truth) {
             return Ok(Live::Dead);
         }
-        match keep_truth(&mut self.state, e, truth)? {
+        match keep_rounds(self.alloc, &mut self.state, e, truth)? {
             Live::Dead => return Ok(Live::Dead),
             Live::Live => {}
         }

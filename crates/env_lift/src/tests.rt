@@ -27,18 +27,20 @@ fn read(alloc: Global, x: u64) -> Result<Box<NExpr>, NoMemory> {
     Ok(Box::new(alloc, NExpr::Read(Var(x)))?)
 }
 
-// Of x in [0, 9] and y in [3, 5], those with x < y.
+// Of x in [0, 9] and y in [3, 5], those with x + 1 < y.
 #[test]
 fn comparisons(rt: HostRuntime) -> Result<(), NoMemory> {
     let alloc = rt.alloc();
     let mut state = State::top(alloc);
     put(&mut state, 0, 0, 9)?;
     put(&mut state, 1, 3, 5)?;
-    let test = NExpr::Binary(NOp::Lt, read(alloc, 0)?, read(alloc, 1)?);
+    let one = Box::new(alloc, NExpr::Const(1))?;
+    let next = Box::new(alloc, NExpr::Binary(NOp::Add, read(alloc, 0)?, one))?;
+    let test = NExpr::Binary(NOp::Lt, next, read(alloc, 1)?);
     let mut out = Messages::new(alloc);
     let live = state.assume(&test, true, &Unknowing, &mut out)?;
     assert_eq!(rt; live, Live::Live);
-    assert_eq!(rt; state.range(&NExpr::Read(Var(0))), from_to(0, 4));
+    assert_eq!(rt; state.range(&NExpr::Read(Var(0))), from_to(0, 3));
     assert_eq!(rt; out.as_slice().len(), 4);
     Ok(())
 }

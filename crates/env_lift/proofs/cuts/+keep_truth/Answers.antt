@@ -2,15 +2,16 @@ use Rattle.std.proofs.Common.{◌≡◌, sym, subst, ap, ◌∙◌, Option}
 use Rattle.std.specs.Prelude.{not}
 use Rattle.num_api.specs.declared.expr.NOp.{NOp}
 use Rattle.num_api.specs.declared.expr.NOp.TheVariants.{Not}
-use Rattle.num_api.specs.Exprs.{NExprTree, nexpr_tree, Unary, Binary}
+use Rattle.num_api.specs.Exprs.{NExprTree, nexpr_tree, Const, Read, Unary, Binary}
 use Rattle.num_api.specs.Ranges.{IsUnder}
 use Rattle.num_api.specs.Plain.{Standing, IsPlain, plain, cut_sides, tested}
-use Rattle.num_api.proofs.Trees.{nexpr_unary, nexpr_binary}
+use Rattle.num_api.proofs.Trees.{nexpr_const, nexpr_read, nexpr_unary, nexpr_binary}
 use Rattle.env_eval.specs.States.{known_in}
+use Rattle.env_eval.proofs.Parts.{wider}
 use Rattle.env_lift.specs.Standings.{standing_of}
 use Rattle.env_lift.specs.Changes.{HasTruth, Compare}
 use Rattle.env_lift.proofs.Changing.{ok_map, cut_weaker}
-use Rattle.env_lift.proofs.Cutting.{negated, sides_stand}
+use Rattle.env_lift.proofs.Cutting.{negated, sides_stand, tested_other}
 use Rattle.env_lift.proofs.cuts.+keep_truth.Goals as goal
 
 pub returns-in-Not-clause-cut : goal.returns-in-Not-clause-cut
@@ -42,3 +43,35 @@ returns-in-Some-clause-plain g t c =
     let parts = subst (IsPlain given) tree p in
     subst (λ (e : NExprTree). IsUnder M (tested given e c.args.truth)) (sym tree)
     (subst (λ (how : Option Standing). IsUnder M (cut_sides given a b how (plain given a) (plain given b))) (sym c.in-Some.ensures.some) (under given x u parts.1 parts.2 is)))
+
+pub returns-in-Const-clause-plain : goal.returns-in-Const-clause-plain
+returns-in-Const-clause-plain g t c =
+    let D = g.V.ValueDomain in let K = known_in D.known c.args.state.now in let M = known_in D.known c.keep_any.new.state in
+    let tree : nexpr_tree c.args.e.now ≡ Const c.in-Const.field-0 = ap nexpr_tree c.in-Const.is ∙ nexpr_const c.in-Const.field-0 in
+    ok_map _ _ c.keep_any.result c.keep_any.ensures
+    (λ answer cut given x u p is. subst (λ (e : NExprTree). IsUnder M (tested given e c.args.truth)) (sym tree) (λ y. wider (M y) (K y) (given y) (cut.narrows x y) (u y)))
+
+pub returns-in-Read-clause-plain : goal.returns-in-Read-clause-plain
+returns-in-Read-clause-plain g t c =
+    let D = g.V.ValueDomain in let K = known_in D.known c.args.state.now in let M = known_in D.known c.keep_any-in-Read.new.state in
+    let tree : nexpr_tree c.args.e.now ≡ Read c.in-Read.field-0.0 = ap nexpr_tree c.in-Read.is ∙ nexpr_read c.in-Read.field-0 in
+    ok_map _ _ c.keep_any-in-Read.result c.keep_any-in-Read.ensures
+    (λ answer cut given x u p is. subst (λ (e : NExprTree). IsUnder M (tested given e c.args.truth)) (sym tree) (λ y. wider (M y) (K y) (given y) (cut.narrows x y) (u y)))
+
+pub returns-in_default-clause-plain : goal.returns-in_default-clause-plain
+returns-in_default-clause-plain g t c =
+    let D = g.V.ValueDomain in let K = known_in D.known c.args.state.now in let M = known_in D.known c.keep_any-in_default.new.state in
+    let op = c.in-Unary.op in let part = nexpr_tree c.in-Unary.a.value in
+    let tree : nexpr_tree c.args.e.now ≡ Unary op part = ap nexpr_tree c.in-Unary.is ∙ nexpr_unary op c.in-Unary.a in
+    ok_map _ _ c.keep_any-in_default.result c.keep_any-in_default.ensures
+    (λ answer cut given x u p is. subst (λ (e : NExprTree). IsUnder M (tested given e c.args.truth)) (sym tree)
+    (subst (IsUnder M) (sym (tested_other given op part c.args.truth c.in_default.not-Not)) (λ y. wider (M y) (K y) (given y) (cut.narrows x y) (u y))))
+
+pub returns-in-None-clause-plain : goal.returns-in-None-clause-plain
+returns-in-None-clause-plain g t c =
+    let D = g.V.ValueDomain in let K = known_in D.known c.args.state.now in let M = known_in D.known c.keep_any-in-None.new.state in
+    let op = c.in-Binary.op in let a = nexpr_tree c.in-Binary.a.value in let b = nexpr_tree c.in-Binary.b.value in
+    let tree : nexpr_tree c.args.e.now ≡ Binary op a b = ap nexpr_tree c.in-Binary.is ∙ nexpr_binary op c.in-Binary.a c.in-Binary.b in
+    ok_map _ _ c.keep_any-in-None.result c.keep_any-in-None.ensures
+    (λ answer cut given x u p is. subst (λ (e : NExprTree). IsUnder M (tested given e c.args.truth)) (sym tree)
+    (subst (λ (how : Option Standing). IsUnder M (cut_sides given a b how (plain given a) (plain given b))) (sym c.in-None.ensures.none) (λ y. wider (M y) (K y) (given y) (cut.narrows x y) (u y))))

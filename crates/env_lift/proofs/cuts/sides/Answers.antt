@@ -1,17 +1,14 @@
-use Rattle.std.proofs.Common.{sym, subst, Option, None, Some}
-use Rattle.std.specs.Prelude.{IsTrue, IfNone}
+use Rattle.std.proofs.Common.{sym, subst}
+use Rattle.std.specs.Prelude.{IsTrue}
 use Rattle.num_api.specs.declared.message.Range.{Range}
 use Rattle.num_api.specs.Ranges.{NoWider, holds_some}
 use Rattle.num_api.specs.Spans.{range_of}
 use Rattle.num_api.specs.Plain.{Standing, cut, turned}
 use Rattle.env_lift.specs.Standings.{standing_of, Stands}
 use Rattle.env_eval.proofs.Parts.{wider}
+use Rattle.env_lift.proofs.Changing.{none_any}
 use Rattle.env_lift.proofs.Cutting.{turned_stands}
 use Rattle.env_lift.proofs.cuts.sides.Goals as goal
-
-none_any : {A : Type 0} (P : Type 0) (o : Option A) → P → IfNone o P
-none_any P None p = p
-none_any P (Some a) p = tt
 
 pub returns-in_err-right-clause-none : goal.returns-in_err-right-clause-none
 returns-in_err-right-clause-none g c = none_any _ c.from_residual-in_err-right.result (λ v x y p e f h.
