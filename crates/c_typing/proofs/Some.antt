@@ -1,6 +1,6 @@
 -- A good world and a tree have an outcome.
 use Rattle.std.proofs.Common.{refl}
-use Rattle.std.specs.Prelude.{Bool, Some, []}
+use Rattle.std.specs.Prelude.{true, Bool, Some, []}
 use Rattle.c_written.specs.WrittenParts.{expr_pos}
 use Rattle.c_typing.specs.Constants.{constant_value}
 use Rattle.c_written.specs.Written as written
@@ -26,13 +26,13 @@ Has {A} kind = (o : Outcome A) × kind o
 pub is_has : {A : Type 0} (x : Outcome A) → Has (Is x)
 is_has x = (x, refl)
 
-after : {A : Type 0} {w v : World} {a : A} → Good w → Goes w (Typed a v) → Kept w v
+after : {A : Type 0} {w v : World} {a : A} → Good w → Goes true w (Typed a v) → Kept w v
 after {w = w} {v = v} good (typed r) = kept w v r good
 
 -- where the first part has an outcome, and in each world that it leaves so has the next, both together have one
 pub then_has :
     {A B : Type 0} {w : World} {first : Outcome A → Type 0} {next : A → World → Outcome B → Type 0}
-    → Good w → AllGo w first → Has first → ((a : A) (v : World) → Kept w v → Has (next a v)) → Has (Then first next)
+    → Good w → AllGo true w first → Has first → ((a : A) (v : World) → Kept w v → Has (next a v)) → Has (Then first next)
 then_has {A} {B} {w} {first} {next} good f h g = by h.0 h.1
   where
     by : (o : Outcome A) → first o → Has (Then first next)
@@ -42,10 +42,10 @@ then_has {A} {B} {w} {first} {next} good f h g = by h.0 h.1
 -- the same where what the first part leaves has a property
 pub so_has :
     {A B : Type 0} {w : World} {first : Outcome A → Type 0} {next : A → World → Outcome B → Type 0} {P : A → World → Type 0}
-    → Good w → AllWith w P first → Has first → ((a : A) (v : World) → Kept w v → P a v → Has (next a v)) → Has (Then first next)
+    → Good w → AllWith true w P first → Has first → ((a : A) (v : World) → Kept w v → P a v → Has (next a v)) → Has (Then first next)
 so_has {A} {B} {w} {first} {next} {P} good f h g = by h.0 h.1
   where
-    at : (a : A) (v : World) → first (Typed a v) → GoesWith w P (Typed a v) → Has (Then first next)
+    at : (a : A) (v : World) → first (Typed a v) → GoesWith true w P (Typed a v) → Has (Then first next)
     at a v p (typed_so r q) = let s = g a v (kept w v r good) q in (s.0, goes_on p s.1)
 
     by : (o : Outcome A) → first o → Has (Then first next)
@@ -60,14 +60,14 @@ value w e good h g = then_has good (valued (go w e)) (then_has good (go w e) h (
 
 pub of_type_name :
     {w : World} (first : _) {specs : Outcome specifiers.SpecsTree → Type 0} {declarator : World → Outcome Shape → Type 0} → Good w
-    → AllWith w SpecsIn specs → Has specs → ((v : World) → AllWith v (ShapeIn v) (declarator v)) → ((v : World) → Good v → Has (declarator v)) → Has (typing.OfTypeName first specs declarator)
+    → AllWith true w SpecsIn specs → Has specs → ((v : World) → AllWith true v (ShapeIn v) (declarator v)) → ((v : World) → Good v → Has (declarator v)) → Has (typing.OfTypeName first specs declarator)
 of_type_name first good f h g d =
     then_has good (all_forget f) h (λ s v k. then_has k.good (is_goes (types_go.type_told specifiers.OfPlainType first s v)) (is_has _) (λ base v2 k2.
     then_has k2.good (all_forget (g v2)) (d v2 k2.good) (λ shape v3 k3. is_has _)))
 
 pub of_parameter :
     {w : World} (n : _) (first : _) {specs : Outcome specifiers.SpecsTree → Type 0} {declarator : World → Outcome Shape → Type 0} → Good w
-    → AllWith w SpecsIn specs → Has specs → ((v : World) → AllWith v (ShapeIn v) (declarator v)) → ((v : World) → Good v → Has (declarator v)) → Has (typing.OfParameter n first specs declarator)
+    → AllWith true w SpecsIn specs → Has specs → ((v : World) → AllWith true v (ShapeIn v) (declarator v)) → ((v : World) → Good v → Has (declarator v)) → Has (typing.OfParameter n first specs declarator)
 of_parameter n first good f h g d =
     then_has good (all_forget f) h (λ s v k. then_has k.good (is_goes (types_go.type_told specifiers.OfParameter first s v)) (is_has _) (λ base v2 k2.
     then_has k2.good (all_forget (g v2)) (d v2 k2.good) (λ shape v3 k3. is_has _)))

@@ -1,7 +1,7 @@
 -- What holds of typing.
-use Rattle.std.specs.Prelude.{◌≡◌, ℕ, IsTrue, Some, IsSomeAnd, List, slice_get}
+use Rattle.std.specs.Prelude.{◌≡◌, ℕ, Bool, IsTrue, Some, IsSomeAnd, List, slice_get}
 use Rattle.c_written.specs.WrittenFile.{FileTree, OuterTree}
-use Rattle.c_syntax.specs.Types.{CTypeTree, ObjectTree}
+use Rattle.c_syntax.specs.Types.{CTypeTree, Array, ObjectTree}
 use Rattle.c_syntax.specs.Program.{StructDefTree, TFunctionTree}
 use Rattle.c_layout.specs.LaidOut.{IsLaidOut}
 use Rattle.c_layout.specs.Heights.{NoneHoldsItself}
@@ -23,10 +23,16 @@ pub record IsSameFunction (f g : TFunctionTree) : Type 0 where
   pub name : f.name ≡ g.name
   pub result : f.result ≡ g.result
 
--- an object that keeps its name and place, whether it may be written, and how long it lives
+-- a type that stays as it is, or that of an array whose size comes later (C11 6.2.5p22)
+pub data IsLastType : CTypeTree → CTypeTree → Type 0 where
+  same : (ty : CTypeTree) → IsLastType ty ty
+  sized : (of : CTypeTree) (is_const : Bool) (n : ℕ) → IsLastType (Array of is_const 0) (Array of is_const n)
+
+-- an object that keeps its name and place, its type once that is complete, whether it may be written, and how long it lives
 pub record IsSameObject (x y : ObjectTree) : Type 0 where
   pub name : x.name ≡ y.name
   pub pos : x.pos ≡ y.pos
+  pub ty : IsLastType x.ty y.ty
   pub read_only : x.read_only ≡ y.read_only
   pub is_static : x.is_static ≡ y.is_static
 

@@ -15,8 +15,9 @@ pub fn files_have_some()
 {}
 
 /// Typing only adds: what is declared later leaves each struct, each object and each function its number;
-/// an object its name, its place, whether it may be written and how long it lives; a function its name,
-/// its result and the types of its parameters; and a struct its tag, and its members once it has them.
+/// an object its name, its place, its type once it is complete, whether it may be written and how long it
+/// lives; a function its name, its result and the types of its parameters; and a struct its tag, and its
+/// members once it has them.
 pub fn typing_adds()
     ensures { TypingAdds }
 {}
