@@ -11,8 +11,9 @@ use Rattle.c_typing.specs.Context.{Context}
 use Rattle.c_typing.specs.File.{TypesOuters, nothing_yet}
 use Rattle.c_typing.specs.Decls.{sized_object}
 use Rattle.c_typing.specs.Later.{has_members}
-use Rattle.c_typing.specs.Laws.{IsLastType, same, sized, IsSameFunction, IsSameObject, IsSameStruct, TypingAdds, StructsAreLaidOut}
-use Rattle.c_typing.proofs.MadeTables.{made_nothing, founded}
+use Rattle.c_typing.specs.Laws.{IsLastType, same, sized, IsSameFunction, IsSameObject, IsSameStruct, TypingAdds, StructsAreTyped}
+use Rattle.c_typing.proofs.MadeTables.{made_nothing}
+use Rattle.c_typing.proofs.SoundTables.{sound_nothing, typed_table}
 use Rattle.c_typing.proofs.Good.{Good, Frame, complete_shut}
 use Rattle.c_typing.proofs.Reaches as reaches
 use Rattle.c_typing.proofs.Reaches.{Reaches, kept, Goes, typed, stays, after, named, literal, struct, new_struct, enumeration, tag_changed, body, opens, scoped, object, counted, initial, linked, defined, retyped, parameters, function, function_changed, labelled, cased, in_body}
@@ -123,7 +124,7 @@ continued w v (struct _ tag) = all_same w _ refl refl refl
 continued w v (new_struct _ tag d) = all_same w _ refl refl refl
 continued w v (enumeration _ tag d) = all_same w _ refl refl refl
 continued w v (tag_changed _ tag at meaning f) = all_same w _ refl refl refl
-continued w v (body _ u x n members r begun s are) = continued_then w u _ (continued w u r) (continued_then u x _ (continued u x s) (all_same x _ refl refl refl))
+continued w v (body _ u x n members r begun s are sound) = continued_then w u _ (continued w u r) (continued_then u x _ (continued u x s) (all_same x _ refl refl refl))
 continued w v (opens _) = all_same w _ refl refl refl
 continued w v (scoped _ u r) = in_scope w _ u _ refl refl refl refl refl refl (continued _ u r)
 continued w v (object _ x) = same_functions w _ refl refl (keep_append objects_order w.objects _)
@@ -150,7 +151,7 @@ reached (typed r) = r
 -- ---- structs
 
 pub nothing_good : Good nothing_yet
-nothing_good = record { incomplete = λ n p. absurd p; distinct = tt; made = made_nothing; formed = record { names = All-nil (λ b. IsFormedMeaning [] b.meaning); tags = All-nil (λ b. IsFormedTag [] b.meaning) } }
+nothing_good = record { incomplete = λ n p. absurd p; distinct = tt; made = made_nothing; sound = sound_nothing; formed = record { names = All-nil (λ b. IsFormedMeaning [] b.meaning); tags = All-nil (λ b. IsFormedTag [] b.meaning) } }
 
 -- a world that declarations reach is good
 pub good_after : (w : World) (around : Context) (list : List OuterTree) → TypesOuters nothing_yet around list (Typed tt w) → Good w
@@ -177,6 +178,5 @@ typing_adds around before behind w v s t =
       structs = same_struct w v good (kept w v r good).frame;
     }
 
-pub structs_are_laid_out : StructsAreLaidOut
-structs_are_laid_out around list w t =
-    let made = (good_after w around list t).made in record { laid_out = made.laid_out; founded = founded w.structs made }
+pub structs_are_typed : StructsAreTyped
+structs_are_typed around list w t = let good = good_after w around list t in typed_table w.structs good.made good.sound

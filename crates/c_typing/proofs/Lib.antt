@@ -3,6 +3,7 @@ pub mod Opens
 pub mod MadeTables
 pub mod MadeMembers
 pub mod Later
+pub mod SoundTables
 pub mod Same
 pub mod Good
 pub mod Reaches

@@ -19,6 +19,7 @@ use Rattle.c_typing.specs.File as files
 use Rattle.c_typing.specs.Laws.{IsSameFunction, IsLastType}
 use Rattle.c_typing.specs.Formed.{IsFormedMeaning, IsFormedTag}
 use Rattle.c_typing.proofs.MadeTables.{AreMade, get_append}
+use Rattle.c_typing.proofs.SoundTables.{AreSound}
 use Rattle.c_typing.proofs.Good.{Good, Frame, IsBegun, IsAside, with_new, frame_then, frame_same, frame_struct, frame_new, frame_enum, frame_changed, frame_closed, frame_body, frame_in, frame_shut, good_same, good_named, good_struct, good_new, good_enum, good_changed, good_closed, good_body, good_in}
 
 -- one world is had from another by the changes that typing makes, among them, where that is told, that an array gets its size
@@ -31,7 +32,7 @@ pub data Reaches : Bool → World → World → Type 0 where
   new_struct : {sizing : Bool} (w : World) (tag : Tag) (defined : Option Pos) → Reaches sizing w (with_new w tag defined)
   enumeration : {sizing : Bool} (w : World) (tag : Tag) (defined : Option Pos) → Reaches sizing w (with_tag w tag defined OpenEnumTag)
   tag_changed : {sizing : Bool} (w : World) (tag : List ℕ) (at : Pos) (meaning : TagMeaning) → IsFormedTag w.structs meaning → Reaches sizing w (with_tag_become w tag (Some at) meaning)
-  body : {sizing : Bool} (u w v : World) (n : ℕ) (members : List MemberTree) → Reaches sizing u w → IsBegun u w n → Reaches sizing w v → AreMade v.structs members → Reaches sizing u (with_members v n members)
+  body : {sizing : Bool} (u w v : World) (n : ℕ) (members : List MemberTree) → Reaches sizing u w → IsBegun u w n → Reaches sizing w v → AreMade v.structs members → AreSound v.structs members → Reaches sizing u (with_members v n members)
   opens : {sizing : Bool} (w : World) → Reaches sizing w (opened w)
   scoped : {sizing : Bool} (u v : World) → Reaches sizing (opened u) v → Reaches sizing u (closed u v)
   object : {sizing : Bool} (w : World) (x : ObjectTree) → Reaches sizing w (decls.with_object w x)
@@ -82,9 +83,9 @@ kept w v (struct _ tag) good = record { good = good_struct w tag good; frame = f
 kept w v (new_struct _ tag d) good = record { good = good_new w tag d good; frame = frame_new w tag d }
 kept w v (enumeration _ tag d) good = record { good = good_enum w tag d good; frame = frame_enum w tag d }
 kept w v (tag_changed _ tag at m f) good = record { good = good_changed w tag at m f good; frame = frame_changed w tag at m }
-kept w v (body _ u x n members r begun s are) good =
+kept w v (body _ u x n members r begun s are sound) good =
     let one = kept w u r good in let two = kept u x s one.good in record {
-      good = good_body w u x n members begun two.frame two.good are;
+      good = good_body w u x n members begun two.frame two.good are sound;
       frame = frame_body w x n members begun.from (frame_then w u x one.frame two.frame);
     }
 kept w v (opens _) good = kept_same w _ refl refl refl good
@@ -143,7 +144,7 @@ quiet sizing w v (struct _ tag) = quiet_same sizing w _ refl
 quiet sizing w v (new_struct _ tag d) = quiet_same sizing w _ refl
 quiet sizing w v (enumeration _ tag d) = quiet_same sizing w _ refl
 quiet sizing w v (tag_changed _ tag at m f) = quiet_same sizing w _ refl
-quiet sizing w v (body _ u x n members r begun s are) = quiet_then sizing w u _ (quiet sizing w u r) (quiet_then sizing u x _ (quiet sizing u x s) (quiet_same sizing x _ refl))
+quiet sizing w v (body _ u x n members r begun s are sound) = quiet_then sizing w u _ (quiet sizing w u r) (quiet_then sizing u x _ (quiet sizing u x s) (quiet_same sizing x _ refl))
 quiet sizing w v (opens _) = quiet_same sizing w _ refl
 quiet sizing w v (scoped _ u r) = quiet_in sizing w (opened w) u _ refl refl (quiet sizing (opened w) u r)
 quiet sizing w v (object _ x) = quiet_more sizing w _ _ refl

@@ -1,7 +1,7 @@
 -- Types of expressions, specs and declarators only make the changes of Reaches.
 use Rattle.std.proofs.Common.{◌≡◌, refl, sym, subst, ⊎_elim, arith}
-use Rattle.std.specs.Prelude.{ℕ, ◌+◌, ◌^◌, ◌<◌, nat_lt, ◌||◌, ◌+ℤ◌, ℤ, pos, negsuc, Bool, true, false, if◌then◌else◌, Option, Some, None, option_map, List, [], ◌∷◌, ◌++◌, length, take, drop, reverse, find, All, bytes_eq}
-use Rattle.std.proofs.lemmas.Bool.{ltb-true}
+use Rattle.std.specs.Prelude.{ℕ, ◌≤◌, IsSomeAnd, ◌+◌, ◌^◌, ◌<◌, nat_lt, ◌||◌, ◌+ℤ◌, ℤ, pos, negsuc, Bool, true, false, if◌then◌else◌, Option, Some, None, option_map, List, [], ◌∷◌, ◌++◌, length, take, drop, reverse, find, All, bytes_eq}
+use Rattle.std.proofs.lemmas.Bool.{ltb-true, ltb-false}
 use Rattle.std.proofs.lemmas.List.Elements.{All-nil, All-push, All-drop, All-map, All-weaker}
 use Rattle.std.proofs.lemmas.List.{map-append, length-append, length-set}
 use Rattle.c_written.specs.declared.place.Pos.{Pos}
@@ -24,7 +24,10 @@ use Rattle.c_typing.specs.Constants.{constant_value}
 use Rattle.c_typing.proofs.Reaches as reaches
 use Rattle.c_typing.proofs.Opens.{Opens, IsOpen, open_either, open_drop, open_apart, distinct_drop, found_open, found_closed}
 use Rattle.c_typing.proofs.MadeTables.{AreMade, IsIncomplete, get_last, complete_below, made_kept, empty_struct}
-use Rattle.c_typing.proofs.MadeMembers.{nothing_made, made_more, complete_held}
+use Rattle.c_layout.specs.ProperTypes.{IsTold}
+use Rattle.c_layout.specs.Layout.{size_in}
+use Rattle.c_typing.proofs.MadeMembers.{nothing_made, made_more, complete_held, complete_is_size, complete_is_told}
+use Rattle.c_typing.proofs.SoundTables.{AreSound, sound_nothing_yet, sound_kept, sound_more, some_bytes, typed_table}
 use Rattle.c_typing.proofs.Good.{Good, Frame, IsBegun, IsAside, frame_then, frame_same, frame_closed, frame_keeps, aside_kept, is_later, good_closed}
 use Rattle.c_typing.proofs.Reaches.{Reaches, Kept, kept, Goes, typed, refused, goes_same, goes_if, goes_unless, goes_after, AllGo, then_goes, scope_goes, is_goes, enters, GoesWith, typed_so, refused_so, with_after, with_if, AllWith, all_forget, is_with, then_with, so_with, list_with}
 use Rattle.c_typing.specs.Later.{IsLater}
@@ -370,11 +373,18 @@ list_aside t u v f g good = record {
 }
 
 -- the members so far, in the world that they leave
-abbrev pub MadeIn : List MemberMade → World → Type 0
-MadeIn done v = AreMade v.structs (typing.members_made done)
+pub record MadeIn (done : List MemberMade) (v : World) : Type 0 where
+  pub made : AreMade v.structs (typing.members_made done)
+  pub sound : AreSound v.structs (typing.members_made done)
 
-pub made_after : (w v : World) (done : List MemberMade) → Good w → Frame w v → MadeIn done w → MadeIn done v
-made_after w v done good f made = made_kept w.structs v.structs (frame_keeps w v good f) (typing.members_made done) made
+pub no_members_yet : (v : World) → MadeIn [] v
+no_members_yet v = record { made = nothing_made v.structs; sound = sound_nothing_yet v.structs }
+
+pub made_after : (w v : World) (done : List MemberMade) → Good w → Good v → Frame w v → MadeIn done w → MadeIn done v
+made_after w v done good after f m = record {
+  made = made_kept w.structs v.structs (frame_keeps w v good f) (typing.members_made done) m.made;
+  sound = sound_kept w.structs v.structs (is_later w v good after f) (typing.members_made done) m.made.complete m.sound;
+}
 
 pub with_unless : {sizing : Bool} {A : Type 0} {w : World} {P : A → World → Type 0} (b : Bool) (r : Refusal) {x : Outcome A} → GoesWith sizing w P x → GoesWith sizing w P (world.unless b r x)
 with_unless b r p = with_if b refused_so p
@@ -383,15 +393,39 @@ pub with_declared : {sizing : Bool} {A : Type 0} {w : World} {P : A → World �
 with_declared at None p = p
 with_declared at (Some first) p = refused_so
 
-pub member_sized :
-    {sizing : Bool} (w : World) (named : DeclaredName) (ty : CTypeTree) (is_const : Bool) (done : List MemberMade) (size : ℕ) → Good w → MadeIn done w → complete_size w.structs ty ≡ Some size
-    → GoesWith sizing w MadeIn (typing.member_sized w named ty is_const done size)
-member_sized w named ty is_const done size good made e =
+member_typed :
+    (w : World) (named : DeclaredName) (ty : CTypeTree) (done : List MemberMade) (size : ℕ) → Good w → MadeIn done w → IsFormed w.structs ty → complete_size w.structs ty ≡ Some size
+    → typing.next_offset w done ty + size ≤ 2 ^ 40 → MadeIn (typing.with_member w named ty done) w
+member_typed w named ty done size good m f e h = record {
+  made = subst (λ members. AreMade w.structs members) (sym (map-append (λ x. x.member) done _))
+      (made_more w.structs good.made (typing.members_made done) _ m.made (complete_held w.structs ty size e) refl);
+  sound = subst (λ members. AreSound w.structs members) (sym (map-append (λ x. x.member) done _))
+      (sound_more w.structs good.made (typing.members_made done) _ size m.sound (record { formed = f; size = subst (λ o. IsSomeAnd o (λ s. (0 < s) × IsTold s)) (sym is) (some, told) }) is h);
+}
+  where
+    is : size_in w.structs ty ≡ Some size
+    is = complete_is_size w.structs ty size e
+
+    told : IsTold size
+    told = complete_is_told w.structs ty size e
+
+    some : 0 < size
+    some = some_bytes w.structs (typed_table w.structs good.made good.sound) ty size f is
+
+within_so :
+    {sizing : Bool} {A : Type 0} {w : World} {P : A → World → Type 0} (large : Bool) (r : Refusal) {x : Outcome A} → (large ≡ false → GoesWith sizing w P x)
+    → GoesWith sizing w P (world.unless large r x)
+within_so true r f = refused_so
+within_so false r f = f refl
+
+pub member_sized : {sizing : Bool}
+    (w : World) (named : DeclaredName) (ty : CTypeTree) (is_const : Bool) (done : List MemberMade) (size : ℕ) → Good w → MadeIn done w → IsFormed w.structs ty
+    → complete_size w.structs ty ≡ Some size → GoesWith sizing w MadeIn (typing.member_sized w named ty is_const done size)
+member_sized w named ty is_const done size good made f e =
     with_declared named.pos _
-    (with_unless (nat_lt (2 ^ 40) (typing.next_offset w done ty + size)) (ObjectTooLarge named.pos (2 ^ 40))
-    (with_unless (is_const || has_const_elements ty) (Unsupported named.pos constructs.ConstMember)
-    (typed_so (reaches.stays w) (subst (λ members. AreMade w.structs members) (sym (map-append (λ m. m.member) done _))
-    (made_more w.structs good.made (typing.members_made done) _ made (complete_held w.structs ty size e) refl)))))
+    (within_so (nat_lt (2 ^ 40) (typing.next_offset w done ty + size)) (ObjectTooLarge named.pos (2 ^ 40)) (λ h.
+    with_unless (is_const || has_const_elements ty) (Unsupported named.pos constructs.ConstMember)
+    (typed_so (reaches.stays w) (member_typed w named ty done size good made f e (ltb-false (2 ^ 40) (typing.next_offset w done ty + size) h)))))
 
 pub with_size :
     {sizing : Bool} {A : Type 0} {w : World} {P : A → World → Type 0} (r : Refusal) (outcome : ℕ → Outcome A) (size : Option ℕ)
@@ -399,20 +433,15 @@ pub with_size :
 with_size r outcome None f = refused_so
 with_size r outcome (Some n) f = f n refl
 
-pub member_of : {sizing : Bool} (w : World) (named : DeclaredName) (form : Form) (done : List MemberMade) → Good w → MadeIn done w → GoesWith sizing w MadeIn (typing.member_of w named form done)
-member_of w named (Plain ty c) done good made = with_size _ _ (complete_size w.structs ty) (λ n e. member_sized w named ty c done n good made e)
-member_of w named (Unsized ty c) done good made = refused_so
-member_of w named (Callable params result) done good made = refused_so
+pub member_of : {sizing : Bool} (w : World) (named : DeclaredName) (form : Form) (done : List MemberMade) → Good w → MadeIn done w → IsFormedForm w.structs form → GoesWith sizing w MadeIn (typing.member_of w named form done)
+member_of w named (Plain ty c) done good made f = with_size _ _ (complete_size w.structs ty) (λ n e. member_sized w named ty c done n good made f e)
+member_of w named (Unsized ty c) done good made f = refused_so
+member_of w named (Callable params result) done good made f = refused_so
 
-pub member_laid :
-    {sizing : Bool} {w : World} (named : DeclaredName) (done : List MemberMade) (o : Outcome Form) → Good w → MadeIn done w → Goes sizing w o → GoesWith sizing w MadeIn (typing.member_laid named done o)
-member_laid {w = w} named done (Typed form v) good made (typed r) =
-    let k = kept w v r good in with_after r (member_of v named form done k.good (made_after w v done good k.frame made))
+pub member_laid : {sizing : Bool}
+    {w : World} (named : DeclaredName) (done : List MemberMade) (o : Outcome Form) → Good w → MadeIn done w → FormAt w o → GoesWith sizing w MadeIn (typing.member_laid named done o)
+member_laid named done (Typed form v) good made (formed_at _ f) = member_of v named form done good made f
 member_laid named done (Refused q) good made p = refused_so
-
-pub with_its_name : {sizing : Bool} {A : Type 0} {w : World} (first : Pos) (name : Option DeclaredName) (outcome : DeclaredName → Outcome A) → ((named : DeclaredName) → Goes sizing w (outcome named)) → Goes sizing w (typing.with_its_name first name outcome)
-with_its_name first None outcome f = refused
-with_its_name first (Some named) outcome f = f named
 
 pub its_name :
     {sizing : Bool} {A : Type 0} {w : World} {P : A → World → Type 0} (first : Pos) (name : Option DeclaredName) (outcome : DeclaredName → Outcome A)
@@ -420,9 +449,10 @@ pub its_name :
 its_name first None outcome f = refused_so
 its_name first (Some named) outcome f = f named
 
-pub member_made :
-    {sizing : Bool} (w : World) (first : Pos) (base : Form) (done : List MemberMade) (shape : Shape) → Good w → MadeIn done w → GoesWith sizing w MadeIn (typing.member_made w first base done shape)
-member_made w first base done shape good made = its_name first shape.name _ (λ named. member_laid named done _ good made (laid w named.pos shape.steps base))
+pub member_made : {sizing : Bool}
+    (w : World) (first : Pos) (base : Form) (done : List MemberMade) (shape : Shape) → Good w → MadeIn done w → AreFormedSteps w.structs shape.steps → IsFormedForm w.structs base
+    → GoesWith sizing w MadeIn (typing.member_made w first base done shape)
+member_made w first base done shape good made s f = its_name first shape.name _ (λ named. member_laid named done _ good made (laid_at w named.pos shape.steps base s f))
 
 pub unless_named_before : {sizing : Bool} {A : Type 0} (w : World) (name : Option DeclaredName) {o : Outcome A} → Goes sizing w o → Goes sizing w (typing.unless_named_before w name o)
 unless_named_before w None p = p
@@ -509,7 +539,7 @@ params_after w v params later all = All-weaker (λ x. IsFormed w.structs x.ty) (
 closes : {sizing : Bool} {w v u : World} {n : ℕ} {done : List MemberMade} → Reaches sizing w v → IsBegun w v n → Kept v u → GoesWith sizing v MadeIn (Typed done u) → GoesWith sizing w PartIn (typing.struct_made u n done)
 closes {w = w} {v = v} {u = u} {n = n} {done = done} r begun k (typed_so s made) =
     let h = complete_below v.structs n begun.incomplete.def begun.incomplete.there in let l = k.frame.longer in
-    typed_so (reaches.body w v u n (typing.members_made done) r begun s made) (rw length-set (omega arith))
+    typed_so (reaches.body w v u n (typing.members_made done) r begun s made.made made.sound) (rw length-set (omega arith))
 
 kept_made : {sizing : Bool} {v u : World} {done : List MemberMade} → Good v → GoesWith sizing v MadeIn (Typed done u) → Kept v u
 kept_made {v = v} {u = u} good (typed_so s made) = kept v u s good
@@ -571,7 +601,7 @@ mutual
   go_spec w alone (written.Basic at word) = is_with (λ good. typed_so (reaches.stays w) tt)
   go_spec w alone (written.TypedefName at name) = is_with (λ good. typedef_named w at _ (λ m e. meaning_formed w name m good e))
   go_spec w alone (written.Struct at tag) = so_with (is_with (λ good. struct_found w alone tag good)) (λ n v r p k. is_with (λ good. typed_so (reaches.stays v) p))
-  go_spec w alone (written.StructBody at tag members) = body_goes (struct_opened w tag) (λ v. go_members v [] members (nothing_made v.structs))
+  go_spec w alone (written.StructBody at tag members) = body_goes (struct_opened w tag) (λ v. go_members v [] members (no_members_yet v))
   go_spec w alone (written.Enum at tag) = then_with (is_goes (enum_found w tag _)) (λ unit v r k. is_with (λ good. typed_so (reaches.stays v) tt))
   go_spec w alone (written.EnumBody at tag list) =
       then_with (is_goes (enum_opened w tag)) (λ unit v r k. then_with (go_enumerators v _ list) (λ next v2 r2 k2. is_with (λ good. typed_so (enum_closes v2 tag) tt)))
@@ -579,16 +609,20 @@ mutual
   pub go_members : {sizing : Bool} (w : World) (done : _) (members : written.MemberDeclTrees) → MadeIn done w → AllWith sizing w MadeIn (TypesMembers w done members)
   go_members w done written.no_members made good = is_with (λ g. typed_so (reaches.stays w) made) good
   go_members w done (written.more_members (written.Members at specs list) rest) made good =
-      then_with (all_forget (go_specs w _ _ specs (none_yet w))) (λ s v r k. then_with (is_goes (type_told specifiers.OfPlainType (typing.first_of at specs) s v)) (λ base v2 r2 k2.
-      so_with (go_names v2 _ base done list (made_after v v2 done k.good k2.frame (made_after w v done good k.frame made)))
+      so_with (go_specs w _ _ specs (none_yet w)) (λ s v r p k.
+      so_with (is_with (λ g. form_in _ (type_told_at specifiers.OfPlainType (typing.first_of at specs) s v p))) (λ base v2 r2 f k2.
+      so_with (go_names v2 _ base done list f (made_after v v2 done k.good k2.good k2.frame (made_after w v done good k.good k.frame made)))
       (λ members v3 r3 made3 k3. go_members v3 _ rest made3))) good
 
-  pub go_names : {sizing : Bool} (w : World) (first : Pos) (base : Form) (done : _) (list : written.DeclaratorTrees) → MadeIn done w → AllWith sizing w MadeIn (TypesMemberNames w first base done list)
-  go_names w first base done written.no_declarators made good = is_with (λ g. typed_so (reaches.stays w) made) good
-  go_names w first base done (written.more_declarators declarator rest) made good =
-      then_with (all_forget (go_declarator w declarator)) (λ shape v r k.
-      so_with (is_with (λ after. member_made v first base done shape after (made_after w v done good k.frame made)))
-      (λ members v2 r2 made2 k2. go_names v2 first base _ rest made2)) good
+  pub go_names : {sizing : Bool} (w : World) (first : Pos) (base : Form) (done : _) (list : written.DeclaratorTrees) → IsFormedForm w.structs base → MadeIn done w
+      → AllWith sizing w MadeIn (TypesMemberNames w first base done list)
+  go_names w first base done written.no_declarators f made good = is_with (λ g. typed_so (reaches.stays w) made) good
+  go_names w first base done (written.more_declarators declarator rest) f made good =
+      so_with (go_declarator w declarator) (λ shape v r a k.
+      so_with (is_with (λ after. member_made v first base done shape after (made_after w v done good k.good k.frame made) (steps_formed w v shape.steps a)
+      (form_later w.structs v.structs (is_later w v good k.good k.frame) base f)))
+      (λ members v2 r2 made2 k2. go_names v2 first base _ rest
+      (form_later v.structs v2.structs (is_later v v2 k.good k2.good k2.frame) base (form_later w.structs v.structs (is_later w v good k.good k.frame) base f)) made2)) good
 
   pub go_enumerators : {sizing : Bool} (w : World) (next : ℤ) (list : written.EnumeratorTrees) → AllGo sizing w (TypesEnumerators w next list)
   go_enumerators w next written.no_enumerators = is_goes goes_same
