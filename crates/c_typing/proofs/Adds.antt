@@ -1,6 +1,6 @@
 -- A world that is reached goes on from the one before: its objects and functions keep their numbers.
 use Rattle.std.proofs.Common.{◌≡◌, sym, ◌∙◌, subst, ap, refl}
-use Rattle.std.specs.Prelude.{ℕ, zero, suc, Option, Some, None, option_map, unwrap_or, IsSomeAnd, List, [], ◌∷◌, ◌++◌, set, slice_get}
+use Rattle.std.specs.Prelude.{true, ℕ, zero, suc, Option, Some, None, option_map, unwrap_or, IsSomeAnd, List, [], ◌∷◌, ◌++◌, set, slice_get}
 use Rattle.c_syntax.specs.Types.{CTypeTree}
 use Rattle.c_syntax.specs.Program.{StructDefTree}
 use Rattle.c_written.specs.WrittenFile.{OuterTree}
@@ -11,10 +11,12 @@ use Rattle.c_typing.specs.Context.{Context}
 use Rattle.c_typing.specs.File.{TypesOuters, nothing_yet}
 use Rattle.c_typing.specs.Decls.{sized_object}
 use Rattle.c_typing.specs.Later.{has_members}
-use Rattle.c_typing.specs.Laws.{IsSameFunction, IsSameObject, IsSameStruct, TypingAdds, StructsAreLaidOut}
-use Rattle.c_typing.proofs.MadeTables.{made_nothing, founded}
+use Rattle.c_typing.specs.Laws.{IsLastType, same, sized, IsSameFunction, IsSameObject, IsSameStruct, TypingAdds, StructsAreTyped}
+use Rattle.c_typing.proofs.MadeTables.{made_nothing}
+use Rattle.c_typing.proofs.SoundTables.{sound_nothing, typed_table}
 use Rattle.c_typing.proofs.Good.{Good, Frame, complete_shut}
-use Rattle.c_typing.proofs.Reaches.{Reaches, kept, Goes, typed, stays, after, named, literal, struct, new_struct, enumeration, tag_changed, body, opens, scoped, object, counted, sized, initial, linked, defined, retyped, parameters, function, function_changed, labelled, cased, in_body}
+use Rattle.c_typing.proofs.Reaches as reaches
+use Rattle.c_typing.proofs.Reaches.{Reaches, kept, Goes, typed, stays, after, named, literal, struct, new_struct, enumeration, tag_changed, body, opens, scoped, object, counted, initial, linked, defined, retyped, parameters, function, function_changed, labelled, cased, in_body}
 use Rattle.c_typing.proofs.FileGo.{outers}
 
 -- what stands in a list at this number, related to an item
@@ -59,9 +61,9 @@ keep_set p (a ∷ xs) (suc n) y z e r zero x q = record { item = x; there = q; r
 keep_set p (a ∷ xs) (suc n) y z e r (suc k) x q =
     let inner = keep_set p xs n y z e r k x q in record { item = inner.item; there = inner.there; related = inner.related }
 
-keep_change : {A : Type 0} {R : A → A → Type 0} → Preorder R → (xs : List A) (n : ℕ) (change : A → A) → ((y : A) → R y (change y)) → (o : Option A) → slice_get xs n ≡ o → Keep R xs (unwrap_or (option_map (λ y. set xs n (change y)) o) xs)
+keep_change : {A : Type 0} {R : A → A → Type 0} → Preorder R → (xs : List A) (n : ℕ) (change : A → A) → ((y : A) → slice_get xs n ≡ Some y → R y (change y)) → (o : Option A) → slice_get xs n ≡ o → Keep R xs (unwrap_or (option_map (λ y. set xs n (change y)) o) xs)
 keep_change p xs n change r None e = keep_all p xs
-keep_change p xs n change r (Some y) e = keep_set p xs n y (change y) e (r y)
+keep_change p xs n change r (Some y) e = keep_set p xs n y (change y) e (r y e)
 
 functions_order : Preorder IsSameFunction
 functions_order = record {
@@ -69,10 +71,15 @@ functions_order = record {
   next = λ f g h a b. record { name = a.name ∙ b.name; result = a.result ∙ b.result };
 }
 
+last_then : {s t u : CTypeTree} → IsLastType s t → IsLastType t u → IsLastType s u
+last_then (same ty) q = q
+last_then (sized of c n) (same _) = sized of c n
+last_then (sized of c zero) (sized _ _ m) = sized of c m
+
 objects_order : Preorder IsSameObject
 objects_order = record {
-  same = λ x. record { name = refl; pos = refl; read_only = refl; is_static = refl };
-  next = λ x y z a b. record { name = a.name ∙ b.name; pos = a.pos ∙ b.pos; read_only = a.read_only ∙ b.read_only; is_static = a.is_static ∙ b.is_static };
+  same = λ x. record { name = refl; pos = refl; ty = same x.ty; read_only = refl; is_static = refl };
+  next = λ x y z a b. record { name = a.name ∙ b.name; pos = a.pos ∙ b.pos; ty = last_then a.ty b.ty; read_only = a.read_only ∙ b.read_only; is_static = a.is_static ∙ b.is_static };
 }
 
 signatures_order : Preorder {A = List CTypeTree} ◌≡◌
@@ -108,7 +115,7 @@ continued_then w u v one two = record {
 in_scope : (w x u v : World) → x.objects ≡ w.objects → x.functions ≡ w.functions → x.signatures ≡ w.signatures → v.objects ≡ u.objects → v.functions ≡ u.functions → v.signatures ≡ u.signatures → Continued x u → Continued w v
 in_scope w x u v a b c d e f k = continued_then w x v (all_same w x a b c) (continued_then x u v k (all_same u v d e f))
 
-continued : (w v : World) → Reaches w v → Continued w v
+continued : (w v : World) → Reaches true w v → Continued w v
 continued w v (stays _) = all_same w w refl refl refl
 continued w v (after _ u _ r s) = continued_then w u v (continued w u r) (continued u v s)
 continued w v (named _ at name meaning f) = all_same w _ refl refl refl
@@ -117,20 +124,20 @@ continued w v (struct _ tag) = all_same w _ refl refl refl
 continued w v (new_struct _ tag d) = all_same w _ refl refl refl
 continued w v (enumeration _ tag d) = all_same w _ refl refl refl
 continued w v (tag_changed _ tag at meaning f) = all_same w _ refl refl refl
-continued w v (body _ u x n members r begun s are) = continued_then w u _ (continued w u r) (continued_then u x _ (continued u x s) (all_same x _ refl refl refl))
+continued w v (body _ u x n members r begun s are sound) = continued_then w u _ (continued w u r) (continued_then u x _ (continued u x s) (all_same x _ refl refl refl))
 continued w v (opens _) = all_same w _ refl refl refl
 continued w v (scoped _ u r) = in_scope w _ u _ refl refl refl refl refl refl (continued _ u r)
 continued w v (object _ x) = same_functions w _ refl refl (keep_append objects_order w.objects _)
 continued w v (counted _ size) = all_same w _ refl refl refl
-continued w v (sized _ n ty size) =
-    same_functions w _ refl refl (keep_change objects_order w.objects n (sized_object ty size) (λ x. record { name = refl; pos = refl; read_only = refl; is_static = refl }) _ refl)
+continued w v (reaches.sized _ n ty size h) =
+    same_functions w _ refl refl (keep_change objects_order w.objects n (sized_object ty size) (λ x there. record { name = refl; pos = refl; ty = h x there; read_only = refl; is_static = refl }) _ refl)
 continued w v (initial _ n bytes) = all_same w _ refl refl refl
 continued w v (linked _ name meaning d f) = all_same w _ refl refl refl
 continued w v (defined _ name now) = all_same w _ refl refl refl
 continued w v (retyped _ list) = all_same w _ refl refl refl
 continued w v (parameters _ params) = same_functions w _ refl refl (keep_append objects_order w.objects _)
 continued w v (function _ types f) = same_objects w _ refl (keep_append functions_order w.functions _) (keep_append signatures_order w.signatures _)
-continued w v (function_changed _ n change f) = same_objects w _ refl (keep_change functions_order w.functions n change f _ refl) (keep_all signatures_order w.signatures)
+continued w v (function_changed _ n change f) = same_objects w _ refl (keep_change functions_order w.functions n change (λ y there. f y) _ refl) (keep_all signatures_order w.signatures)
 continued w v (labelled _ labels) = all_same w _ refl refl refl
 continued w v (cased _ cases default) = all_same w _ refl refl refl
 continued w v (in_body _ u x first names tags r aside f s) = continued_then w u _ (continued w u r) (in_scope u _ x _ refl refl refl refl refl refl (continued _ x s))
@@ -138,13 +145,13 @@ continued w v (in_body _ u x first names tags r aside f s) = continued_then w u 
 is_some_and : {A : Type 0} {R : A → A → Type 0} (x : A) (ys : List A) (k : ℕ) → At R x ys k → IsSomeAnd (slice_get ys k) (R x)
 is_some_and {R = R} x ys k a = subst (λ o. IsSomeAnd o (R x)) (sym a.there) a.related
 
-reached : {w v : World} {A : Type 0} {a : A} → Goes w (Typed a v) → Reaches w v
+reached : {w v : World} {A : Type 0} {a : A} → Goes true w (Typed a v) → Reaches true w v
 reached (typed r) = r
 
 -- ---- structs
 
 pub nothing_good : Good nothing_yet
-nothing_good = record { incomplete = λ n p. absurd p; distinct = tt; made = made_nothing; formed = record { names = All-nil (λ b. IsFormedMeaning [] b.meaning); tags = All-nil (λ b. IsFormedTag [] b.meaning) } }
+nothing_good = record { incomplete = λ n p. absurd p; distinct = tt; made = made_nothing; sound = sound_nothing; formed = record { names = All-nil (λ b. IsFormedMeaning [] b.meaning); tags = All-nil (λ b. IsFormedTag [] b.meaning) } }
 
 -- a world that declarations reach is good
 pub good_after : (w : World) (around : Context) (list : List OuterTree) → TypesOuters nothing_yet around list (Typed tt w) → Good w
@@ -171,6 +178,5 @@ typing_adds around before behind w v s t =
       structs = same_struct w v good (kept w v r good).frame;
     }
 
-pub structs_are_laid_out : StructsAreLaidOut
-structs_are_laid_out around list w t =
-    let made = (good_after w around list t).made in record { laid_out = made.laid_out; founded = founded w.structs made }
+pub structs_are_typed : StructsAreTyped
+structs_are_typed around list w t = let good = good_after w around list t in typed_table w.structs good.made good.sound

@@ -13,6 +13,7 @@ use Rattle.c_layout.specs.Layout.{struct_space, spaces_by, in_table}
 use Rattle.c_typing.specs.Later.{has_members, is_complete, IsLater}
 use Rattle.c_typing.specs.Formed.{IsFormedMeaning, IsFormedTag}
 use Rattle.c_typing.proofs.Later.{meaning_later, tag_later}
+use Rattle.c_typing.proofs.SoundTables.{IsSound, AreSound, sound_with, sound_complete}
 use Rattle.c_typing.proofs.Opens.{Opens, IsOpen, AreDistinct, open_either, open_take, open_drop, open_apart, distinct_take, distinct_drop, distinct_append, open_before, distinct_before}
 use Rattle.c_typing.proofs.MadeTables.{IsMade, keeps_made, with_made, AreMade, IsIncomplete, get_append, get_last, get_set, get_other, complete_below, Keeps, made_with, made_complete}
 
@@ -26,6 +27,7 @@ pub record Good (w : World) : Type 0 where
   pub incomplete : (n : ℕ) → IsOpen n w.tags → IsIncomplete w.structs n
   pub distinct : AreDistinct w.tags
   pub made : IsMade w.structs
+  pub sound : IsSound w.structs
   pub formed : AreFormed w.structs w.names w.tags
 
 -- what a later world keeps: a struct that no tag leaves to be defined stays as it is
@@ -84,6 +86,7 @@ good_same w v s t n good = record {
   incomplete = λ n p. subst (λ a. IsIncomplete a n) (sym s) (good.incomplete n (subst (λ tags. IsOpen n tags) t p));
   distinct = subst AreDistinct (sym t) good.distinct;
   made = subst IsMade (sym s) good.made;
+  sound = subst IsSound (sym s) good.sound;
   formed = subst (λ a. AreFormed a v.names v.tags) (sym s) (subst (λ names. AreFormed w.structs names v.tags) (sym n) (subst (λ tags. AreFormed w.structs w.names tags) (sym t) good.formed));
 }
 
@@ -92,6 +95,7 @@ good_named w at name m f good = record {
   incomplete = good.incomplete;
   distinct = good.distinct;
   made = good.made;
+  sound = good.sound;
   formed = record { names = All-push (λ b. IsFormedMeaning w.structs b.meaning) w.names _ good.formed.names f; tags = good.formed.tags };
 }
 
@@ -115,6 +119,7 @@ good_struct w tag good = record {
   incomplete = λ n p. let bare = good.incomplete n p in record { def = bare.def; there = get_append w.structs _ n bare.def bare.there; empty = bare.empty };
   distinct = good.distinct;
   made = made_with w.structs tag good.made;
+  sound = sound_with w.structs tag good.made (later_with w tag good) good.sound;
   formed = formed_grown w.structs _ w.names w.tags (later_with w tag good) good.formed;
 }
 
@@ -144,6 +149,7 @@ good_new w tag defined good = record {
   distinct = distinct_append w.tags _ good.distinct ((λ n a p. p), tt)
       (λ n p q. ⊎_elim (λ a. apart n p (new_is (length w.structs) n _ refl a)) (λ none. none) q);
   made = made_with w.structs tag.name good.made;
+  sound = sound_with w.structs tag.name good.made (later_with w tag.name good) good.sound;
   formed =
       let grown = formed_grown w.structs _ w.names w.tags (later_with w tag.name good) good.formed in
       record { names = grown.names; tags = All-push (λ b. IsFormedTag (with_struct w tag.name).structs b.meaning) w.tags _ grown.tags (rw length-append (omega arith)) };
@@ -168,6 +174,7 @@ good_enum w tag defined good = record {
   incomplete = λ n p. ⊎_elim (λ l. good.incomplete n l) (λ r. ⊎_elim (λ a. absurd (no_struct n _ refl a)) (λ none. absurd none) r) (open_either n w.tags _ p);
   distinct = distinct_append w.tags _ good.distinct ((λ n a p. p), tt) (λ n p q. ⊎_elim (λ a. no_struct n _ refl a) (λ none. none) q);
   made = good.made;
+  sound = good.sound;
   formed = record { names = good.formed.names; tags = All-push (λ b. IsFormedTag w.structs b.meaning) w.tags _ good.formed.tags tt };
 }
 
@@ -204,6 +211,7 @@ good_changed w tag at m f good = record {
       (distinct_before at m tag (drop w.first_tag w.tags) (distinct_drop w.first_tag w.tags good.distinct))
       (λ n p q. open_apart n w.first_tag w.tags good.distinct p (open_before n at m tag (drop w.first_tag w.tags) q));
   made = good.made;
+  sound = good.sound;
   formed = record {
     names = good.formed.names;
     tags = All-append (λ b. IsFormedTag w.structs b.meaning) (take w.first_tag w.tags) _ (All-take (λ b. IsFormedTag w.structs b.meaning) w.first_tag w.tags good.formed.tags)
@@ -226,6 +234,7 @@ good_closed u v good = record {
   incomplete = λ n p. good.incomplete n (open_take n (length u.tags) v.tags p);
   distinct = distinct_take (length u.tags) v.tags good.distinct;
   made = good.made;
+  sound = good.sound;
   formed = record {
     names = All-take (λ b. IsFormedMeaning v.structs b.meaning) (length u.names) v.names good.formed.names;
     tags = All-take (λ b. IsFormedTag v.structs b.meaning) (length u.tags) v.tags good.formed.tags;
@@ -248,8 +257,8 @@ pub record IsBegun (w v : World) (n : ℕ) : Type 0 where
   pub shut : IsOpen n v.tags → ⊥
   pub from : n < length w.structs → (IsOpen n w.tags → ⊥) → ⊥
 
-pub good_body : (u w v : World) (n : ℕ) (members : List MemberTree) → IsBegun u w n → Frame w v → Good v → AreMade v.structs members → Good (with_members v n members)
-good_body u w v n members begun f after are = record {
+pub good_body : (u w v : World) (n : ℕ) (members : List MemberTree) → IsBegun u w n → Frame w v → Good v → AreMade v.structs members → AreSound v.structs members → Good (with_members v n members)
+good_body u w v n members begun f after are sound = record {
   incomplete = λ k p. let bare = after.incomplete k p in record {
     def = bare.def;
     there = get_other v.structs n k _ (λ e. shut (subst (λ j. IsOpen j v.tags) e p)) ∙ bare.there;
@@ -257,8 +266,8 @@ good_body u w v n members begun f after are = record {
   };
   distinct = after.distinct;
   made = complete;
-  formed = formed_grown v.structs _ v.names v.tags
-      (later_made v.structs _ after.made complete (rw length-set (omega arith)) (keeps_made v.structs n (tag_of v.structs n) members bare_now)) after.formed;
+  sound = sound_complete v.structs n (tag_of v.structs n) members after.made complete grown bare_now are.complete after.sound sound;
+  formed = formed_grown v.structs _ v.names v.tags grown after.formed;
 }
   where
     bare_now : IsIncomplete v.structs n
@@ -266,6 +275,9 @@ good_body u w v n members begun f after are = record {
 
     complete : IsMade (with_made v.structs n (tag_of v.structs n) members)
     complete = made_complete v.structs n (tag_of v.structs n) members after.made bare_now are
+
+    grown : IsLater v.structs (with_made v.structs n (tag_of v.structs n) members)
+    grown = later_made v.structs _ after.made complete (rw length-set (omega arith)) (keeps_made v.structs n (tag_of v.structs n) members bare_now)
 
     shut : IsOpen n v.tags → ⊥
     shut = f.shut n (complete_below w.structs n begun.incomplete.def begun.incomplete.there) begun.shut
@@ -315,6 +327,7 @@ good_in t u v names tags s e m formed aside good = record {
   incomplete = λ n p. subst (λ a. IsIncomplete a n) (sym s) (⊎_elim (λ l. good.incomplete n l) (λ r. aside.incomplete n r) (open_either n u.tags tags (subst (λ x. IsOpen n x) e p)));
   distinct = subst AreDistinct (sym e) (distinct_append u.tags tags good.distinct aside.distinct (λ n p q. aside.apart n q p));
   made = subst IsMade (sym s) good.made;
+  sound = subst IsSound (sym s) good.sound;
   formed = subst (λ a. AreFormed a v.names v.tags) (sym s) (subst (λ x. AreFormed u.structs x v.tags) (sym m) (subst (λ x. AreFormed u.structs (u.names ++ names) x) (sym e) (record {
     names = All-append (λ b. IsFormedMeaning u.structs b.meaning) u.names names good.formed.names formed;
     tags = All-append (λ b. IsFormedTag u.structs b.meaning) u.tags tags good.formed.tags aside.formed;

@@ -23,7 +23,7 @@ space_later : (a b : List StructDefTree) → IsLater a b → (ty : CTypeTree) �
 space_later a b later ty h =
     space_held (laid_out b) (laid_out a) ty (some_map (held ty) (λ k. IsTrue (is_complete a k)) (λ k. laid_out b k ≡ laid_out a k) (λ k c. struct_later a b later k c) h)
 
-later_size : (a b : List StructDefTree) → IsLater a b → (ty : CTypeTree) (size : ℕ) → size_in a ty ≡ Some size → size_in b ty ≡ Some size
+pub later_size : (a b : List StructDefTree) → IsLater a b → (ty : CTypeTree) (size : ℕ) → size_in a ty ≡ Some size → size_in b ty ≡ Some size
 later_size a b later ty size e = ap (λ s. s.size) (space_later a b later ty (size_held a ty size e)) ∙ e
 
 pub size_later : (a b : List StructDefTree) → IsLater a b → (ty : CTypeTree) (size : ℕ) → complete_size a ty ≡ Some size → size_in b ty ≡ Some size

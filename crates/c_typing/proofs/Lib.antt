@@ -3,6 +3,8 @@ pub mod Opens
 pub mod MadeTables
 pub mod MadeMembers
 pub mod Later
+pub mod SoundTables
+pub mod Same
 pub mod Good
 pub mod Reaches
 pub mod NodesGo

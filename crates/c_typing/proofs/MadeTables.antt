@@ -175,8 +175,11 @@ count_with : (a : List StructDefTree) (tag : List ℕ) → completed (a ++ empty
 count_with [] tag = refl
 count_with (d ∷ a) tag = ap (λ c. (if has_members d.members then 1 else 0) + c) (count_with a tag)
 
+pub same_with : (a : List StructDefTree) (tag : List ℕ) → Same a (a ++ empty_struct tag ∷ [])
+same_with a tag = record { members = members_with a tag; spaces = told_with a tag; count = count_with a tag }
+
 pub made_with : (a : List StructDefTree) (tag : List ℕ) → IsMade a → IsMade (a ++ empty_struct tag ∷ [])
-made_with a tag = made_same a _ (record { members = members_with a tag; spaces = told_with a tag; count = count_with a tag })
+made_with a tag = made_same a _ (same_with a tag)
 
 pub made_nothing : IsMade []
 made_nothing = record {
@@ -190,7 +193,7 @@ made_nothing = record {
 
 -- ---- a struct that is completed
 
-members_set : (a : List StructDefTree) (n : ℕ) (def new : StructDefTree) → slice_get a n ≡ Some def → members_of (set a n new) n ≡ new.members
+pub members_set : (a : List StructDefTree) (n : ℕ) (def new : StructDefTree) → slice_get a n ≡ Some def → members_of (set a n new) n ≡ new.members
 members_set a n def new e = ap (λ o. unwrap_or (option_map (λ d. d.members) o) []) (get_set a n def new e)
 
 -- what is told of the number that was given
@@ -227,7 +230,7 @@ keeps_made a n tag members bare k c =
     get_other a n k _ (λ e. false≢true (sym (not_complete a n bare) ∙ subst (λ m. IsTrue (is_complete a m)) e c))
 
 -- without members it is as it was
-same_without : (a : List StructDefTree) (n : ℕ) (tag : List ℕ) → IsIncomplete a n → Same a (with_made a n tag [])
+pub same_without : (a : List StructDefTree) (n : ℕ) (tag : List ℕ) → IsIncomplete a n → Same a (with_made a n tag [])
 same_without a n tag bare = record { members = members; spaces = spaces; count = count_set a n bare.def _ bare.there bare.empty ∙ sym (none_more (completed a)) }
   where
     members : (k : ℕ) → members_of (with_made a n tag []) k ≡ members_of a k

@@ -1,6 +1,6 @@
 -- A good world and a tree have an outcome.
 use Rattle.std.proofs.Common.{refl}
-use Rattle.std.specs.Prelude.{Bool, Some, []}
+use Rattle.std.specs.Prelude.{true, Bool, Some, []}
 use Rattle.c_written.specs.WrittenParts.{expr_pos}
 use Rattle.c_typing.specs.Constants.{constant_value}
 use Rattle.c_written.specs.Written as written
@@ -11,13 +11,14 @@ use Rattle.c_typing.specs.Specifiers as specifiers
 use Rattle.c_typing.specs.Declarators.{Shape}
 use Rattle.c_typing.specs.Typing as typing
 use Rattle.c_typing.specs.Typing.{Types, TypesArgs, TypesSpecs, TypesSpec, TypesMembers, TypesMemberNames, TypesEnumerators, TypesDeclarator, TypesParams, Valued}
-use Rattle.c_typing.proofs.MadeMembers.{nothing_made}
 use Rattle.std.proofs.lemmas.List.Elements.{All-push}
-use Rattle.c_typing.specs.Formed.{IsFormed}
+use Rattle.c_typing.specs.Formed.{IsFormed, IsFormedForm}
+use Rattle.c_typing.proofs.Later.{form_later}
+use Rattle.c_typing.proofs.FormsGo.{type_told_at}
 use Rattle.c_typing.proofs.Good.{Good, is_later}
 use Rattle.c_typing.proofs.Reaches.{Kept, kept, Goes, typed, AllGo, is_goes, enters, GoesWith, typed_so, forget, AllWith, all_forget, is_with}
 use Rattle.c_typing.proofs.TypesGo as types_go
-use Rattle.c_typing.proofs.TypesGo.{MadeIn, made_after, SpecsIn, ShapeIn, ParamsIn, none_yet, no_params_yet, params_after, valued, go, go_list, go_specs, go_spec, go_members, go_names, go_enumerators, go_declarator, go_params}
+use Rattle.c_typing.proofs.TypesGo.{MadeIn, made_after, no_members_yet, SpecsIn, ShapeIn, ParamsIn, none_yet, no_params_yet, params_after, valued, go, go_list, go_specs, go_spec, go_members, go_names, go_enumerators, go_declarator, go_params}
 
 -- some outcome is of this kind
 abbrev pub Has : {A : Type 0} → (Outcome A → Type 0) → Type 0
@@ -26,13 +27,13 @@ Has {A} kind = (o : Outcome A) × kind o
 pub is_has : {A : Type 0} (x : Outcome A) → Has (Is x)
 is_has x = (x, refl)
 
-after : {A : Type 0} {w v : World} {a : A} → Good w → Goes w (Typed a v) → Kept w v
+after : {A : Type 0} {w v : World} {a : A} → Good w → Goes true w (Typed a v) → Kept w v
 after {w = w} {v = v} good (typed r) = kept w v r good
 
 -- where the first part has an outcome, and in each world that it leaves so has the next, both together have one
 pub then_has :
     {A B : Type 0} {w : World} {first : Outcome A → Type 0} {next : A → World → Outcome B → Type 0}
-    → Good w → AllGo w first → Has first → ((a : A) (v : World) → Kept w v → Has (next a v)) → Has (Then first next)
+    → Good w → AllGo true w first → Has first → ((a : A) (v : World) → Kept w v → Has (next a v)) → Has (Then first next)
 then_has {A} {B} {w} {first} {next} good f h g = by h.0 h.1
   where
     by : (o : Outcome A) → first o → Has (Then first next)
@@ -42,10 +43,10 @@ then_has {A} {B} {w} {first} {next} good f h g = by h.0 h.1
 -- the same where what the first part leaves has a property
 pub so_has :
     {A B : Type 0} {w : World} {first : Outcome A → Type 0} {next : A → World → Outcome B → Type 0} {P : A → World → Type 0}
-    → Good w → AllWith w P first → Has first → ((a : A) (v : World) → Kept w v → P a v → Has (next a v)) → Has (Then first next)
+    → Good w → AllWith true w P first → Has first → ((a : A) (v : World) → Kept w v → P a v → Has (next a v)) → Has (Then first next)
 so_has {A} {B} {w} {first} {next} {P} good f h g = by h.0 h.1
   where
-    at : (a : A) (v : World) → first (Typed a v) → GoesWith w P (Typed a v) → Has (Then first next)
+    at : (a : A) (v : World) → first (Typed a v) → GoesWith true w P (Typed a v) → Has (Then first next)
     at a v p (typed_so r q) = let s = g a v (kept w v r good) q in (s.0, goes_on p s.1)
 
     by : (o : Outcome A) → first o → Has (Then first next)
@@ -60,14 +61,14 @@ value w e good h g = then_has good (valued (go w e)) (then_has good (go w e) h (
 
 pub of_type_name :
     {w : World} (first : _) {specs : Outcome specifiers.SpecsTree → Type 0} {declarator : World → Outcome Shape → Type 0} → Good w
-    → AllWith w SpecsIn specs → Has specs → ((v : World) → AllWith v (ShapeIn v) (declarator v)) → ((v : World) → Good v → Has (declarator v)) → Has (typing.OfTypeName first specs declarator)
+    → AllWith true w SpecsIn specs → Has specs → ((v : World) → AllWith true v (ShapeIn v) (declarator v)) → ((v : World) → Good v → Has (declarator v)) → Has (typing.OfTypeName first specs declarator)
 of_type_name first good f h g d =
     then_has good (all_forget f) h (λ s v k. then_has k.good (is_goes (types_go.type_told specifiers.OfPlainType first s v)) (is_has _) (λ base v2 k2.
     then_has k2.good (all_forget (g v2)) (d v2 k2.good) (λ shape v3 k3. is_has _)))
 
 pub of_parameter :
     {w : World} (n : _) (first : _) {specs : Outcome specifiers.SpecsTree → Type 0} {declarator : World → Outcome Shape → Type 0} → Good w
-    → AllWith w SpecsIn specs → Has specs → ((v : World) → AllWith v (ShapeIn v) (declarator v)) → ((v : World) → Good v → Has (declarator v)) → Has (typing.OfParameter n first specs declarator)
+    → AllWith true w SpecsIn specs → Has specs → ((v : World) → AllWith true v (ShapeIn v) (declarator v)) → ((v : World) → Good v → Has (declarator v)) → Has (typing.OfParameter n first specs declarator)
 of_parameter n first good f h g d =
     then_has good (all_forget f) h (λ s v k. then_has k.good (is_goes (types_go.type_told specifiers.OfParameter first s v)) (is_has _) (λ base v2 k2.
     then_has k2.good (all_forget (g v2)) (d v2 k2.good) (λ shape v3 k3. is_has _)))
@@ -120,7 +121,7 @@ mutual
   some_spec w alone (written.Struct at tag) good = then_has good (is_goes (forget (types_go.struct_found w alone tag good))) (is_has _) (λ n v k. is_has _)
   some_spec w alone (written.StructBody at tag members) good =
       then_has good (is_goes (forget (types_go.struct_opened w tag good))) (is_has _) (λ n v k.
-      then_has k.good (all_forget (go_members v _ members (nothing_made v.structs))) (some_members v _ members (nothing_made v.structs) k.good) (λ done v2 k2. is_has _))
+      then_has k.good (all_forget (go_members v [] members (no_members_yet v))) (some_members v [] members (no_members_yet v) k.good) (λ done v2 k2. is_has _))
   some_spec w alone (written.Enum at tag) good = then_has good (is_goes (types_go.enum_found w tag _)) (is_has _) (λ unit v k. is_has _)
   some_spec w alone (written.EnumBody at tag list) good =
       then_has good (is_goes (types_go.enum_opened w tag)) (is_has _) (λ unit v k.
@@ -129,18 +130,19 @@ mutual
   pub some_members : (w : World) (done : _) (members : written.MemberDeclTrees) → MadeIn done w → Good w → Has (TypesMembers w done members)
   some_members w done written.no_members made good = is_has _
   some_members w done (written.more_members (written.Members at specs list) rest) made good =
-      then_has good (all_forget (go_specs w _ _ specs (none_yet w))) (some_specs w _ _ specs good) (λ s v k.
-      then_has k.good (is_goes (types_go.type_told specifiers.OfPlainType (typing.first_of at specs) s v)) (is_has _) (λ base v2 k2.
-      let made2 = made_after v v2 done k.good k2.frame (made_after w v done good k.frame made) in
-      so_has k2.good (go_names v2 _ base done list made2) (some_names v2 _ base done list made2 k2.good) (λ members v3 k3 made3.
+      so_has good (go_specs w _ _ specs (none_yet w)) (some_specs w _ _ specs good) (λ s v k p.
+      so_has k.good (is_with (λ g. types_go.form_in _ (type_told_at specifiers.OfPlainType (typing.first_of at specs) s v p))) (is_has _) (λ base v2 k2 f.
+      let made2 = made_after v v2 done k.good k2.good k2.frame (made_after w v done good k.good k.frame made) in
+      so_has k2.good (go_names v2 _ base done list f made2) (some_names v2 _ base done list f made2 k2.good) (λ members v3 k3 made3.
       some_members v3 _ rest made3 k3.good)))
 
-  pub some_names : (w : World) (first : _) (base : _) (done : _) (list : written.DeclaratorTrees) → MadeIn done w → Good w → Has (TypesMemberNames w first base done list)
-  some_names w first base done written.no_declarators made good = is_has _
-  some_names w first base done (written.more_declarators declarator rest) made good =
-      then_has good (all_forget (go_declarator w declarator)) (some_declarator w declarator good) (λ shape v k.
-      so_has k.good (is_with (λ g. types_go.member_made v first base done shape g (made_after w v done good k.frame made))) (is_has _) (λ members v2 k2 made2.
-      some_names v2 first base _ rest made2 k2.good))
+  pub some_names : (w : World) (first : _) (base : _) (done : _) (list : written.DeclaratorTrees) → IsFormedForm w.structs base → MadeIn done w → Good w → Has (TypesMemberNames w first base done list)
+  some_names w first base done written.no_declarators f made good = is_has _
+  some_names w first base done (written.more_declarators declarator rest) f made good =
+      so_has good (go_declarator w declarator) (some_declarator w declarator good) (λ shape v k a.
+      let one = form_later w.structs v.structs (is_later w v good k.good k.frame) base f in
+      so_has k.good (is_with (λ g. types_go.member_made v first base done shape g (made_after w v done good k.good k.frame made) (types_go.steps_formed w v shape.steps a) one)) (is_has _)
+      (λ members v2 k2 made2. some_names v2 first base _ rest (form_later v.structs v2.structs (is_later v v2 k.good k2.good k2.frame) base one) made2 k2.good))
 
   pub some_enumerators : (w : World) (next : _) (list : written.EnumeratorTrees) → Good w → Has (TypesEnumerators w next list)
   some_enumerators w next written.no_enumerators good = is_has _

@@ -188,9 +188,9 @@ declarators_has w around first storage base done [] f good = is_has _
 declarators_has w around first storage base done (item ∷ rest) f good =
     so_has good (go_declarator w item.declarator) (some_declarator w item.declarator good) (λ shape v k a.
     let one = form_later w.structs v.structs (is_later w v good k.good k.frame) base f in
-    then_has k.good (is_goes (decls_go.declared v around first storage base _ shape (steps_formed w v shape.steps a) one)) (is_has _) (λ what v2 k2.
+    so_has k.good (is_with (λ g. decls_go.declared v around first storage base _ shape (steps_formed w v shape.steps a) one)) (is_has _) (λ what v2 k2 is.
     let two = form_later v.structs v2.structs (is_later v v2 k.good k2.good k2.frame) base one in
-    then_has k2.good (decls_go.init_of v2 what item.init) (init_of_has v2 what item.init k2.good) (λ made v3 k3.
+    then_has k2.good (decls_go.init_of v2 what item.init is) (init_of_has v2 what item.init k2.good) (λ made v3 k3.
     declarators_has v3 around first storage base _ rest (form_later v2.structs v3.structs (is_later v2 v3 k2.good k3.good k3.frame) base two) k3.good)))
 
 decl_has : (w : World) (around : Context) (decl : DeclTree) → Good w → Has (TypesDecl w around decl)
@@ -208,17 +208,17 @@ dropped_has : (w : World) (e : written.ExprTree) → Good w → Has (Dropped w e
 dropped_has w e good = value w e good (some w e good) (λ x v k. is_has _)
 
 perhaps_has :
-    (w : World) {types : World → written.ExprTree → Outcome TExprTree → Type 0} → Good w → ((v : World) (e : written.ExprTree) → AllGo v (types v e))
+    (w : World) {types : World → written.ExprTree → Outcome TExprTree → Type 0} → Good w → ((v : World) (e : written.ExprTree) → AllGo true v (types v e))
     → ((v : World) (e : written.ExprTree) → Good v → Has (types v e)) → (e : Option written.ExprTree) → Has (Perhaps w types e)
 perhaps_has w good g f None = is_has _
 perhaps_has w good g f (Some e) = then_has good (g w e) (f w e good) (λ x v k. is_has _)
 
 substatement_has :
-    (w : World) (at : _) {types : World → Outcome TStmtTrees → Type 0} → Good w → ((v : World) → AllGo v (types v)) → ((v : World) → Good v → Has (types v)) → Has (OfSubstatement w at types)
+    (w : World) (at : _) {types : World → Outcome TStmtTrees → Type 0} → Good w → ((v : World) → AllGo true v (types v)) → ((v : World) → Good v → Has (types v)) → Has (OfSubstatement w at types)
 substatement_has w at good g f = then_has (enters good) (g (opened w)) (f (opened w) (enters good)) (λ items v k. is_has _)
 
 block_has :
-    (w : World) {types : World → Outcome Made → Type 0} (node : Made → TStmtTree) → Good w → ((v : World) → AllGo v (types v)) → ((v : World) → Good v → Has (types v)) → Has (OfBlock w types node)
+    (w : World) {types : World → Outcome Made → Type 0} (node : Made → TStmtTree) → Good w → ((v : World) → AllGo true v (types v)) → ((v : World) → Good v → Has (types v)) → Has (OfBlock w types node)
 block_has w node good g f = then_has (enters good) (g (opened w)) (f (opened w) (enters good)) (λ made v k. is_has _)
 
 switch_has : (w : World) (at : _) (e : written.ExprTree) → Good w → Has (SwitchValue w at e)
@@ -231,7 +231,7 @@ start_has w around (files.Declares decl) good = decl_has w around decl good
 
 -- no case yet
 uncased : {v : World} → Good v → Good (without_cases v)
-uncased {v = v} good = (kept v _ (reaches.cased v [] None) good).good
+uncased {v = v} good = (kept {sizing = true} v _ (reaches.cased v [] None) good).good
 
 mutual
   unfolding TypesStmt stmts.TypesItems
@@ -303,12 +303,12 @@ head_has (Refused r) good h f = (Refused r, stops refl)
 
 definition_has :
     {t : World} {first : Outcome Shape → Type 0} {x : Shape → World → Outcome Begun} {next : Begun → World → Outcome ⊤ → Type 0}
-    → Good t → AllWith t (ShapeIn t) first → Has first
-    → ((shape : Shape) (w : World) → Good w → Reaches t w → AreAside t w shape.steps → Heads t (x shape w)) → ((begun : Begun) (v : World) → Good v → Has (next begun v))
+    → Good t → AllWith true t (ShapeIn t) first → Has first
+    → ((shape : Shape) (w : World) → Good w → Reaches true t w → AreAside t w shape.steps → Heads t (x shape w)) → ((begun : Begun) (v : World) → Good v → Has (next begun v))
     → Has (Then first (λ shape w. Then (Is (x shape w)) next))
 definition_has {t} {first} {x} {next} good f h g d = by h.0 h.1
   where
-    at : (shape : Shape) (w : World) → first (Typed shape w) → GoesWith t (ShapeIn t) (Typed shape w) → Has (Then first (λ y v. Then (Is (x y v)) next))
+    at : (shape : Shape) (w : World) → first (Typed shape w) → GoesWith true t (ShapeIn t) (Typed shape w) → Has (Then first (λ y v. Then (Is (x y v)) next))
     at shape w p (typed_so r a) = let s = head_has (x shape w) good (g shape w (kept t w r good).good r a) d in (s.0, goes_on p s.1)
 
     by : (o : Outcome Shape) → first o → Has (Then first (λ y v. Then (Is (x y v)) next))

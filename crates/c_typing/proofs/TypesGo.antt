@@ -1,7 +1,7 @@
 -- Types of expressions, specs and declarators only make the changes of Reaches.
 use Rattle.std.proofs.Common.{◌≡◌, refl, sym, subst, ⊎_elim, arith}
-use Rattle.std.specs.Prelude.{ℕ, ◌+◌, ◌^◌, ◌<◌, nat_lt, ◌||◌, ◌+ℤ◌, ℤ, pos, negsuc, Bool, true, false, if◌then◌else◌, Option, Some, None, option_map, List, [], ◌∷◌, ◌++◌, length, take, drop, reverse, find, All, bytes_eq}
-use Rattle.std.proofs.lemmas.Bool.{ltb-true}
+use Rattle.std.specs.Prelude.{ℕ, ◌≤◌, IsSomeAnd, ◌+◌, ◌^◌, ◌<◌, nat_lt, ◌||◌, ◌+ℤ◌, ℤ, pos, negsuc, Bool, true, false, if◌then◌else◌, Option, Some, None, option_map, List, [], ◌∷◌, ◌++◌, length, take, drop, reverse, find, All, bytes_eq}
+use Rattle.std.proofs.lemmas.Bool.{ltb-true, ltb-false}
 use Rattle.std.proofs.lemmas.List.Elements.{All-nil, All-push, All-drop, All-map, All-weaker}
 use Rattle.std.proofs.lemmas.List.{map-append, length-append, length-set}
 use Rattle.c_written.specs.declared.place.Pos.{Pos}
@@ -24,7 +24,10 @@ use Rattle.c_typing.specs.Constants.{constant_value}
 use Rattle.c_typing.proofs.Reaches as reaches
 use Rattle.c_typing.proofs.Opens.{Opens, IsOpen, open_either, open_drop, open_apart, distinct_drop, found_open, found_closed}
 use Rattle.c_typing.proofs.MadeTables.{AreMade, IsIncomplete, get_last, complete_below, made_kept, empty_struct}
-use Rattle.c_typing.proofs.MadeMembers.{nothing_made, made_more, complete_held}
+use Rattle.c_layout.specs.ProperTypes.{IsTold}
+use Rattle.c_layout.specs.Layout.{size_in}
+use Rattle.c_typing.proofs.MadeMembers.{nothing_made, made_more, complete_held, complete_is_size, complete_is_told}
+use Rattle.c_typing.proofs.SoundTables.{AreSound, sound_nothing_yet, sound_kept, sound_more, some_bytes, typed_table}
 use Rattle.c_typing.proofs.Good.{Good, Frame, IsBegun, IsAside, frame_then, frame_same, frame_closed, frame_keeps, aside_kept, is_later, good_closed}
 use Rattle.c_typing.proofs.Reaches.{Reaches, Kept, kept, Goes, typed, refused, goes_same, goes_if, goes_unless, goes_after, AllGo, then_goes, scope_goes, is_goes, enters, GoesWith, typed_so, refused_so, with_after, with_if, AllWith, all_forget, is_with, then_with, so_with, list_with}
 use Rattle.c_typing.specs.Later.{IsLater}
@@ -35,39 +38,39 @@ use Rattle.c_typing.proofs.NodesGo as nodes_go
 
 -- ---- names and tags
 
-pub unless_declared : {A : Type 0} {w : World} (at : Pos) (first : Option Pos) {o : Outcome A} → Goes w o → Goes w (names.unless_declared at first o)
+pub unless_declared : {sizing : Bool} {A : Type 0} {w : World} (at : Pos) (first : Option Pos) {o : Outcome A} → Goes sizing w o → Goes sizing w (names.unless_declared at first o)
 unless_declared at None p = p
 unless_declared at (Some first) p = refused
 
-pub new_struct : (w : World) (tag : Tag) (defined : Option Pos) → Goes w (names.new_struct w tag defined)
+pub new_struct : {sizing : Bool} (w : World) (tag : Tag) (defined : Option Pos) → Goes sizing w (names.new_struct w tag defined)
 new_struct w tag defined = typed (reaches.new_struct w tag defined)
 
 -- a struct by its number, in the world that is left
 abbrev pub NumberIn : ℕ → World → Type 0
 NumberIn n v = n < length v.structs
 
-new_in : (w : World) (tag : Tag) (defined : Option Pos) → GoesWith w NumberIn (names.new_struct w tag defined)
+new_in : {sizing : Bool} (w : World) (tag : Tag) (defined : Option Pos) → GoesWith sizing w NumberIn (names.new_struct w tag defined)
 new_in w tag defined = typed_so (reaches.new_struct w tag defined) (rw length-append (omega arith))
 
-outside_if : (w : World) (tag : Tag) (n : ℕ) (alone : Bool) → n < length w.structs → GoesWith w NumberIn (if alone then names.new_struct w tag None else Typed n w)
+outside_if : {sizing : Bool} (w : World) (tag : Tag) (n : ℕ) (alone : Bool) → n < length w.structs → GoesWith sizing w NumberIn (if alone then names.new_struct w tag None else Typed n w)
 outside_if w tag n true h = new_in w tag None
 outside_if w tag n false h = typed_so (reaches.stays w) h
 
 outside_in :
-    (w : World) (alone : Bool) (tag : Tag) (m : Option TagMeaning) → ((meaning : TagMeaning) → m ≡ Some meaning → IsFormedTag w.structs meaning)
-    → GoesWith w NumberIn (names.struct_from_outside w alone tag m)
+    {sizing : Bool} (w : World) (alone : Bool) (tag : Tag) (m : Option TagMeaning) → ((meaning : TagMeaning) → m ≡ Some meaning → IsFormedTag w.structs meaning)
+    → GoesWith sizing w NumberIn (names.struct_from_outside w alone tag m)
 outside_in w alone tag None f = new_in w tag None
 outside_in w alone tag (Some (StructTag n)) f = outside_if w tag n alone (f (StructTag n) refl)
 outside_in w alone tag (Some EnumTag) f = new_in w tag None
 outside_in w alone tag (Some OpenEnumTag) f = new_in w tag None
 
-here_in : (w : World) (tag : Tag) (b : TagBinding) (m : TagMeaning) → IsFormedTag w.structs m → GoesWith w NumberIn (names.struct_here w tag b m)
+here_in : {sizing : Bool} (w : World) (tag : Tag) (b : TagBinding) (m : TagMeaning) → IsFormedTag w.structs m → GoesWith sizing w NumberIn (names.struct_here w tag b m)
 here_in w tag b (StructTag n) f = typed_so (reaches.stays w) f
 here_in w tag b EnumTag f = refused_so
 here_in w tag b OpenEnumTag f = refused_so
 
 found_in :
-    (w : World) (alone : Bool) (tag : Tag) (o : Option TagBinding) → Good w → names.tag_here w tag.name ≡ o → GoesWith w NumberIn (names.struct_found w alone tag o)
+    {sizing : Bool} (w : World) (alone : Bool) (tag : Tag) (o : Option TagBinding) → Good w → names.tag_here w tag.name ≡ o → GoesWith sizing w NumberIn (names.struct_found w alone tag o)
 found_in w alone tag None good e =
     outside_in w alone tag (option_map (λ b. b.meaning) (names.tag_in_scope w tag.name)) (λ meaning r.
     mapped (λ b. b.meaning) (names.tag_in_scope w tag.name) meaning (IsFormedTag w.structs) (λ b q.
@@ -76,7 +79,7 @@ found_in w alone tag (Some b) good e =
     here_in w tag b b.meaning (found_each (λ c. IsFormedTag w.structs c.meaning) (λ c. bytes_eq c.tag tag.name) (drop w.first_tag w.tags) b
     (All-drop (λ c. IsFormedTag w.structs c.meaning) w.first_tag w.tags good.formed.tags) e)
 
-pub struct_found : (w : World) (alone : Bool) (tag : Tag) → Good w → GoesWith w NumberIn (names.struct_named w alone tag)
+pub struct_found : {sizing : Bool} (w : World) (alone : Bool) (tag : Tag) → Good w → GoesWith sizing w NumberIn (names.struct_named w alone tag)
 struct_found w alone tag good = found_in w alone tag (names.tag_here w tag.name) good refl
 
 -- a struct between its braces, in the world in which they open
@@ -90,7 +93,7 @@ not_yet w good p = let bare = good.incomplete (length w.structs) p in absurd (om
 last_incomplete : (w : World) (tag : List ℕ) → IsIncomplete (names.with_struct w tag).structs (length w.structs)
 last_incomplete w tag = record { def = empty_struct tag; there = get_last w.structs (empty_struct tag); empty = refl }
 
-begins_new : (w : World) (tag : Tag) → Good w → GoesWith w (Begins w) (names.new_struct w tag (Some tag.pos))
+begins_new : {sizing : Bool} (w : World) (tag : Tag) → Good w → GoesWith sizing w (Begins w) (names.new_struct w tag (Some tag.pos))
 begins_new w tag good = typed_so (reaches.new_struct w tag (Some tag.pos)) (record {
   incomplete = last_incomplete w tag.name;
   shut = λ p. ⊎_elim (not_yet w good) (λ r. ⊎_elim (λ a. let u : Some tag.pos ≡ None = a.undefined in absurd cc) (λ none. none) r) (open_either (length w.structs) w.tags _ p);
@@ -98,8 +101,8 @@ begins_new w tag good = typed_so (reaches.new_struct w tag (Some tag.pos)) (reco
 })
 
 begins_found :
-    (w : World) (tag : Tag) (b : TagBinding) (n : ℕ) → Good w → names.tag_here w tag.name ≡ Some b → b.meaning ≡ StructTag n → b.defined ≡ None
-    → GoesWith w (Begins w) (Typed n (names.with_tag_become w tag.name (Some tag.pos) (StructTag n)))
+    {sizing : Bool} (w : World) (tag : Tag) (b : TagBinding) (n : ℕ) → Good w → names.tag_here w tag.name ≡ Some b → b.meaning ≡ StructTag n → b.defined ≡ None
+    → GoesWith sizing w (Begins w) (Typed n (names.with_tag_become w tag.name (Some tag.pos) (StructTag n)))
 begins_found w tag b n good e m d = typed_so (reaches.tag_changed w tag.name tag.pos (StructTag n) (complete_below w.structs n now.def now.there)) (record {
   incomplete = good.incomplete n (open_drop n w.first_tag w.tags here);
   shut = λ p. ⊎_elim (λ l. open_apart n w.first_tag w.tags good.distinct l here)
@@ -118,23 +121,23 @@ begins_found w tag b n good e m d = typed_so (reaches.tag_changed w tag.name tag
     here = found_open n tag.name (drop w.first_tag w.tags) b e opens
 
 begins_defined :
-    (w : World) (tag : Tag) (b : TagBinding) (n : ℕ) (before : Option Pos) → Good w → names.tag_here w tag.name ≡ Some b → b.meaning ≡ StructTag n → b.defined ≡ before
-    → GoesWith w (Begins w) (names.struct_defined w tag n before)
+    {sizing : Bool} (w : World) (tag : Tag) (b : TagBinding) (n : ℕ) (before : Option Pos) → Good w → names.tag_here w tag.name ≡ Some b → b.meaning ≡ StructTag n → b.defined ≡ before
+    → GoesWith sizing w (Begins w) (names.struct_defined w tag n before)
 begins_defined w tag b n None good e m d = begins_found w tag b n good e m d
 begins_defined w tag b n (Some first) good e m d = refused_so
 
 begins_begun :
-    (w : World) (tag : Tag) (b : TagBinding) (meaning : TagMeaning) → Good w → names.tag_here w tag.name ≡ Some b → b.meaning ≡ meaning
-    → GoesWith w (Begins w) (names.struct_begun w tag b meaning)
+    {sizing : Bool} (w : World) (tag : Tag) (b : TagBinding) (meaning : TagMeaning) → Good w → names.tag_here w tag.name ≡ Some b → b.meaning ≡ meaning
+    → GoesWith sizing w (Begins w) (names.struct_begun w tag b meaning)
 begins_begun w tag b (StructTag n) good e m = begins_defined w tag b n b.defined good e m refl
 begins_begun w tag b EnumTag good e m = refused_so
 begins_begun w tag b OpenEnumTag good e m = refused_so
 
-begins_at : (w : World) (tag : Tag) (found : Option TagBinding) → Good w → names.tag_here w tag.name ≡ found → GoesWith w (Begins w) (names.struct_begins w tag found)
+begins_at : {sizing : Bool} (w : World) (tag : Tag) (found : Option TagBinding) → Good w → names.tag_here w tag.name ≡ found → GoesWith sizing w (Begins w) (names.struct_begins w tag found)
 begins_at w tag None good e = begins_new w tag good
 begins_at w tag (Some b) good e = begins_begun w tag b b.meaning good e refl
 
-pub struct_opened : (w : World) (tag : Option Tag) → Good w → GoesWith w (Begins w) (names.struct_opened w tag)
+pub struct_opened : {sizing : Bool} (w : World) (tag : Option Tag) → Good w → GoesWith sizing w (Begins w) (names.struct_opened w tag)
 struct_opened w None good = typed_so (reaches.struct w []) (record {
   incomplete = last_incomplete w [];
   shut = not_yet w good;
@@ -142,47 +145,47 @@ struct_opened w None good = typed_so (reaches.struct w []) (record {
 })
 struct_opened w (Some tag) good = begins_at w tag _ good refl
 
-pub enum_from_outside : (w : World) (tag : Tag) (m : Option TagMeaning) → Goes w (names.enum_from_outside w tag m)
+pub enum_from_outside : {sizing : Bool} (w : World) (tag : Tag) (m : Option TagMeaning) → Goes sizing w (names.enum_from_outside w tag m)
 enum_from_outside w tag None = refused
 enum_from_outside w tag (Some (StructTag n)) = refused
 enum_from_outside w tag (Some EnumTag) = goes_same
 enum_from_outside w tag (Some OpenEnumTag) = refused
 
-pub enum_here : (w : World) (tag : Tag) (b : TagBinding) (m : TagMeaning) → Goes w (names.enum_here w tag b m)
+pub enum_here : {sizing : Bool} (w : World) (tag : Tag) (b : TagBinding) (m : TagMeaning) → Goes sizing w (names.enum_here w tag b m)
 enum_here w tag b (StructTag n) = refused
 enum_here w tag b EnumTag = goes_same
 enum_here w tag b OpenEnumTag = refused
 
-pub enum_found : (w : World) (tag : Tag) (b : Option TagBinding) → Goes w (names.enum_found w tag b)
+pub enum_found : {sizing : Bool} (w : World) (tag : Tag) (b : Option TagBinding) → Goes sizing w (names.enum_found w tag b)
 enum_found w tag None = enum_from_outside w tag _
 enum_found w tag (Some b) = enum_here w tag b _
 
-pub enum_begins : (w : World) (tag : Tag) (b : Option TagBinding) → Goes w (names.enum_begins w tag b)
+pub enum_begins : {sizing : Bool} (w : World) (tag : Tag) (b : Option TagBinding) → Goes sizing w (names.enum_begins w tag b)
 enum_begins w tag None = typed (reaches.enumeration w tag _)
 enum_begins w tag (Some b) = refused
 
-pub enum_opened : (w : World) (tag : Option Tag) → Goes w (names.enum_opened w tag)
+pub enum_opened : {sizing : Bool} (w : World) (tag : Option Tag) → Goes sizing w (names.enum_opened w tag)
 enum_opened w None = goes_same
 enum_opened w (Some tag) = enum_begins w tag _
 
-pub enum_closes : (w : World) (tag : Option Tag) → Reaches w (names.enum_closed w tag)
+pub enum_closes : {sizing : Bool} (w : World) (tag : Option Tag) → Reaches sizing w (names.enum_closed w tag)
 enum_closes w None = reaches.stays w
 enum_closes w (Some tag) = reaches.tag_changed w tag.name tag.pos _ tt
 
 -- ---- specs
 
-pub or_undeclared : (at : Pos) (form : Option Form) (w : World) → Goes w (specifiers.or_undeclared at form w)
+pub or_undeclared : {sizing : Bool} (at : Pos) (form : Option Form) (w : World) → Goes sizing w (specifiers.or_undeclared at form w)
 or_undeclared at None w = refused
 or_undeclared at (Some form) w = goes_same
 
-pub type_told : (place : specifiers.Place) (at : Pos) (s : specifiers.SpecsTree) (w : World) → Goes w (specifiers.type_told place at s w)
+pub type_told : {sizing : Bool} (place : specifiers.Place) (at : Pos) (s : specifiers.SpecsTree) (w : World) → Goes sizing w (specifiers.type_told place at s w)
 type_told place at s w = goes_if _ (or_undeclared at _ w) refused
 
 -- a type in the world that is left
 abbrev pub FormIn : Form → World → Type 0
 FormIn form v = IsFormedForm v.structs form
 
-pub form_in : {w : World} (o : Outcome Form) → FormAt w o → GoesWith w FormIn o
+pub form_in : {sizing : Bool} {w : World} (o : Outcome Form) → FormAt w o → GoesWith sizing w FormIn o
 form_in (Typed form v) (formed_at _ f) = typed_so (reaches.stays _) f
 form_in (Refused r) f = refused_so
 
@@ -211,7 +214,7 @@ meaning_formed w name m good e =
     mapped (λ b. b.meaning) (find (λ b. bytes_eq b.name name) (reverse w.names)) m (IsFormedMeaning w.structs) (λ b q.
     found_each (λ c. IsFormedMeaning w.structs c.meaning) (λ c. bytes_eq c.name name) (reverse w.names) b (all_reverse (λ c. IsFormedMeaning w.structs c.meaning) w.names good.formed.names) q) e
 
-pub typedef_named : (w : World) (at : Pos) (m : Option Meaning) → ((meaning : Meaning) → m ≡ Some meaning → IsFormedMeaning w.structs meaning) → GoesWith w PartIn (typing.typedef_named w at m)
+pub typedef_named : {sizing : Bool} (w : World) (at : Pos) (m : Option Meaning) → ((meaning : Meaning) → m ≡ Some meaning → IsFormedMeaning w.structs meaning) → GoesWith sizing w PartIn (typing.typedef_named w at m)
 typedef_named w at None f = refused_so
 typedef_named w at (Some (Object n)) f = refused_so
 typedef_named w at (Some (Missing ty is_const)) f = refused_so
@@ -222,29 +225,29 @@ typedef_named w at (Some (Enumeration n)) f = refused_so
 
 -- ---- declarators, laid
 
-pub if_sized : {A : Type 0} {w : World} (r : Refusal) (outcome : ℕ → Outcome A) (size : Option ℕ) → ((n : ℕ) → Goes w (outcome n)) → Goes w (declarators.if_sized r outcome size)
+pub if_sized : {sizing : Bool} {A : Type 0} {w : World} (r : Refusal) (outcome : ℕ → Outcome A) (size : Option ℕ) → ((n : ℕ) → Goes sizing w (outcome n)) → Goes sizing w (declarators.if_sized r outcome size)
 if_sized r outcome None f = refused
 if_sized r outcome (Some n) f = f n
 
-pub pointer_form : (w : World) (at : Pos) (is_const : Bool) (form : Form) → Goes w (declarators.pointer_form w at is_const form)
+pub pointer_form : {sizing : Bool} (w : World) (at : Pos) (is_const : Bool) (form : Form) → Goes sizing w (declarators.pointer_form w at is_const form)
 pointer_form w at is_const (Plain ty c) = goes_same
 pointer_form w at is_const (Unsized ty c) = refused
 pointer_form w at is_const (Callable params result) = refused
 
-pub sized_array : (w : World) (size_at : Pos) (n : ℕ) (ty : CTypeTree) (c : Bool) (size : ℕ) → Goes w (declarators.sized_array w size_at n ty c size)
+pub sized_array : {sizing : Bool} (w : World) (size_at : Pos) (n : ℕ) (ty : CTypeTree) (c : Bool) (size : ℕ) → Goes sizing w (declarators.sized_array w size_at n ty c size)
 sized_array w size_at n ty c size = goes_if _ refused goes_same
 
-pub array_form : (w : World) (at size_at : Pos) (n : ℕ) (form : Form) → Goes w (declarators.array_form w at size_at n form)
+pub array_form : {sizing : Bool} (w : World) (at size_at : Pos) (n : ℕ) (form : Form) → Goes sizing w (declarators.array_form w at size_at n form)
 array_form w at size_at n (Plain ty c) = if_sized _ _ _ (sized_array w size_at n ty c)
 array_form w at size_at n (Unsized ty c) = refused
 array_form w at size_at n (Callable params result) = refused
 
-pub open_form : (w : World) (at : Pos) (form : Form) → Goes w (declarators.open_form w at form)
+pub open_form : {sizing : Bool} (w : World) (at : Pos) (form : Form) → Goes sizing w (declarators.open_form w at form)
 open_form w at (Plain ty c) = if_sized _ _ _ (λ size. goes_same)
 open_form w at (Unsized ty c) = refused
 open_form w at (Callable params result) = refused
 
-pub result_form : (w : World) (at : Pos) (params : List CTypeTree) (ty : CTypeTree) → Goes w (declarators.result_form w at params ty)
+pub result_form : {sizing : Bool} (w : World) (at : Pos) (params : List CTypeTree) (ty : CTypeTree) → Goes sizing w (declarators.result_form w at params ty)
 result_form w at params Void = goes_same
 result_form w at params (Int t) = goes_same
 result_form w at params (Pointer to c) = goes_same
@@ -252,22 +255,22 @@ result_form w at params (Array of c n) = refused
 result_form w at params (Struct n) = refused
 result_form w at params (Function n) = goes_same
 
-pub function_form : (w : World) (at : Pos) (params : List CTypeTree) (form : Form) → Goes w (declarators.function_form w at params form)
+pub function_form : {sizing : Bool} (w : World) (at : Pos) (params : List CTypeTree) (form : Form) → Goes sizing w (declarators.function_form w at params form)
 function_form w at params (Plain ty c) = result_form w at params ty
 function_form w at params (Unsized ty c) = refused
 function_form w at params (Callable types result) = refused
 
-pub step_form : (w : World) (at : Pos) (step : Step) (form : Form) → Goes w (declarators.step_form w at step form)
+pub step_form : {sizing : Bool} (w : World) (at : Pos) (step : Step) (form : Form) → Goes sizing w (declarators.step_form w at step form)
 step_form w at (PointerTo is_const) form = pointer_form w at is_const form
 step_form w at (ArrayOf size_at n) form = array_form w at size_at n form
 step_form w at OpenArray form = open_form w at form
 step_form w at (FunctionOf params names tags) form = function_form w at _ form
 
-pub after_step : (w : World) (at : Pos) (step : Step) (o : Outcome Form) → Goes w (declarators.after_step w at step o)
+pub after_step : {sizing : Bool} (w : World) (at : Pos) (step : Step) (o : Outcome Form) → Goes sizing w (declarators.after_step w at step o)
 after_step w at step (Typed form v) = step_form w at step form
 after_step w at step (Refused r) = refused
 
-pub laid : (w : World) (at : Pos) (steps : List Step) (base : Form) → Goes w (declarators.laid w at steps base)
+pub laid : {sizing : Bool} (w : World) (at : Pos) (steps : List Step) (base : Form) → Goes sizing w (declarators.laid w at steps base)
 unfolding declarators.laid
 laid w at [] base = goes_same
 laid w at (step ∷ rest) base = after_step w at step _
@@ -283,16 +286,16 @@ unnamed_in None o p = p
 unnamed_in (Some named) o p = unformed
 
 pub type_name :
-    (w : World) (first : Pos) (base : Form) (shape : Shape) → AreFormedSteps w.structs shape.steps → IsFormedForm w.structs base → GoesWith w FormIn (typing.type_name w first base shape)
+    {sizing : Bool} (w : World) (first : Pos) (base : Form) (shape : Shape) → AreFormedSteps w.structs shape.steps → IsFormedForm w.structs base → GoesWith sizing w FormIn (typing.type_name w first base shape)
 type_name w first base shape s f = form_in _ (unnamed_in shape.name _ (sized_in first _ (laid_at w first shape.steps base s f)))
 
 -- ---- members, enumerators, parameters
 
-pub enumerator : (w : World) (at value_at : Pos) (name : List ℕ) (n : Option ℤ) → Goes w (typing.enumerator w at value_at name n)
+pub enumerator : {sizing : Bool} (w : World) (at value_at : Pos) (name : List ℕ) (n : Option ℤ) → Goes sizing w (typing.enumerator w at value_at name n)
 enumerator w at value_at name None = refused
-enumerator w at value_at name (Some n) = by (typing.is_int n) refl
+enumerator {sizing = sizing} w at value_at name (Some n) = by (typing.is_int n) refl
   where
-    by : (b : Bool) → typing.is_int n ≡ b → Goes w (if b then names.unless_declared at (names.first_here w at name) (Typed (n +ℤ pos 1) (names.with_name w at name (Enumeration n))) else Refused (NotConstant value_at))
+    by : (b : Bool) → typing.is_int n ≡ b → Goes sizing w (if b then names.unless_declared at (names.first_here w at name) (Typed (n +ℤ pos 1) (names.with_name w at name (Enumeration n))) else Refused (NotConstant value_at))
     by true e = unless_declared at _ (typed (reaches.named w at name (Enumeration n) (int_is n e)))
     by false e = refused
 
@@ -349,11 +352,11 @@ pub steps_formed : (t v : World) (steps : List Step) → AreAside t v steps → 
 steps_formed t v [] a = tt
 steps_formed t v (step ∷ rest) a = (step_formed t v step a.0, steps_formed t v rest a.1)
 
-array_sized : (t w : World) (size_at : Pos) (shape : Shape) (n : Option ℤ) → AreAside t w shape.steps → GoesWith w (ShapeIn t) (typing.array_sized w size_at shape n)
+array_sized : {sizing : Bool} (t w : World) (size_at : Pos) (shape : Shape) (n : Option ℤ) → AreAside t w shape.steps → GoesWith sizing w (ShapeIn t) (typing.array_sized w size_at shape n)
 array_sized t w size_at shape None a = refused_so
-array_sized t w size_at shape (Some (pos n)) a = by (nat_lt 0 n) refl
+array_sized {sizing = sizing} t w size_at shape (Some (pos n)) a = by (nat_lt 0 n) refl
   where
-    by : (b : Bool) → nat_lt 0 n ≡ b → GoesWith w (ShapeIn t) (if b then Typed (typing.with_step shape (ArrayOf size_at n)) w else Refused (NotConstant size_at))
+    by : (b : Bool) → nat_lt 0 n ≡ b → GoesWith sizing w (ShapeIn t) (if b then Typed (typing.with_step shape (ArrayOf size_at n)) w else Refused (NotConstant size_at))
     by true e = typed_so (reaches.stays w) (asides_then t w shape.steps (ArrayOf size_at n) a (ltb-true 0 n e))
     by false e = refused_so
 array_sized t w size_at shape (Some (negsuc n)) a = refused_so
@@ -370,61 +373,88 @@ list_aside t u v f g good = record {
 }
 
 -- the members so far, in the world that they leave
-abbrev pub MadeIn : List MemberMade → World → Type 0
-MadeIn done v = AreMade v.structs (typing.members_made done)
+pub record MadeIn (done : List MemberMade) (v : World) : Type 0 where
+  pub made : AreMade v.structs (typing.members_made done)
+  pub sound : AreSound v.structs (typing.members_made done)
 
-pub made_after : (w v : World) (done : List MemberMade) → Good w → Frame w v → MadeIn done w → MadeIn done v
-made_after w v done good f made = made_kept w.structs v.structs (frame_keeps w v good f) (typing.members_made done) made
+pub no_members_yet : (v : World) → MadeIn [] v
+no_members_yet v = record { made = nothing_made v.structs; sound = sound_nothing_yet v.structs }
 
-with_unless : {A : Type 0} {w : World} {P : A → World → Type 0} (b : Bool) (r : Refusal) {x : Outcome A} → GoesWith w P x → GoesWith w P (world.unless b r x)
+pub made_after : (w v : World) (done : List MemberMade) → Good w → Good v → Frame w v → MadeIn done w → MadeIn done v
+made_after w v done good after f m = record {
+  made = made_kept w.structs v.structs (frame_keeps w v good f) (typing.members_made done) m.made;
+  sound = sound_kept w.structs v.structs (is_later w v good after f) (typing.members_made done) m.made.complete m.sound;
+}
+
+pub with_unless : {sizing : Bool} {A : Type 0} {w : World} {P : A → World → Type 0} (b : Bool) (r : Refusal) {x : Outcome A} → GoesWith sizing w P x → GoesWith sizing w P (world.unless b r x)
 with_unless b r p = with_if b refused_so p
 
-with_declared : {A : Type 0} {w : World} {P : A → World → Type 0} (at : Pos) (first : Option Pos) {o : Outcome A} → GoesWith w P o → GoesWith w P (names.unless_declared at first o)
+pub with_declared : {sizing : Bool} {A : Type 0} {w : World} {P : A → World → Type 0} (at : Pos) (first : Option Pos) {o : Outcome A} → GoesWith sizing w P o → GoesWith sizing w P (names.unless_declared at first o)
 with_declared at None p = p
 with_declared at (Some first) p = refused_so
 
-pub member_sized :
-    (w : World) (named : DeclaredName) (ty : CTypeTree) (is_const : Bool) (done : List MemberMade) (size : ℕ) → Good w → MadeIn done w → complete_size w.structs ty ≡ Some size
-    → GoesWith w MadeIn (typing.member_sized w named ty is_const done size)
-member_sized w named ty is_const done size good made e =
-    with_declared named.pos _
-    (with_unless (nat_lt (2 ^ 40) (typing.next_offset w done ty + size)) (ObjectTooLarge named.pos (2 ^ 40))
-    (with_unless (is_const || has_const_elements ty) (Unsupported named.pos constructs.ConstMember)
-    (typed_so (reaches.stays w) (subst (λ members. AreMade w.structs members) (sym (map-append (λ m. m.member) done _))
-    (made_more w.structs good.made (typing.members_made done) _ made (complete_held w.structs ty size e) refl)))))
+member_typed :
+    (w : World) (named : DeclaredName) (ty : CTypeTree) (done : List MemberMade) (size : ℕ) → Good w → MadeIn done w → IsFormed w.structs ty → complete_size w.structs ty ≡ Some size
+    → typing.next_offset w done ty + size ≤ 2 ^ 40 → MadeIn (typing.with_member w named ty done) w
+member_typed w named ty done size good m f e h = record {
+  made = subst (λ members. AreMade w.structs members) (sym (map-append (λ x. x.member) done _))
+      (made_more w.structs good.made (typing.members_made done) _ m.made (complete_held w.structs ty size e) refl);
+  sound = subst (λ members. AreSound w.structs members) (sym (map-append (λ x. x.member) done _))
+      (sound_more w.structs good.made (typing.members_made done) _ size m.sound (record { formed = f; size = subst (λ o. IsSomeAnd o (λ s. (0 < s) × IsTold s)) (sym is) (some, told) }) is h);
+}
+  where
+    is : size_in w.structs ty ≡ Some size
+    is = complete_is_size w.structs ty size e
 
-with_size :
-    {A : Type 0} {w : World} {P : A → World → Type 0} (r : Refusal) (outcome : ℕ → Outcome A) (size : Option ℕ)
-    → ((n : ℕ) → size ≡ Some n → GoesWith w P (outcome n)) → GoesWith w P (declarators.if_sized r outcome size)
+    told : IsTold size
+    told = complete_is_told w.structs ty size e
+
+    some : 0 < size
+    some = some_bytes w.structs (typed_table w.structs good.made good.sound) ty size f is
+
+within_so :
+    {sizing : Bool} {A : Type 0} {w : World} {P : A → World → Type 0} (large : Bool) (r : Refusal) {x : Outcome A} → (large ≡ false → GoesWith sizing w P x)
+    → GoesWith sizing w P (world.unless large r x)
+within_so true r f = refused_so
+within_so false r f = f refl
+
+pub member_sized : {sizing : Bool}
+    (w : World) (named : DeclaredName) (ty : CTypeTree) (is_const : Bool) (done : List MemberMade) (size : ℕ) → Good w → MadeIn done w → IsFormed w.structs ty
+    → complete_size w.structs ty ≡ Some size → GoesWith sizing w MadeIn (typing.member_sized w named ty is_const done size)
+member_sized w named ty is_const done size good made f e =
+    with_declared named.pos _
+    (within_so (nat_lt (2 ^ 40) (typing.next_offset w done ty + size)) (ObjectTooLarge named.pos (2 ^ 40)) (λ h.
+    with_unless (is_const || has_const_elements ty) (Unsupported named.pos constructs.ConstMember)
+    (typed_so (reaches.stays w) (member_typed w named ty done size good made f e (ltb-false (2 ^ 40) (typing.next_offset w done ty + size) h)))))
+
+pub with_size :
+    {sizing : Bool} {A : Type 0} {w : World} {P : A → World → Type 0} (r : Refusal) (outcome : ℕ → Outcome A) (size : Option ℕ)
+    → ((n : ℕ) → size ≡ Some n → GoesWith sizing w P (outcome n)) → GoesWith sizing w P (declarators.if_sized r outcome size)
 with_size r outcome None f = refused_so
 with_size r outcome (Some n) f = f n refl
 
-pub member_of : (w : World) (named : DeclaredName) (form : Form) (done : List MemberMade) → Good w → MadeIn done w → GoesWith w MadeIn (typing.member_of w named form done)
-member_of w named (Plain ty c) done good made = with_size _ _ (complete_size w.structs ty) (λ n e. member_sized w named ty c done n good made e)
-member_of w named (Unsized ty c) done good made = refused_so
-member_of w named (Callable params result) done good made = refused_so
+pub member_of : {sizing : Bool} (w : World) (named : DeclaredName) (form : Form) (done : List MemberMade) → Good w → MadeIn done w → IsFormedForm w.structs form → GoesWith sizing w MadeIn (typing.member_of w named form done)
+member_of w named (Plain ty c) done good made f = with_size _ _ (complete_size w.structs ty) (λ n e. member_sized w named ty c done n good made f e)
+member_of w named (Unsized ty c) done good made f = refused_so
+member_of w named (Callable params result) done good made f = refused_so
 
-pub member_laid :
-    {w : World} (named : DeclaredName) (done : List MemberMade) (o : Outcome Form) → Good w → MadeIn done w → Goes w o → GoesWith w MadeIn (typing.member_laid named done o)
-member_laid {w = w} named done (Typed form v) good made (typed r) =
-    let k = kept w v r good in with_after r (member_of v named form done k.good (made_after w v done good k.frame made))
+pub member_laid : {sizing : Bool}
+    {w : World} (named : DeclaredName) (done : List MemberMade) (o : Outcome Form) → Good w → MadeIn done w → FormAt w o → GoesWith sizing w MadeIn (typing.member_laid named done o)
+member_laid named done (Typed form v) good made (formed_at _ f) = member_of v named form done good made f
 member_laid named done (Refused q) good made p = refused_so
 
-pub with_its_name : {A : Type 0} {w : World} (first : Pos) (name : Option DeclaredName) (outcome : DeclaredName → Outcome A) → ((named : DeclaredName) → Goes w (outcome named)) → Goes w (typing.with_its_name first name outcome)
-with_its_name first None outcome f = refused
-with_its_name first (Some named) outcome f = f named
-
-its_name :
-    {A : Type 0} {w : World} {P : A → World → Type 0} (first : Pos) (name : Option DeclaredName) (outcome : DeclaredName → Outcome A)
-    → ((named : DeclaredName) → GoesWith w P (outcome named)) → GoesWith w P (typing.with_its_name first name outcome)
+pub its_name :
+    {sizing : Bool} {A : Type 0} {w : World} {P : A → World → Type 0} (first : Pos) (name : Option DeclaredName) (outcome : DeclaredName → Outcome A)
+    → ((named : DeclaredName) → GoesWith sizing w P (outcome named)) → GoesWith sizing w P (typing.with_its_name first name outcome)
 its_name first None outcome f = refused_so
 its_name first (Some named) outcome f = f named
 
-pub member_made :
-    (w : World) (first : Pos) (base : Form) (done : List MemberMade) (shape : Shape) → Good w → MadeIn done w → GoesWith w MadeIn (typing.member_made w first base done shape)
-member_made w first base done shape good made = its_name first shape.name _ (λ named. member_laid named done _ good made (laid w named.pos shape.steps base))
+pub member_made : {sizing : Bool}
+    (w : World) (first : Pos) (base : Form) (done : List MemberMade) (shape : Shape) → Good w → MadeIn done w → AreFormedSteps w.structs shape.steps → IsFormedForm w.structs base
+    → GoesWith sizing w MadeIn (typing.member_made w first base done shape)
+member_made w first base done shape good made s f = its_name first shape.name _ (λ named. member_laid named done _ good made (laid_at w named.pos shape.steps base s f))
 
-pub unless_named_before : {A : Type 0} (w : World) (name : Option DeclaredName) {o : Outcome A} → Goes w o → Goes w (typing.unless_named_before w name o)
+pub unless_named_before : {sizing : Bool} {A : Type 0} (w : World) (name : Option DeclaredName) {o : Outcome A} → Goes sizing w o → Goes sizing w (typing.unless_named_before w name o)
 unless_named_before w None p = p
 unless_named_before w (Some named) p = unless_declared named.pos _ p
 
@@ -432,11 +462,11 @@ unless_named_before w (Some named) p = unless_declared named.pos _ p
 abbrev pub ParamIn : ParameterTree → World → Type 0
 ParamIn param v = IsFormed v.structs param.ty
 
-with_before : (w : World) (name : Option DeclaredName) {o : Outcome ParameterTree} → GoesWith w ParamIn o → GoesWith w ParamIn (typing.unless_named_before w name o)
+with_before : {sizing : Bool} (w : World) (name : Option DeclaredName) {o : Outcome ParameterTree} → GoesWith sizing w ParamIn o → GoesWith sizing w ParamIn (typing.unless_named_before w name o)
 with_before w None p = p
 with_before w (Some named) p = with_declared named.pos _ p
 
-pub with_parameter : (w : World) (name : Option DeclaredName) (k : ℕ) (ty : CTypeTree) (c : Bool) → IsFormed w.structs ty → Reaches w (typing.with_parameter w name (Parameter k ty c))
+pub with_parameter : {sizing : Bool} (w : World) (name : Option DeclaredName) (k : ℕ) (ty : CTypeTree) (c : Bool) → IsFormed w.structs ty → Reaches sizing w (typing.with_parameter w name (Parameter k ty c))
 with_parameter w None k ty c f = reaches.stays w
 with_parameter w (Some named) k ty c f = reaches.named w named.pos named.name (Parameter k ty c) f
 
@@ -445,11 +475,11 @@ with_kept w None k ty c f = f
 with_kept w (Some named) k ty c f = f
 
 one_parameter :
-    (w : World) (at : Pos) (name : Option DeclaredName) (k : ℕ) (ty : CTypeTree) (c : Bool) → IsFormed w.structs ty
-    → GoesWith w ParamIn (typing.unless_named_before w name (Typed (typing.parameter_tree at name ty c) (typing.with_parameter w name (Parameter k ty c))))
+    {sizing : Bool} (w : World) (at : Pos) (name : Option DeclaredName) (k : ℕ) (ty : CTypeTree) (c : Bool) → IsFormed w.structs ty
+    → GoesWith sizing w ParamIn (typing.unless_named_before w name (Typed (typing.parameter_tree at name ty c) (typing.with_parameter w name (Parameter k ty c))))
 one_parameter w at name k ty c f = with_before w name (typed_so (with_parameter w name k ty c f) (with_kept w name k ty c f))
 
-pub parameter_sized : (w : World) (at : Pos) (name : Option DeclaredName) (k : ℕ) (ty : CTypeTree) (c : Bool) → IsFormed w.structs ty → GoesWith w ParamIn (typing.parameter_sized w at name k ty c)
+pub parameter_sized : {sizing : Bool} (w : World) (at : Pos) (name : Option DeclaredName) (k : ℕ) (ty : CTypeTree) (c : Bool) → IsFormed w.structs ty → GoesWith sizing w ParamIn (typing.parameter_sized w at name k ty c)
 parameter_sized w at name k (Struct n) c f = with_before w name refused_so
 parameter_sized w at name k Void c f = one_parameter w at name k Void c f
 parameter_sized w at name k (Int t) c f = one_parameter w at name k (Int t) c f
@@ -457,35 +487,35 @@ parameter_sized w at name k (Pointer to d) c f = one_parameter w at name k (Poin
 parameter_sized w at name k (Array of d n) c f = one_parameter w at name k (Array of d n) c f
 parameter_sized w at name k (Function n) c f = absurd f
 
-pub parameter_of : (w : World) (at : Pos) (name : Option DeclaredName) (k : ℕ) (form : Form) → IsFormedForm w.structs form → GoesWith w ParamIn (typing.parameter_of w at name k form)
+pub parameter_of : {sizing : Bool} (w : World) (at : Pos) (name : Option DeclaredName) (k : ℕ) (form : Form) → IsFormedForm w.structs form → GoesWith sizing w ParamIn (typing.parameter_of w at name k form)
 parameter_of w at name k (Plain ty c) f = with_size _ _ (complete_size w.structs ty) (λ size e. parameter_sized w at name k ty c f)
 parameter_of w at name k (Unsized ty c) f = with_before w name refused_so
 parameter_of w at name k (Callable params result) f = with_before w name refused_so
 
-pub parameter_laid : {w : World} (at : Pos) (name : Option DeclaredName) (k : ℕ) (o : Outcome Form) → FormAt w o → GoesWith w ParamIn (typing.parameter_laid at name k o)
+pub parameter_laid : {sizing : Bool} {w : World} (at : Pos) (name : Option DeclaredName) (k : ℕ) (o : Outcome Form) → FormAt w o → GoesWith sizing w ParamIn (typing.parameter_laid at name k o)
 parameter_laid at name k (Typed form v) (formed_at _ f) = parameter_of v at name k (declarators.parameter_type form) (parameter_formed v.structs form f)
 parameter_laid at name k (Refused q) p = refused_so
 
 pub parameter_made :
-    (w : World) (first : Pos) (base : Form) (k : ℕ) (shape : Shape) → AreFormedSteps w.structs shape.steps → IsFormedForm w.structs base → GoesWith w ParamIn (typing.parameter_made w first base k shape)
+    {sizing : Bool} (w : World) (first : Pos) (base : Form) (k : ℕ) (shape : Shape) → AreFormedSteps w.structs shape.steps → IsFormedForm w.structs base → GoesWith sizing w ParamIn (typing.parameter_made w first base k shape)
 parameter_made w first base k shape s f = parameter_laid _ shape.name k _ (laid_at w _ shape.steps base s f)
 
 -- ---- the relation
 
-pub valued : {w : World} {first : Outcome OperandTree → Type 0} → AllGo w first → AllGo w (Valued first)
+pub valued : {sizing : Bool} {w : World} {first : Outcome OperandTree → Type 0} → AllGo sizing w first → AllGo sizing w (Valued first)
 valued f = then_goes f (λ x v r. is_goes goes_same)
 
 pub of_type_name :
-    {w : World} (first : Pos) {specs : Outcome specifiers.SpecsTree → Type 0} {declarator : World → Outcome Shape → Type 0}
-    → AllWith w SpecsIn specs → ((v : World) → AllWith v (ShapeIn v) (declarator v)) → AllWith w FormIn (typing.OfTypeName first specs declarator)
+    {sizing : Bool} {w : World} (first : Pos) {specs : Outcome specifiers.SpecsTree → Type 0} {declarator : World → Outcome Shape → Type 0}
+    → AllWith sizing w SpecsIn specs → ((v : World) → AllWith sizing v (ShapeIn v) (declarator v)) → AllWith sizing w FormIn (typing.OfTypeName first specs declarator)
 of_type_name first f g =
     so_with f (λ s v r p k. so_with (is_with (λ good. form_in _ (type_told_at specifiers.OfPlainType first s v p))) (λ base v2 r2 b k2.
     so_with (g v2) (λ shape v3 r3 a k3. is_with (λ good.
     type_name v3 first base shape (steps_formed v2 v3 shape.steps a) (form_later v2.structs v3.structs (is_later v2 v3 k2.good k3.good k3.frame) base b)))))
 
 pub of_parameter :
-    {w : World} (k : ℕ) (first : Pos) {specs : Outcome specifiers.SpecsTree → Type 0} {declarator : World → Outcome Shape → Type 0}
-    → AllWith w SpecsIn specs → ((v : World) → AllWith v (ShapeIn v) (declarator v)) → AllWith w ParamIn (typing.OfParameter k first specs declarator)
+    {sizing : Bool} {w : World} (k : ℕ) (first : Pos) {specs : Outcome specifiers.SpecsTree → Type 0} {declarator : World → Outcome Shape → Type 0}
+    → AllWith sizing w SpecsIn specs → ((v : World) → AllWith sizing v (ShapeIn v) (declarator v)) → AllWith sizing w ParamIn (typing.OfParameter k first specs declarator)
 of_parameter n first f g =
     so_with f (λ s v r p k. so_with (is_with (λ good. form_in _ (type_told_at specifiers.OfParameter first s v p))) (λ base v2 r2 b k2.
     so_with (g v2) (λ shape v3 r3 a k3. is_with (λ good.
@@ -506,31 +536,31 @@ params_after w v params later all = All-weaker (λ x. IsFormed w.structs x.ty) (
 
 -- ---- a struct in its braces
 
-closes : {w v u : World} {n : ℕ} {done : List MemberMade} → Reaches w v → IsBegun w v n → Kept v u → GoesWith v MadeIn (Typed done u) → GoesWith w PartIn (typing.struct_made u n done)
+closes : {sizing : Bool} {w v u : World} {n : ℕ} {done : List MemberMade} → Reaches sizing w v → IsBegun w v n → Kept v u → GoesWith sizing v MadeIn (Typed done u) → GoesWith sizing w PartIn (typing.struct_made u n done)
 closes {w = w} {v = v} {u = u} {n = n} {done = done} r begun k (typed_so s made) =
     let h = complete_below v.structs n begun.incomplete.def begun.incomplete.there in let l = k.frame.longer in
-    typed_so (reaches.body w v u n (typing.members_made done) r begun s made) (rw length-set (omega arith))
+    typed_so (reaches.body w v u n (typing.members_made done) r begun s made.made made.sound) (rw length-set (omega arith))
 
-kept_made : {v u : World} {done : List MemberMade} → Good v → GoesWith v MadeIn (Typed done u) → Kept v u
+kept_made : {sizing : Bool} {v u : World} {done : List MemberMade} → Good v → GoesWith sizing v MadeIn (Typed done u) → Kept v u
 kept_made {v = v} {u = u} good (typed_so s made) = kept v u s good
 
 in_braces :
-    {w v : World} {n : ℕ} {types : Outcome (List MemberMade) → Type 0} → Good w → GoesWith w (Begins w) (Typed n v) → AllWith v MadeIn types
-    → (o : Outcome specifiers.SpecPart) → Then types (λ done u. Is (typing.struct_made u n done)) o → GoesWith w PartIn o
-in_braces {w = w} {v = v} good (typed_so r begun) f o (goes_on p e) =
-    let here = (kept w v r good).good in let s = f here _ p in subst (λ z. GoesWith w PartIn z) (sym e) (closes r begun (kept_made here s) s)
+    {sizing : Bool} {w v : World} {n : ℕ} {types : Outcome (List MemberMade) → Type 0} → Good w → GoesWith sizing w (Begins w) (Typed n v) → AllWith sizing v MadeIn types
+    → (o : Outcome specifiers.SpecPart) → Then types (λ done u. Is (typing.struct_made u n done)) o → GoesWith sizing w PartIn o
+in_braces {sizing = sizing} {w = w} {v = v} good (typed_so r begun) f o (goes_on p e) =
+    let here = (kept w v r good).good in let s = f here _ p in subst (λ z. GoesWith sizing w PartIn z) (sym e) (closes r begun (kept_made here s) s)
 in_braces good h f _ (stops p) = refused_so
 
 body_goes :
-    {w : World} {x : Outcome ℕ} {types : World → Outcome (List MemberMade) → Type 0} → (Good w → GoesWith w (Begins w) x) → ((v : World) → AllWith v MadeIn (types v))
-    → AllWith w PartIn (Then (Is x) (λ n v. Then (types v) (λ done u. Is (typing.struct_made u n done))))
-body_goes {w = w} b f good o (goes_on {a = n} {w = v} p s) = in_braces good (subst (λ z. GoesWith w (Begins w) z) (sym p) (b good)) (f v) o s
+    {sizing : Bool} {w : World} {x : Outcome ℕ} {types : World → Outcome (List MemberMade) → Type 0} → (Good w → GoesWith sizing w (Begins w) x) → ((v : World) → AllWith sizing v MadeIn (types v))
+    → AllWith sizing w PartIn (Then (Is x) (λ n v. Then (types v) (λ done u. Is (typing.struct_made u n done))))
+body_goes {sizing = sizing} {w = w} b f good o (goes_on {a = n} {w = v} p s) = in_braces good (subst (λ z. GoesWith sizing w (Begins w) z) (sym p) (b good)) (f v) o s
 body_goes b f good _ (stops p) = refused_so
 
 mutual
   unfolding Types TypesArgs TypesSpecs TypesSpec TypesMembers TypesMemberNames TypesEnumerators TypesDeclarator TypesParams
 
-  pub go : (w : World) (e : written.ExprTree) → AllGo w (Types w e)
+  pub go : {sizing : Bool} (w : World) (e : written.ExprTree) → AllGo sizing w (Types w e)
   go w (written.Word at name) = is_goes (nodes_go.word w at name)
   go w (written.Number at c) = is_goes (goes_if _ (nodes_go.given _ _ w) refused)
   go w (written.Character at byte) = is_goes goes_same
@@ -556,47 +586,51 @@ mutual
   go w (written.Compound at op a b) = then_goes (go w a) (λ x v r. then_goes (valued (go v b)) (λ y v2 r2. is_goes (nodes_go.changed _ at x _ _ v2)))
   go w (written.Comma at a b) = then_goes (valued (go w a)) (λ x v r. then_goes (valued (go v b)) (λ y v2 r2. is_goes goes_same))
 
-  pub go_list : (w : World) (done : _) (es : written.ExprTrees) → AllGo w (TypesArgs w done es)
+  pub go_list : {sizing : Bool} (w : World) (done : _) (es : written.ExprTrees) → AllGo sizing w (TypesArgs w done es)
   go_list w done written.no_exprs = is_goes goes_same
   go_list w done (written.more_exprs e es) = then_goes (valued (go w e)) (λ x v r. go_list v _ es)
 
-  pub go_specs : (w : World) (alone : Bool) (done : _) (specs : written.SpecTrees) → SpecsIn done w → AllWith w SpecsIn (TypesSpecs w alone done specs)
+  pub go_specs : {sizing : Bool} (w : World) (alone : Bool) (done : _) (specs : written.SpecTrees) → SpecsIn done w → AllWith sizing w SpecsIn (TypesSpecs w alone done specs)
   go_specs w alone done written.no_specs all good = is_with (λ g. typed_so (reaches.stays w) all) good
   go_specs w alone done (written.more_specs spec rest) all good =
       so_with (go_spec w alone spec) (λ part v r p k. go_specs v alone _ rest (with_part v done part (specs_after w v done (is_later w v good k.good k.frame) all) p)) good
 
-  pub go_spec : (w : World) (alone : Bool) (spec : written.SpecTree) → AllWith w PartIn (TypesSpec w alone spec)
+  pub go_spec : {sizing : Bool} (w : World) (alone : Bool) (spec : written.SpecTree) → AllWith sizing w PartIn (TypesSpec w alone spec)
   go_spec w alone (written.Storage at word) = is_with (λ good. typed_so (reaches.stays w) tt)
   go_spec w alone (written.Const at) = is_with (λ good. typed_so (reaches.stays w) tt)
   go_spec w alone (written.Basic at word) = is_with (λ good. typed_so (reaches.stays w) tt)
   go_spec w alone (written.TypedefName at name) = is_with (λ good. typedef_named w at _ (λ m e. meaning_formed w name m good e))
   go_spec w alone (written.Struct at tag) = so_with (is_with (λ good. struct_found w alone tag good)) (λ n v r p k. is_with (λ good. typed_so (reaches.stays v) p))
-  go_spec w alone (written.StructBody at tag members) = body_goes (struct_opened w tag) (λ v. go_members v [] members (nothing_made v.structs))
+  go_spec w alone (written.StructBody at tag members) = body_goes (struct_opened w tag) (λ v. go_members v [] members (no_members_yet v))
   go_spec w alone (written.Enum at tag) = then_with (is_goes (enum_found w tag _)) (λ unit v r k. is_with (λ good. typed_so (reaches.stays v) tt))
   go_spec w alone (written.EnumBody at tag list) =
       then_with (is_goes (enum_opened w tag)) (λ unit v r k. then_with (go_enumerators v _ list) (λ next v2 r2 k2. is_with (λ good. typed_so (enum_closes v2 tag) tt)))
 
-  pub go_members : (w : World) (done : _) (members : written.MemberDeclTrees) → MadeIn done w → AllWith w MadeIn (TypesMembers w done members)
+  pub go_members : {sizing : Bool} (w : World) (done : _) (members : written.MemberDeclTrees) → MadeIn done w → AllWith sizing w MadeIn (TypesMembers w done members)
   go_members w done written.no_members made good = is_with (λ g. typed_so (reaches.stays w) made) good
   go_members w done (written.more_members (written.Members at specs list) rest) made good =
-      then_with (all_forget (go_specs w _ _ specs (none_yet w))) (λ s v r k. then_with (is_goes (type_told specifiers.OfPlainType (typing.first_of at specs) s v)) (λ base v2 r2 k2.
-      so_with (go_names v2 _ base done list (made_after v v2 done k.good k2.frame (made_after w v done good k.frame made)))
+      so_with (go_specs w _ _ specs (none_yet w)) (λ s v r p k.
+      so_with (is_with (λ g. form_in _ (type_told_at specifiers.OfPlainType (typing.first_of at specs) s v p))) (λ base v2 r2 f k2.
+      so_with (go_names v2 _ base done list f (made_after v v2 done k.good k2.good k2.frame (made_after w v done good k.good k.frame made)))
       (λ members v3 r3 made3 k3. go_members v3 _ rest made3))) good
 
-  pub go_names : (w : World) (first : Pos) (base : Form) (done : _) (list : written.DeclaratorTrees) → MadeIn done w → AllWith w MadeIn (TypesMemberNames w first base done list)
-  go_names w first base done written.no_declarators made good = is_with (λ g. typed_so (reaches.stays w) made) good
-  go_names w first base done (written.more_declarators declarator rest) made good =
-      then_with (all_forget (go_declarator w declarator)) (λ shape v r k.
-      so_with (is_with (λ after. member_made v first base done shape after (made_after w v done good k.frame made)))
-      (λ members v2 r2 made2 k2. go_names v2 first base _ rest made2)) good
+  pub go_names : {sizing : Bool} (w : World) (first : Pos) (base : Form) (done : _) (list : written.DeclaratorTrees) → IsFormedForm w.structs base → MadeIn done w
+      → AllWith sizing w MadeIn (TypesMemberNames w first base done list)
+  go_names w first base done written.no_declarators f made good = is_with (λ g. typed_so (reaches.stays w) made) good
+  go_names w first base done (written.more_declarators declarator rest) f made good =
+      so_with (go_declarator w declarator) (λ shape v r a k.
+      so_with (is_with (λ after. member_made v first base done shape after (made_after w v done good k.good k.frame made) (steps_formed w v shape.steps a)
+      (form_later w.structs v.structs (is_later w v good k.good k.frame) base f)))
+      (λ members v2 r2 made2 k2. go_names v2 first base _ rest
+      (form_later v.structs v2.structs (is_later v v2 k.good k2.good k2.frame) base (form_later w.structs v.structs (is_later w v good k.good k.frame) base f)) made2)) good
 
-  pub go_enumerators : (w : World) (next : ℤ) (list : written.EnumeratorTrees) → AllGo w (TypesEnumerators w next list)
+  pub go_enumerators : {sizing : Bool} (w : World) (next : ℤ) (list : written.EnumeratorTrees) → AllGo sizing w (TypesEnumerators w next list)
   go_enumerators w next written.no_enumerators = is_goes goes_same
   go_enumerators w next (written.more_enumerators (written.Plain at name) rest) = then_goes (is_goes (enumerator w at at name (Some next))) (λ n v r. go_enumerators v n rest)
   go_enumerators w next (written.more_enumerators (written.Valued at name value) rest) =
       then_goes (valued (go w value)) (λ x v r. then_goes (is_goes (enumerator v at (expr_pos value) name (constant_value x))) (λ n v2 r2. go_enumerators v2 n rest))
 
-  pub go_declarator : (w : World) (declarator : written.DeclaratorTree) → AllWith w (ShapeIn w) (TypesDeclarator w declarator)
+  pub go_declarator : {sizing : Bool} (w : World) (declarator : written.DeclaratorTree) → AllWith sizing w (ShapeIn w) (TypesDeclarator w declarator)
   go_declarator w written.Absent = is_with (λ good. typed_so (reaches.stays w) tt)
   go_declarator w (written.Name at name) = is_with (λ good. typed_so (reaches.stays w) tt)
   go_declarator w (written.Grouped at inner) = go_declarator w inner
@@ -621,7 +655,7 @@ mutual
       so_with (go_declarator w inner) (λ shape v r a k. is_with (λ good. typed_so (reaches.stays v) (asides_then w v shape.steps (FunctionOf [] [] []) a
       (record { types = All-nil (IsFormed v.structs); formed = All-nil (λ b. IsFormedMeaning v.structs b.meaning); aside = aside_none w v }))))
 
-  pub go_params : (w : World) (done : _) (params : written.ParamTrees) → ParamsIn done w → AllWith w ParamsIn (TypesParams w done params)
+  pub go_params : {sizing : Bool} (w : World) (done : _) (params : written.ParamTrees) → ParamsIn done w → AllWith sizing w ParamsIn (TypesParams w done params)
   go_params w done written.no_params all good = is_with (λ g. typed_so (reaches.stays w) all) good
   go_params w done (written.more_params (written.Named at specs declarator) rest) all good =
       so_with (of_parameter _ _ (go_specs w _ _ specs (none_yet w)) (λ v. go_declarator v declarator))

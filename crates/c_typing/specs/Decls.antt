@@ -261,9 +261,14 @@ abbrev pub object_world : World → DeclaredName → CTypeTree → Bool → ℕ 
 object_world w named ty is_const size how None = first_object w named ty is_const size how
 object_world w named ty is_const size how (Some l) = again_object w named ty size how l
 
-abbrev pub object_number : World → Option Linked → ℕ
-object_number w None = length w.objects
-object_number w (Some l) = number_of l.meaning
+-- the number of the object that is declared, if the file has it
+abbrev pub entity_object : Meaning → Option ℕ
+entity_object (Object n) = Some n
+entity_object meaning = None
+
+abbrev pub object_number : World → FileObject → Option Linked → Option ℕ
+object_number w how None = if how.is_there then Some (length w.objects) else None
+object_number w how (Some l) = entity_object l.meaning
 
 abbrev pub is_defined : Option Linked → Bool
 is_defined linked = unwrap_or (option_map (λ l. l.defined) linked) false
@@ -274,25 +279,26 @@ counted_once w at size how linked outcome =
     if how.defines && not (is_defined linked) then within_limits at size w (outcome (with_total w size))
     else unless (how.is_there && nat_lt object_limit size) (ObjectTooLarge at size) (outcome w)
 
-abbrev pub file_now : World → DeclaredName → CTypeTree → FileObject → Option Linked → Bool → ObjectNow
-file_now w named ty how linked measured =
-    record { number = object_number w linked; pos = named.pos; ty = ty; is_static = true; in_block = how.in_block; measured = measured }
+abbrev pub file_now : DeclaredName → CTypeTree → FileObject → Bool → ℕ → ObjectNow
+file_now named ty how measured n = record { number = n; pos = named.pos; ty = ty; is_static = true; in_block = how.in_block; measured = measured }
 
 -- an object that the file has, whose initialiser may follow
-abbrev pub declares : FileObject → ObjectNow → Declares
-declares how object = if how.is_there then AnObject object else NoObject
+abbrev pub declares : Option ℕ → (ℕ → ObjectNow) → Declares
+declares None now = NoObject
+declares (Some n) now = AnObject (now n)
 
 -- an object of the file whose size is told, here or before
 abbrev pub file_sized : World → DeclaredName → CTypeTree → Bool → FileObject → Option Linked → Outcome Declares
 file_sized w named ty is_const how linked =
-    unless_incomplete w named.pos ty (λ size. counted_once w named.pos size how linked (λ v.
-    unless_main_shape named false (Typed (declares how (file_now w named ty how linked false)) (object_world v named ty is_const size how linked))))
+    unless_incomplete w named.pos ty (λ size. counted_once w named.pos size how linked (λ v. unless_main_shape named false
+    (Typed (declares (object_number w how linked) (file_now named ty how false)) (object_world v named ty is_const size how linked))))
 
 -- one whose size is not told yet: by its initialiser, or, in an `extern` declaration alone, later (C11 6.7.9p22, this profile)
 abbrev pub file_unsized : World → DeclaredName → CTypeTree → FileObject → Option Linked → Outcome Declares
 file_unsized w named ty how linked =
     unless (how.defines && not how.has_init) (NotConstant named.pos)
-    (unless_main_shape named false (Typed (declares how (file_now w named ty how linked how.has_init)) (object_world w named ty false 0 how linked)))
+    (unless_main_shape named false
+    (Typed (declares (object_number w how linked) (file_now named ty how how.has_init)) (object_world w named ty false 0 how linked)))
 
 abbrev pub file_object : World → DeclaredName → CTypeTree → Bool → FileObject → Option Linked → Outcome Declares
 file_object w named ty is_const how linked =

@@ -1,10 +1,9 @@
 -- What holds of typing.
-use Rattle.std.specs.Prelude.{◌≡◌, ℕ, IsTrue, Some, IsSomeAnd, List, slice_get}
+use Rattle.std.specs.Prelude.{◌≡◌, ℕ, Bool, IsTrue, Some, IsSomeAnd, List, slice_get}
 use Rattle.c_written.specs.WrittenFile.{FileTree, OuterTree}
-use Rattle.c_syntax.specs.Types.{CTypeTree, ObjectTree}
+use Rattle.c_syntax.specs.Types.{CTypeTree, Array, ObjectTree}
 use Rattle.c_syntax.specs.Program.{StructDefTree, TFunctionTree}
-use Rattle.c_layout.specs.LaidOut.{IsLaidOut}
-use Rattle.c_layout.specs.Heights.{NoneHoldsItself}
+use Rattle.c_layout.specs.Tables.{IsTypedTable}
 use Rattle.c_typing.specs.Later.{has_members}
 use Rattle.c_typing.specs.World.{World, Outcome, Typed}
 use Rattle.c_typing.specs.Context.{Context}
@@ -23,10 +22,16 @@ pub record IsSameFunction (f g : TFunctionTree) : Type 0 where
   pub name : f.name ≡ g.name
   pub result : f.result ≡ g.result
 
--- an object that keeps its name and place, whether it may be written, and how long it lives
+-- a type that stays as it is, or that of an array whose size comes later (C11 6.2.5p22)
+pub data IsLastType : CTypeTree → CTypeTree → Type 0 where
+  same : (ty : CTypeTree) → IsLastType ty ty
+  sized : (of : CTypeTree) (is_const : Bool) (n : ℕ) → IsLastType (Array of is_const 0) (Array of is_const n)
+
+-- an object that keeps its name and place, its type once that is complete, whether it may be written, and how long it lives
 pub record IsSameObject (x y : ObjectTree) : Type 0 where
   pub name : x.name ≡ y.name
   pub pos : x.pos ≡ y.pos
+  pub ty : IsLastType x.ty y.ty
   pub read_only : x.read_only ≡ y.read_only
   pub is_static : x.is_static ≡ y.is_static
 
@@ -48,14 +53,10 @@ TypingAdds =
     (around : Context) (before after : List OuterTree) (w v : World) → TypesOuters nothing_yet around before (Typed tt w)
     → TypesOuters w around after (Typed tt v) → GoesOn w v
 
--- each struct has the size, the alignment and the offsets that its members give, and none holds itself
-pub record AreLaidOut (structs : List StructDefTree) : Type 0 where
-  pub laid_out : IsLaidOut structs
-  pub founded : NoneHoldsItself structs
-
--- so it is in each program that declarations leave
-abbrev pub StructsAreLaidOut : Type 0
-StructsAreLaidOut = (around : Context) (before : List OuterTree) (w : World) → TypesOuters nothing_yet around before (Typed tt w) → AreLaidOut w.structs
+-- the structs of a program that declarations leave are a table that a well typed program may have: their stored sizes, alignments and offsets
+-- are those that their members give, members are of complete types, no struct holds itself, and none is above 2 to the 40 bytes
+abbrev pub StructsAreTyped : Type 0
+StructsAreTyped = (around : Context) (before : List OuterTree) (w : World) → TypesOuters nothing_yet around before (Typed tt w) → IsTypedTable w.structs
 
 -- each file has an outcome
 abbrev pub FilesHaveSome : Type 0

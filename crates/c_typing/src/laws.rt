@@ -1,7 +1,7 @@
 // The laws of typing.
 #![tactic(auto)]
 
-ghost use Rattle.c_typing.specs.Laws.{FilesHaveOne, FilesHaveSome, StructsAreLaidOut, TypingAdds};
+ghost use Rattle.c_typing.specs.Laws.{FilesHaveOne, FilesHaveSome, StructsAreTyped, TypingAdds};
 ghost use Rattle.c_typing.specs.Samples.{SamplesAreTyped};
 
 /// A file has one outcome at most: a typed program, or its first refusal.
@@ -15,16 +15,18 @@ pub fn files_have_some()
 {}
 
 /// Typing only adds: what is declared later leaves each struct, each object and each function its number;
-/// an object its name, its place, whether it may be written and how long it lives; a function its name,
-/// its result and the types of its parameters; and a struct its tag, and its members once it has them.
+/// an object its name, its place, its type once it is complete, whether it may be written and how long it
+/// lives; a function its name, its result and the types of its parameters; and a struct its tag, and its
+/// members once it has them.
 pub fn typing_adds()
     ensures { TypingAdds }
 {}
 
-/// In each program that declarations leave, a struct has the size, the alignment and the offsets that its
-/// members give, and none holds itself.
-pub fn structs_are_laid_out()
-    ensures { StructsAreLaidOut }
+/// In each program that declarations leave, the structs are a table that a well typed program may have: a
+/// struct has the size, the alignment and the offsets that its members give, its members are of complete
+/// types, no struct holds itself, and none takes more than 2^40 bytes.
+pub fn structs_are_typed()
+    ensures { StructsAreTyped }
 {}
 
 /// Small files whose typed programs, or refusals, were worked out by hand.

@@ -22,11 +22,11 @@
 //!
 //! That a file has an outcome is promised by `files_have_some`, and that it has one at most by
 //! `files_have_one`; that typing only adds to a program by `typing_adds`, that structs stand there as they
-//! are laid out by `structs_are_laid_out`, and what small files come to by `samples_are_typed` (`Samples`).
+//! are laid out by `structs_are_typed`, and what small files come to by `samples_are_typed` (`Samples`).
 #![tactic(auto)]
 
 mod laws;
 
 pub use laws::{
-    files_have_one, files_have_some, samples_are_typed, structs_are_laid_out, typing_adds,
+    files_have_one, files_have_some, samples_are_typed, structs_are_typed, typing_adds,
 };

@@ -28,7 +28,7 @@ use Rattle.c_typing.specs.Nodes.{given}
 use Rattle.c_typing.proofs.MadeMembers.{complete_is_told}
 use Rattle.c_typing_laws.specs.TypedValues.{IsTypedValue, IsTypedOperand}
 use Rattle.c_typing_laws.specs.NodeLaws.{ConditionalsAreTyped, CommasAreTyped, SizesAreTyped, CastsAreTyped, NumbersAreTyped, CharactersAreTyped}
-use Rattle.c_typing_laws.proofs.Same.{one_but_const}
+use Rattle.c_typing.proofs.Same.{one_but_const}
 use Rattle.c_typing_laws.proofs.Wide.{balanced_same}
 use Rattle.c_typing_laws.proofs.Values.{value_given, int_value, pointer_value, null_value, as_pointer_value, as_type_type}
 use Rattle.c_typing_laws.proofs.Operators.{no_node, made, proper_of, scalar_value}

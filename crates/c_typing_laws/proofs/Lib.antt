@@ -1,4 +1,3 @@
-pub mod Same
 pub mod Wide
 pub mod Values
 pub mod Operators

@@ -31,7 +31,7 @@ use Rattle.c_typing.specs.Later.{IsLater}
 use Rattle.c_typing_laws.specs.TypedValues.{IsTypedValue}
 use Rattle.c_typing_laws.specs.RowLaws.{OperatorsAreTyped}
 use Rattle.c_typing.proofs.Later.{size_later}
-use Rattle.c_typing_laws.proofs.Same.{one_but_const}
+use Rattle.c_typing.proofs.Same.{one_but_const}
 use Rattle.c_typing_laws.proofs.Wide.{promoted_same, balanced_same}
 use Rattle.c_typing_laws.proofs.Values.{value_given, fits, as_int_value, as_int_type, null_value}
 

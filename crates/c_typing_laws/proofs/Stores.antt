@@ -18,7 +18,7 @@ use Rattle.c_typing.specs.Later.{IsLater}
 use Rattle.c_typing_laws.specs.TypedValues.{IsTypedValue}
 use Rattle.c_typing_laws.specs.RowLaws.{IsStored, IsPut, ValuesAreStored, ValuesArePut}
 use Rattle.c_typing.proofs.Later.{size_later, align_later}
-use Rattle.c_typing_laws.proofs.Same.{one_type}
+use Rattle.c_typing.proofs.Same.{one_type}
 use Rattle.c_typing_laws.proofs.Values.{value_given, as_int_value, as_int_type, as_pointer_value, as_type_type, null_value}
 use Rattle.c_typing_laws.proofs.Operators.{no_node}
 

@@ -13,7 +13,7 @@ use Rattle.c_layout.specs.TypedNodes.{Scope, IsTypedExpr, IsTypedPlace, AreTyped
 use Rattle.c_typing.specs.SameTypes.{is_same_int, is_same}
 use Rattle.c_typing.specs.Operands.{as_int, as_type}
 use Rattle.c_typing_laws.specs.TypedValues.{IsTypedValue}
-use Rattle.c_typing_laws.proofs.Same.{one_int, one_type}
+use Rattle.c_typing.proofs.Same.{one_int, one_type}
 
 -- a value that is wanted is given
 pub given_is : (scope : Scope) (e : TExprTree) → IsTypedExpr scope true e → given_type e ≡ texpr_type e

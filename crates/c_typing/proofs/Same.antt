@@ -22,7 +22,7 @@ one_int ints.LLong ints.LLong e = refl
 one_int ints.ULLong ints.ULLong e = refl
 one_int t u e = absurd (false≢true e)
 
-one_truth : (c d : Bool) → is_same_truth c d ≡ true → c ≡ d
+pub one_truth : (c d : Bool) → is_same_truth c d ≡ true → c ≡ d
 one_truth true true e = refl
 one_truth true false e = absurd (false≢true e)
 one_truth false true e = absurd (false≢true e)

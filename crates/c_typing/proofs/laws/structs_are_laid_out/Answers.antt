@@ -1,5 +1,0 @@
-use Rattle.c_typing.proofs.Adds as lemmas
-use Rattle.c_typing.proofs.laws.structs_are_laid_out.Goals as goal
-
-pub returns : goal.returns
-returns c = lemmas.structs_are_laid_out
