@@ -1,0 +1,134 @@
+// Operators on one operand.
+#![tactic(auto)]
+
+ghost use Rattle.std.specs.Prelude.{◌≡◌, map};
+ghost use Rattle.c_syntax.specs.TypedExpr.{texpr_tree, tlvalue_tree};
+ghost use Rattle.c_syntax.specs.TypedParts.{texpr_type};
+ghost use Rattle.c_syntax.specs.Program.{structdef_tree};
+ghost use Rattle.c_typing.specs.Nodes as nodes;
+ghost use Rattle.c_typing.specs.Operands as operands;
+ghost use Rattle.c_typing.specs.Rows as rows;
+ghost use Rattle.c_typing.specs.World.{World};
+ghost use Rattle.c_type_arithmetic.specs.Views.{sign_at};
+ghost use Rattle.c_type_conversions.specs.Views.{operand_tree};
+ghost use Rattle.c_type_errors.specs.Views.{Answers};
+
+use crate::given::{given, given_place};
+use c_syntax::{DerefKind, Op, Pos, StructDefs, TExpr, TLvalue, UnaryOp};
+use c_type_arithmetic::{Sign, not_row, unary_row};
+use c_type_conversions::{Operand, is_unsized, value_of};
+use c_type_errors::{TypeError, no_rule};
+use c_type_places::star_row;
+use std::alloc::Global;
+
+/// A prefix operator on a typed operand. `&` of what is no place is NotLvalue; where no row has the operand's
+/// type it is NoRule, both at the operator.
+pub fn unary(
+    alloc: Global,
+    structs: &StructDefs,
+    pos: Pos,
+    op: UnaryOp,
+    operand: Operand,
+) -> Result<Operand, TypeError>
+    ensures { (w : World) → w.structs ≡ map structdef_tree structs.now
+        → Answers (λ out. out ≡ nodes.unary w pos op (operand_tree operand)) operand_tree w result }
+{
+    match op {
+        UnaryOp::AddressOf => address(alloc, structs, pos, operand),
+        UnaryOp::Deref => {
+            let e = value_of(alloc, operand)?;
+            pointed(alloc, structs, pos, e)
+        }
+        UnaryOp::Plus => {
+            let e = value_of(alloc, operand)?;
+            signed(alloc, structs, pos, Op::Plus, Sign::Plus, e)
+        }
+        UnaryOp::Minus => {
+            let e = value_of(alloc, operand)?;
+            signed(alloc, structs, pos, Op::Minus, Sign::Minus, e)
+        }
+        UnaryOp::Complement => {
+            let e = value_of(alloc, operand)?;
+            signed(alloc, structs, pos, Op::Complement, Sign::Complement, e)
+        }
+        UnaryOp::Not => {
+            let e = value_of(alloc, operand)?;
+            negated(alloc, structs, pos, e)
+        }
+    }
+}
+
+// `&`
+fn address(
+    alloc: Global,
+    structs: &StructDefs,
+    pos: Pos,
+    operand: Operand,
+) -> Result<Operand, TypeError>
+    ensures { (w : World) → w.structs ≡ map structdef_tree structs.now
+        → Answers (λ out. out ≡ nodes.address w pos (operand_tree operand)) operand_tree w result }
+{
+    match operand {
+        Operand::Value(_) => Err(TypeError::NotLvalue(pos)),
+        Operand::Place(place) => address_of(alloc, structs, pos, place),
+    }
+}
+
+// `&` of a place
+#[tactic(auto, using(c_syntax::proofs::Trees::the_trees))]
+fn address_of(
+    alloc: Global,
+    structs: &StructDefs,
+    pos: Pos,
+    place: TLvalue,
+) -> Result<Operand, TypeError>
+    ensures { (w : World) → w.structs ≡ map structdef_tree structs.now
+        → Answers (λ out. out ≡ nodes.address w pos (operands.Place (tlvalue_tree place))) operand_tree w result }
+{
+    let ty = place.ty().copy()?;
+    if is_unsized(&ty) {
+        return Err(no_rule(alloc, structs, pos, Op::BitAnd, ty, None));
+    }
+    let place = Box::new(alloc, place)?;
+    Ok(Operand::Value(TExpr::AddressOf { pos, place }))
+}
+
+// `*`
+fn pointed(alloc: Global, structs: &StructDefs, pos: Pos, e: TExpr) -> Result<Operand, TypeError>
+    ensures { (w : World) → w.structs ≡ map structdef_tree structs.now
+        → Answers (λ out. out ≡ nodes.given_place (nodes.no_row w pos Op.Multiply (texpr_tree e))
+        (rows.star_row DerefKind.Star pos (texpr_type (texpr_tree e)) (texpr_tree e)) w) operand_tree w result }
+{
+    let ty = e.ty()?;
+    let row = star_row(alloc, DerefKind::Star, pos, &ty, e)?;
+    given_place(alloc, structs, pos, Op::Multiply, ty, None, row)
+}
+
+// `+`, `-` and `~`
+fn signed(
+    alloc: Global,
+    structs: &StructDefs,
+    pos: Pos,
+    op: Op,
+    sign: Sign,
+    e: TExpr,
+) -> Result<Operand, TypeError>
+    ensures { (w : World) → w.structs ≡ map structdef_tree structs.now
+        → Answers (λ out. out ≡ nodes.given (nodes.no_row w pos op (texpr_tree e))
+        (rows.unary_row (sign_at sign) pos (texpr_type (texpr_tree e)) (texpr_tree e)) w) operand_tree w result }
+{
+    let ty = e.ty()?;
+    let row = unary_row(alloc, sign, pos, &ty, e)?;
+    given(alloc, structs, pos, op, ty, None, row)
+}
+
+// `!`
+fn negated(alloc: Global, structs: &StructDefs, pos: Pos, e: TExpr) -> Result<Operand, TypeError>
+    ensures { (w : World) → w.structs ≡ map structdef_tree structs.now
+        → Answers (λ out. out ≡ nodes.given (nodes.no_row w pos Op.Not (texpr_tree e))
+        (rows.not_row pos (texpr_type (texpr_tree e)) (texpr_tree e)) w) operand_tree w result }
+{
+    let ty = e.ty()?;
+    let row = not_row(alloc, pos, &ty, e)?;
+    given(alloc, structs, pos, Op::Not, ty, None, row)
+}
