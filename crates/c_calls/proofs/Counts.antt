@@ -101,9 +101,27 @@ unfolding declared_by
 declared_more s rest = refl
 
 pub ruleset the_counts = (
-  declared_none, declared_more,
-  count_empty, count_expr, count_block, count_declare, count_static, count_if, count_while, count_dowhile, count_for,
-  count_switch, count_break, count_continue, count_goto, count_return, count_label, count_case, count_default, count_none, count_more
+  declared_none,
+  declared_more,
+  count_empty,
+  count_expr,
+  count_block,
+  count_declare,
+  count_static,
+  count_if,
+  count_while,
+  count_dowhile,
+  count_for,
+  count_switch,
+  count_break,
+  count_continue,
+  count_goto,
+  count_return,
+  count_label,
+  count_case,
+  count_default,
+  count_none,
+  count_more,
 )
 
 pub not_an_expression : (s : TStmt) → ((at : Pos) (value : TExpr) → s ≡ codes.Expr at value → ⊥) → 1 ≡ declares (tstmt_tree s)

@@ -84,7 +84,7 @@ module _ (graph : List (Option (List PlacedCall))) (order : List ℕ) (o : IsOrd
   pub next_called : All (λ call. Contains order call.callee) (calls_from graph next)
   next_called = All-weaker (λ call. Contains (take i order) call.callee) (λ call. Contains order call.callee)
       (λ call c. subst (λ xs. Contains xs call.callee) (take_all (length order) order (omega arith))
-          (contains_front order i (length order) call.callee (omega (arith, inside)) c))
+      (contains_front order i (length order) call.callee (omega (arith, inside)) c))
       (calls_from graph next) (called_before i (omega arith))
 
   kept : (depths : List ℕ) (x k : ℕ) → k < i → IsDepth depths (calls_from graph (get_or order k 0)) (get_or depths (get_or order k 0) 0)
@@ -92,11 +92,11 @@ module _ (graph : List (Option (List PlacedCall))) (order : List ℕ) (o : IsOrd
   kept depths x k less d =
       let f = get_or order k 0 in
       let here : Contains (take i order) f = subst (Contains (take i order)) (get_or-take i order k 0 less)
-          (Contains-get_or (take i order) k 0 (omega (arith, less, inside, length-take i order))) in
+      (Contains-get_or (take i order) k 0 (omega (arith, less, inside, length-take i order))) in
       subst (IsDepth (set depths next x) (calls_from graph f)) (sym (get_or-set_other depths next f x 0 (other f here)))
       (depth_stays depths next x (calls_from graph f) (get_or depths f 0)
-          (All-weaker (λ call. Contains (take i order) call.callee) (λ call. call.callee ≢ next) (λ call c. other call.callee c) (calls_from graph f)
-              (called_before k (omega (arith, less)))) d)
+      (All-weaker (λ call. Contains (take i order) call.callee) (λ call. call.callee ≢ next) (λ call c. other call.callee c) (calls_from graph f)
+      (called_before k (omega (arith, less)))) d)
 
   -- the depth of the next function is known too
   pub one_more : (depths : List ℕ) (x : ℕ) → next < length depths → IsDepth depths (calls_from graph next) x
@@ -105,14 +105,14 @@ module _ (graph : List (Option (List PlacedCall))) (order : List ℕ) (o : IsOrd
   one_more depths x within d all =
       All-more (λ f. IsDepth (set depths next x) (calls_from graph f) (get_or (set depths next x) f 0)) order i 0 inside
       (All-from_get_or (λ f. IsDepth (set depths next x) (calls_from graph f) (get_or (set depths next x) f 0)) (take i order) 0
-          (λ k less. let l : k < i = omega (arith, less, length-take i order) in
-              subst (λ f. IsDepth (set depths next x) (calls_from graph f) (get_or (set depths next x) f 0)) (sym (get_or-take i order k 0 l))
-              (kept depths x k l (subst (λ f. IsDepth depths (calls_from graph f) (get_or depths f 0)) (get_or-take i order k 0 l)
-                  (All-get_or (λ f. IsDepth depths (calls_from graph f) (get_or depths f 0)) (take i order) k 0 less all)))))
+      (λ k less. let l : k < i = omega (arith, less, length-take i order) in
+      subst (λ f. IsDepth (set depths next x) (calls_from graph f) (get_or (set depths next x) f 0)) (sym (get_or-take i order k 0 l))
+      (kept depths x k l (subst (λ f. IsDepth depths (calls_from graph f) (get_or depths f 0)) (get_or-take i order k 0 l)
+      (All-get_or (λ f. IsDepth depths (calls_from graph f) (get_or depths f 0)) (take i order) k 0 less all)))))
       (subst (IsDepth (set depths next x) (calls_from graph next)) (sym (get_or-set_same depths next x 0 within))
-          (depth_stays depths next x (calls_from graph next) x
-              (All-weaker (λ call. Contains (take i order) call.callee) (λ call. call.callee ≢ next) (λ call c. other call.callee c) (calls_from graph next)
-                  (called_before i (omega arith))) d))
+      (depth_stays depths next x (calls_from graph next) x
+      (All-weaker (λ call. Contains (take i order) call.callee) (λ call. call.callee ≢ next) (λ call c. other call.callee c) (calls_from graph next)
+      (called_before i (omega arith))) d))
 
 -- the depth of each function that has a body is known
 pub all_known : (graph : List (Option (List PlacedCall))) (order : List ℕ) → IsOrderOf graph order → (depths : List ℕ)
@@ -131,10 +131,10 @@ depth_more depths calls call m d is known = record {
   capped = grind (arith, known.capped);
   over = All-push (λ c. min 65 (get_or depths c.callee 0 + 1) ≤ max m (min d 64 + 1)) calls call
       (All-weaker (λ c. min 65 (get_or depths c.callee 0 + 1) ≤ m) (λ c. min 65 (get_or depths c.callee 0 + 1) ≤ max m (min d 64 + 1))
-          (λ c le. grind (arith, le)) calls known.over)
+      (λ c le. grind (arith, le)) calls known.over)
       (subst (λ n. min 65 (n + 1) ≤ max m (min d 64 + 1)) is (grind arith));
   reached = λ n less. elim (cases_lt n m) [
-    inl below ↦ (let one = known.reached n below in (one.0, Contains-append_left calls (call ∷ []) one.0 one.1, one.2))
+    | inl below ↦ (let one = known.reached n below in (one.0, Contains-append_left calls (call ∷ []) one.0 one.1, one.2))
     | inr over ↦ (call, Contains-push calls call, subst (λ x. n ≤ x) is (grind (arith, less, over)))
   ];
 }
@@ -154,6 +154,6 @@ pub none_deep : (depths : List ℕ) (calls : List Call) (depth : ℕ) → All (�
     → HasDeepCall depths (map placed calls) depth → ⊥
 none_deep depths calls depth all one =
     let mapped : All (λ call. get_or depths call.callee 0 < depth) (map placed calls) =
-        All-map (λ (call : PlacedCall). get_or depths call.callee 0 < depth) placed calls all in
+    All-map (λ (call : PlacedCall). get_or depths call.callee 0 < depth) placed calls all in
     let low = All-contains (λ (call : PlacedCall). get_or depths call.callee 0 < depth) (map placed calls) one.0 mapped one.1 in
     absurd (omega (arith, low, one.2))

@@ -56,14 +56,14 @@ module _ (graph : List (Option (List PlacedCall))) where
   pub goes_on : (f i : ℕ) (call : PlacedCall) → i < length (calls_from graph f) → call ≡ get_or (calls_from graph f) i call → IsDefined graph call.callee
       → (found : Option Call) → IsFound graph f i found → IsFound graph f (i + 1) found
   goes_on f i call less is d None h = λ other s. elim (seen_more f i call less other s) [
-    inl before ↦ h other before
+    | inl before ↦ h other before
     | inr e ↦ subst (λ (c : PlacedCall). IsDefined graph c.callee) (is ∙ e) d
   ]
   goes_on f i call less is d (Some first) h = record {
     seen = still_seen f i call less (placed first) h.seen;
     undefined = h.undefined;
     first = λ other s u before. elim (seen_more f i call less other s) [
-      inl earlier ↦ h.first other earlier u before
+      | inl earlier ↦ h.first other earlier u before
       | inr e ↦ u (subst (λ (c : PlacedCall). IsDefined graph c.callee) (is ∙ e) d)
     ];
   }
@@ -76,7 +76,7 @@ module _ (graph : List (Option (List PlacedCall))) where
     seen = subst (IsSeen graph f (i + 1)) (sym is) (now_seen f i (placed call) less);
     undefined = u;
     first = λ other s v before. elim (seen_more f i (placed call) less other s) [
-      inl seen ↦ v (h other seen)
+      | inl seen ↦ v (h other seen)
       | inr e ↦ never_before_itself call.pos (subst (λ (c : PlacedCall). IsBefore c.pos call.pos) (sym (is ∙ e)) before)
     ];
   })
@@ -84,7 +84,7 @@ module _ (graph : List (Option (List PlacedCall))) where
     seen = subst (IsSeen graph f (i + 1)) (sym is) (now_seen f i (placed call) less);
     undefined = u;
     first = λ other s v before. elim (seen_more f i (placed call) less other s) [
-      inl seen ↦ h.first other seen v (before_after other.pos call.pos first.pos before e.1)
+      | inl seen ↦ h.first other seen v (before_after other.pos call.pos first.pos before e.1)
       | inr e ↦ never_before_itself call.pos (subst (λ (c : PlacedCall). IsBefore c.pos call.pos) (sym (is ∙ e)) before)
     ];
   })
@@ -92,7 +92,7 @@ module _ (graph : List (Option (List PlacedCall))) where
     seen = still_seen f i (placed call) less (placed first) h.seen;
     undefined = h.undefined;
     first = λ other s v before. elim (seen_more f i (placed call) less other s) [
-      inl seen ↦ h.first other seen v before
+      | inl seen ↦ h.first other seen v before
       | inr same ↦ e.1 (subst (λ (c : PlacedCall). IsBefore c.pos first.pos) (sym (is ∙ same)) before)
     ];
   })
@@ -108,7 +108,7 @@ module _ (graph : List (Option (List PlacedCall))) where
   seen_in : (f i : ℕ) → length (calls_from graph f) ≤ i → (call : PlacedCall) → IsSeen graph (f + 1) 0 call → IsSeen graph f i call
   seen_in f i past call (inr s) = absurd (omega (arith, s.1))
   seen_in f i past call (inl s) = elim (cases_eq s.0 f) [
-    inl same ↦ inr (subst (λ xs. Contains xs call) (ap (calls_from graph) same ∙ sym (take_all i (calls_from graph f) past)) s.2)
+    | inl same ↦ inr (subst (λ xs. Contains xs call) (ap (calls_from graph) same ∙ sym (take_all i (calls_from graph f) past)) s.2)
     | inr other ↦ inl (s.0, omega (arith, s.1, other), s.2)
   ]
 

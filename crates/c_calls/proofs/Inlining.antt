@@ -69,7 +69,7 @@ module _ (graph : List (Option (List PlacedCall))) (own order sizes : List ℕ) 
       → sum_by (λ call. s.inlined call.callee) (calls_from graph f) ≡ sum_by (λ call. now call.callee) (calls_from graph f)
   same_sum f called = sum_same (λ call. s.inlined call.callee) (λ call. now call.callee) (calls_from graph f)
       (All-weaker (λ call. Contains (take i order) call.callee) (λ call. s.inlined call.callee ≡ now call.callee)
-          (λ call c. sym (same_elsewhere s.inlined next exact call.callee (before call.callee c))) (calls_from graph f) called)
+      (λ call c. sym (same_elsewhere s.inlined next exact call.callee (before call.callee c))) (calls_from graph f) called)
 
   at_front : (P : ℕ → Type 0) → ((k : ℕ) → k < i → P (get_or order k 0)) → All P (take i order)
   at_front P each = All-from_get_or P (take i order) 0
@@ -94,22 +94,22 @@ module _ (graph : List (Option (List PlacedCall))) (own order sizes : List ℕ) 
     inlined = now;
     grow = All-more (λ f. now f ≡ get_or own f 0 + sum_by (λ call. now call.callee) (calls_from graph f)) order i 0 inside
         (at_front (λ f. now f ≡ get_or own f 0 + sum_by (λ call. now call.callee) (calls_from graph f))
-            (λ k l. grown (get_or order k 0) (called_before graph order o i inside k (omega (arith, l)))
-                (same_elsewhere s.inlined next exact (get_or order k 0) (before (get_or order k 0) (here k l))
-                ∙ from_front (λ f. s.inlined f ≡ get_or own f 0 + sum_by (λ call. s.inlined call.callee) (calls_from graph f)) s.grow k l)))
+        (λ k l. grown (get_or order k 0) (called_before graph order o i inside k (omega (arith, l)))
+        (same_elsewhere s.inlined next exact (get_or order k 0) (before (get_or order k 0) (here k l))
+        ∙ from_front (λ f. s.inlined f ≡ get_or own f 0 + sum_by (λ call. s.inlined call.callee) (calls_from graph f)) s.grow k l)))
         (grown next (called_before graph order o i inside i (omega arith)) (changed_there s.inlined next exact));
     done = All-more (λ f. get_or (set sizes next size) f 0 ≡ ended (now f)) order i 0 inside
         (at_front (λ f. get_or (set sizes next size) f 0 ≡ ended (now f))
-            (λ k l. get_or-set_other sizes next (get_or order k 0) size 0 (before (get_or order k 0) (here k l))
-                ∙ from_front (λ f. get_or sizes f 0 ≡ ended (s.inlined f)) s.done k l
-                ∙ ap ended (sym (same_elsewhere s.inlined next exact (get_or order k 0) (before (get_or order k 0) (here k l))))))
+        (λ k l. get_or-set_other sizes next (get_or order k 0) size 0 (before (get_or order k 0) (here k l))
+        ∙ from_front (λ f. get_or sizes f 0 ≡ ended (s.inlined f)) s.done k l
+        ∙ ap ended (sym (same_elsewhere s.inlined next exact (get_or order k 0) (before (get_or order k 0) (here k l))))))
         (get_or-set_same sizes next size 0 within ∙ is
-            ∙ ap (λ n. ended (n + sum_by (λ call. get_or sizes call.callee 0) (calls_from graph next))) (s.rest next (λ c. before next c refl))
-            ∙ sum_ended (get_or own next 0) (λ call. get_or sizes call.callee 0) (λ call. s.inlined call.callee) (calls_from graph next)
-                (All-weaker (λ call. Contains (take i order) call.callee) (λ call. get_or sizes call.callee 0 ≡ ended (s.inlined call.callee))
-                    (λ call c. All-contains (λ f. get_or sizes f 0 ≡ ended (s.inlined f)) (take i order) call.callee s.done c)
-                    (calls_from graph next) (called_before graph order o i inside i (omega arith)))
-            ∙ ap ended (sym (changed_there s.inlined next exact)));
+        ∙ ap (λ n. ended (n + sum_by (λ call. get_or sizes call.callee 0) (calls_from graph next))) (s.rest next (λ c. before next c refl))
+        ∙ sum_ended (get_or own next 0) (λ call. get_or sizes call.callee 0) (λ call. s.inlined call.callee) (calls_from graph next)
+        (All-weaker (λ call. Contains (take i order) call.callee) (λ call. get_or sizes call.callee 0 ≡ ended (s.inlined call.callee))
+        (λ call c. All-contains (λ f. get_or sizes f 0 ≡ ended (s.inlined f)) (take i order) call.callee s.done c)
+        (calls_from graph next) (called_before graph order o i inside i (omega arith)))
+        ∙ ap ended (sym (changed_there s.inlined next exact)));
     rest = λ f away.
         let front : take (i + 1) order ≡ take i order ++ next ∷ [] = take_more order i 0 inside in
         let not_next : f ≢ next = λ e. away (subst (λ xs. Contains xs f) (sym front) (subst (Contains (take i order ++ next ∷ [])) (sym e) (Contains-push (take i order) next))) in
@@ -123,8 +123,7 @@ pub all_inlined : (graph : List (Option (List PlacedCall))) (own order sizes : L
 all_inlined graph own order sizes o i past s =
     let whole : take i order ≡ order = take_all i order past in
     let there : (f : ℕ) → IsDefined graph f → Contains (take i order) f =
-        λ f d. subst (λ xs. Contains xs f) (sym whole) (contains_counted f order (let once = o.once f d in omega (arith, once))) in
-    (
+    λ f d. subst (λ xs. Contains xs f) (sym whole) (contains_counted f order (let once = o.once f d in omega (arith, once))) in (
       λ f d. All-contains (λ f. s.inlined f ≡ get_or own f 0 + sum_by (λ call. s.inlined call.callee) (calls_from graph f)) (take i order) f s.grow (there f d),
       λ f d. All-contains (λ f. get_or sizes f 0 ≡ ended (s.inlined f)) (take i order) f s.done (there f d),
     )

@@ -34,7 +34,12 @@ impl From<AllocError> for DepthError {
 }
 
 /// Whether each chain of calls from this function has 64 at most. The error tells of a longer one, by its first 65.
-pub fn check_depth(alloc: Global, graph: &CallGraph, order: &Numbers, main: u64) -> Result<(), DepthError>
+pub fn check_depth(
+    alloc: Global,
+    graph: &CallGraph,
+    order: &Numbers,
+    main: u64,
+) -> Result<(), DepthError>
     requires known { AreDefined graph.now }
     requires order { IsOrderOf graph.now order.now }
     requires main { IsDefined graph.now main }
@@ -75,7 +80,12 @@ fn depth_of(calls: &[Call], depths: &[u64]) -> u64
 }
 
 // 65 calls in a chain from a function from which they go so deep.
-fn deep_calls(alloc: Global, graph: &CallGraph, depths: &[u64], main: u64) -> Result<Calls, AllocError>
+fn deep_calls(
+    alloc: Global,
+    graph: &CallGraph,
+    depths: &[u64],
+    main: u64,
+) -> Result<Calls, AllocError>
     requires depths { AreDepths graph.now depths.now }
     requires known { AreDefined graph.now }
     requires size { length depths.now ≡ length graph.now }

@@ -5,7 +5,7 @@ ghost use Rattle.std.specs.Prelude.{◌≡◌, ◌+◌, ◌<◌, length, get_or,
 ghost use Rattle.std.specs.List.{sum_by};
 ghost use Rattle.c_syntax.specs.Program.{tfunction_tree, tprogram_tree};
 ghost use Rattle.c_syntax.specs.TypedStmt.{tstmt_tree, tstmts_tree};
-ghost use Rattle.c_calls.specs.Graph.{AreDefined, IsDefined, IsOrderOf};
+ghost use Rattle.c_calls.specs.Graph.{AreDefined, graph_of, IsDefined, IsOrderOf};
 ghost use Rattle.c_calls.specs.Inlined.{blocks_of, body_size, declared_by, declares, ended, function_size, IsInlinedSize, sizes_of, statements_among, statements_in};
 
 use crate::call::Call;
@@ -15,16 +15,26 @@ use std::alloc::{AllocError as NoMemory, Global};
 
 /// How many statements this function has with those of the functions that it calls, once for each call: the greatest
 /// number of 64 bits where they are more.
-pub fn inlined_size(alloc: Global, program: &TProgram, graph: &CallGraph, order: &Numbers, main: u64) -> Result<u64, NoMemory>
+pub fn inlined_size(
+    alloc: Global,
+    program: &TProgram,
+    graph: &CallGraph,
+    order: &Numbers,
+    main: u64,
+) -> Result<u64, NoMemory>
     requires known { AreDefined graph.now }
     requires order { IsOrderOf graph.now order.now }
     requires main { IsDefined graph.now main }
-    requires sizes { length (tprogram_tree program.now).functions ≡ length graph.now }
+    requires calls { graph.now ≡ graph_of (tprogram_tree program.now) }
     ensures { IfOk result (IsInlinedSize graph.now (sizes_of (tprogram_tree program.now)) main) }
 {
     let mut sizes = own_sizes(alloc, program)?;
     for function in order.as_slice() {
-        sizes[*function as usize] = with_calls(sizes[*function as usize], graph.calls(*function), &sizes);
+        sizes[*function as usize] = with_calls(
+            sizes[*function as usize],
+            graph.calls(*function),
+            &sizes,
+        );
     }
     Ok(sizes[main as usize])
 }
@@ -94,8 +104,12 @@ fn size_in(stmt: &TStmt) -> u64
         TStmt::Block { kind, items, .. } => block_size(*kind, items),
         TStmt::Switch { kind, items, .. } => block_size(*kind, items).saturating_add(1),
         TStmt::If {
-            then, otherwise, ..
-        } => size_in(then).saturating_add(size_in(otherwise)).saturating_add(1),
+            then,
+            otherwise,
+            ..
+        } => size_in(then)
+            .saturating_add(size_in(otherwise))
+            .saturating_add(1),
         TStmt::While { body, .. } => size_in(body).saturating_add(1),
         TStmt::DoWhile { body, .. } => size_in(body).saturating_add(1),
         TStmt::For { head, body, .. } => for_size(head, body),
@@ -128,7 +142,9 @@ fn block_size(kind: BlockKind, items: &TStmts) -> u64
 fn for_size(head: &TStmts, body: &TStmt) -> u64
     ensures { result ≡ ended (1 + (declared_by (tstmts_tree head.now) + statements_in (tstmt_tree body.now))) }
 {
-    declared(head).saturating_add(size_in(body)).saturating_add(1)
+    declared(head)
+        .saturating_add(size_in(body))
+        .saturating_add(1)
 }
 
 #[cycle(sizes)]

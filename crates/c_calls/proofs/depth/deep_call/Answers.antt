@@ -15,5 +15,5 @@ pub unreachable-requires : goal.unreachable-requires
 unreachable-requires c =
     none_deep c.args.depths.now c.args.calls.now c.args.depth
     (subst (λ calls. All (λ (call : Call). get_or c.args.depths.now call.callee 0 < c.args.depth) calls)
-        (take_all c.loop-call.call-index c.args.calls.now (omega (arith, c.loop-call-test.false))) c.loop-call.invariant)
+    (take_all c.loop-call.call-index c.args.calls.now (omega (arith, c.loop-call-test.false))) c.loop-call.invariant)
     c.requires.one

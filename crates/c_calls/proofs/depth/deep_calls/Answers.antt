@@ -32,11 +32,10 @@ loop-made-preserved c =
     let pushed = c.in_ok-push.ensures in
     let function = chain_end c.args.main calls in
     let made : Contains (calls_from graph function) call =
-        subst (λ calls. Contains calls call) (c.calls.ensures ∙ ap (calls_from graph) c.end-function.ensures) c.deep_call.ensures.made in
+    subst (λ calls. Contains calls call) (c.calls.ensures ∙ ap (calls_from graph) c.end-function.ensures) c.deep_call.ensures.made in
     let end : chain_end c.args.main c.push.new.self ≡ c.deep_call.result.callee = ap (chain_end c.args.main) pushed ∙ ends c.args.main calls call in
     let deep : 65 ≤ get_or c.args.depths.now c.deep_call.result.callee 0 + (c.loop-made.made + 1) =
-        omega (arith, c.deep_call.ensures.deep, c.loop-made-test.true) in
-    (
+    omega (arith, c.deep_call.ensures.deep, c.loop-made-test.true) in (
       subst (IsWay graph c.args.main) (sym pushed) (way_push graph c.args.main calls call kept.0 made),
       ap length pushed ∙ length_push calls call ∙ ap (λ n. n + 1) kept.1,
       subst (IsDefined graph) (sym end) (All-contains (λ (c : PlacedCall). IsDefined graph c.callee) (calls_from graph function) call (c.requires.known function) made),

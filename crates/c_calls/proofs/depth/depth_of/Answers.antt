@@ -18,7 +18,7 @@ loop-call-preserved c =
     let call = get_or calls c.loop-call.call-index no_call in
     let d = get_or depths call.callee 0 in
     let result : c.max-deepest.result ≡ max c.loop-call.deepest (min d 64 + 1) =
-        c.max-deepest.ensures ∙ max_is c.loop-call.deepest _ ∙ ap (λ n. max c.loop-call.deepest (n + 1)) c.min-depth.ensures in
+    c.max-deepest.ensures ∙ max_is c.loop-call.deepest _ ∙ ap (λ n. max c.loop-call.deepest (n + 1)) c.min-depth.ensures in
     subst (λ r. IsDepth depths (map placed (take (c.loop-call.call-index + 1) calls)) r) (sym result)
     (subst (λ xs. IsDepth depths xs (max c.loop-call.deepest (min d 64 + 1))) (sym (map_more placed calls c.loop-call.call-index no_call c.loop-call-test.true))
     (depth_more depths (map placed (take c.loop-call.call-index calls)) (placed call) c.loop-call.deepest d refl c.loop-call.invariant))

@@ -21,7 +21,7 @@ index_mut-requires c =
     let order = c.as_slice-function-items.result.now in
     let o : IsOrderOf c.args.graph.now order = subst (IsOrderOf c.args.graph.now) (sym c.as_slice-function-items.ensures) c.requires.order in
     let inside = defined_inside c.args.graph.now (get_or order c.loop-function.function-index 0)
-        (All-get_or (IsDefined c.args.graph.now) order c.loop-function.function-index 0 c.loop-function-test.true o.defined) in
+    (All-get_or (IsDefined c.args.graph.now) order c.loop-function.function-index 0 c.loop-function-test.true o.defined) in
     omega (arith, inside, c.loop-function.invariant.0, c.loop-function.depths.ok)
 
 pub loop-function-preserved : goal.loop-function-preserved
@@ -33,9 +33,8 @@ loop-function-preserved c =
     let o : IsOrderOf graph order = subst (IsOrderOf graph) (sym c.as_slice-function-items.ensures) c.requires.order in
     let inside = defined_inside graph (get_or order i 0) (All-get_or (IsDefined graph) order i 0 c.loop-function-test.true o.defined) in
     let depth : IsDepth depths (calls_from graph (get_or order i 0)) c.depth_of.result =
-        subst (λ d. IsDepth d (calls_from graph (get_or order i 0)) c.depth_of.result) c.deref.ensures.value
-        (subst (λ calls. IsDepth c.deref.result.now calls c.depth_of.result) c.calls.ensures c.depth_of.ensures) in
-    (
+    subst (λ d. IsDepth d (calls_from graph (get_or order i 0)) c.depth_of.result) c.deref.ensures.value
+    (subst (λ calls. IsDepth c.deref.result.now calls c.depth_of.result) c.calls.ensures c.depth_of.ensures) in (
       length-set depths (get_or order i 0) c.depth_of.result ∙ c.loop-function.invariant.0,
       one_more graph order o i c.loop-function-test.true depths c.depth_of.result (omega (arith, inside, c.loop-function.invariant.0)) depth
           c.loop-function.invariant.1,
@@ -46,10 +45,9 @@ returns c =
     let graph = c.args.graph.now in
     let order = c.as_slice-function-items.result.now in
     let depths = c.loop-function.depths.items in
-    let o : IsOrderOf graph order = subst (IsOrderOf graph) (sym c.as_slice-function-items.ensures) c.requires.order in
-    (
+    let o : IsOrderOf graph order = subst (IsOrderOf graph) (sym c.as_slice-function-items.ensures) c.requires.order in (
       all_known graph order o depths
           (subst (All (λ f. IsDepth depths (calls_from graph f) (get_or depths f 0)))
-              (take_all c.loop-function.function-index order (omega (arith, c.loop-function-test.false))) c.loop-function.invariant.1),
+          (take_all c.loop-function.function-index order (omega (arith, c.loop-function-test.false))) c.loop-function.invariant.1),
       c.loop-function.invariant.0,
     )

@@ -18,7 +18,7 @@ loop-call-preserved c =
     let count : length calls ≡ length (calls_from c.args.graph.now c.args.function) = sym (length-map calls placed) ∙ ap length c.calls-call-items.ensures in
     found_with c.args.graph.now c.args.function i call (omega (arith, c.loop-call-test.true, count))
     (subst (λ xs. placed call ≡ get_or xs i (placed call)) c.calls-call-items.ensures
-        (placed_read calls i call c.loop-call-test.true (get_or_default calls i no_call call c.loop-call-test.true)))
+    (placed_read calls i call c.loop-call-test.true (get_or_default calls i no_call call c.loop-call-test.true)))
     c.loop-call.found c.with_call-found.result c.loop-call.invariant c.with_call-found.ensures
 
 pub returns : goal.returns
