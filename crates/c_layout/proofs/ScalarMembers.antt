@@ -51,7 +51,7 @@ pub offset_told : (structs : List StructDefTree) → IsLaidOut structs → (n k 
 offset_told structs is n k m e = sym (is.offsets n k) ∙ ap (option_map (λ x. x.offset)) e
 
 -- each member ends where the next ones begin, or before
-rising : (structs : List StructDefTree) → IsLaidOut structs → (n j k : ℕ) (a b : MemberTree) → j < k → slice_get (members_of structs n) j ≡ Some a → slice_get (members_of structs n) k ≡ Some b → a.offset + unwrap_or (size_in structs a.ty) 0 ≤ b.offset
+pub rising : (structs : List StructDefTree) → IsLaidOut structs → (n j k : ℕ) (a b : MemberTree) → j < k → slice_get (members_of structs n) j ≡ Some a → slice_get (members_of structs n) k ≡ Some b → a.offset + unwrap_or (size_in structs a.ty) 0 ≤ b.offset
 rising structs is n j k a b lt ea eb =
     let spaces = member_spaces structs n in
     let struct = in_table structs in
@@ -67,7 +67,8 @@ below_size : (o : Option ℕ) (inner size : ℕ) → IsSomeAnd o (λ n. inner + 
 below_size None inner size h some = absurd h
 below_size (Some n) inner size h some = omega arith
 
-member_fits : (structs : List StructDefTree) → IsLaidOut structs → (ty part : CTypeTree) (inner size : ℕ) → IsScalar part → size_in structs part ≡ Some size → PartAt structs ty inner part → inner < unwrap_or (size_in structs ty) 0
+-- a scalar part begins before the end of what it is in
+pub member_fits : (structs : List StructDefTree) → IsLaidOut structs → (ty part : CTypeTree) (inner size : ℕ) → IsScalar part → size_in structs part ≡ Some size → PartAt structs ty inner part → inner < unwrap_or (size_in structs ty) 0
 member_fits structs is ty part inner size s b p =
     let some = scalar_bytes structs part size s b in
     below_size (size_in structs ty) inner size (inside structs is size p b) some
@@ -78,7 +79,8 @@ pub record IsLast (members : List MemberTree) (k offset : ℕ) (m : MemberTree) 
   pub from : m.offset ≤ offset
   pub last : (j : ℕ) (x : MemberTree) → k < j → slice_get members j ≡ Some x → offset < x.offset
 
-found : (o : Option MemberTree) (ty : CTypeTree) → IsSomeAnd o (λ x. x.ty ≡ ty) → (x : MemberTree) × (o ≡ Some x) × (x.ty ≡ ty)
+-- the member of which the type is told
+pub found : (o : Option MemberTree) (ty : CTypeTree) → IsSomeAnd o (λ x. x.ty ≡ ty) → (x : MemberTree) × (o ≡ Some x) × (x.ty ≡ ty)
 found None ty h = absurd h
 found (Some x) ty h = (x, refl, h)
 

@@ -1,18 +1,18 @@
 -- At an offset of a type stands one scalar at most.
-use Rattle.std.proofs.Common.{◌≡◌, ℕ, zero, suc, ◌+◌, ◌*◌, ◌%◌, ◌<◌, ◌≤◌, sym, subst, ap, ◌∙◌, arith, List, [], ◌∷◌, take, inl, inr, Option, Some, None}
-use Rattle.std.specs.Prelude.{Bool, fold, unwrap_or, IsSomeAnd, slice_get}
+use Rattle.std.proofs.Common.{◌≡◌, ℕ, zero, suc, ◌+◌, ◌*◌, ◌%◌, ◌<◌, ◌≤◌, sym, subst, ap, ◌∙◌, arith, List, inl, inr, Option, Some, None}
+use Rattle.std.specs.Prelude.{Bool, unwrap_or, IsSomeAnd, slice_get}
 use Rattle.std.proofs.lemmas.Bool.{cases_lt}
 use Rattle.std.proofs.Math.Nat.{add-mul-mod_self_right, mod-eq_of_lt}
 use Rattle.c_syntax.specs.Types.{CTypeTree, Void, Int, Pointer, Array, Struct, Function}
 use Rattle.c_syntax.specs.Program.{MemberTree, StructDefTree}
 use Rattle.c_layout.specs.LaidOut.{IsLaidOut}
-use Rattle.c_layout.specs.Layout.{Space, member_end, space_by, members_of, in_table, member_spaces, size_in, offset_at}
+use Rattle.c_layout.specs.Layout.{members_of, member_spaces, size_in, offset_at}
 use Rattle.c_layout.specs.ProperTypes.{PartAt, whole, element as in_element, member as in_member}
 use Rattle.c_layout.specs.RowTypes.{IsScalar}
 use Rattle.c_layout.specs.Scalars.{IsScalarAt, HasNoParts}
-use Rattle.c_layout.proofs.Parts.{stored_same, member_space, offset_is, goes_up, inside}
+use Rattle.c_layout.proofs.ScalarMembers.{rising, member_fits, found, offset_told}
 use Rattle.c_layout.proofs.ScalarOwn.{own}
-use Rattle.c_layout.proofs.ScalarParts.{scalar_bytes, some_same}
+use Rattle.c_layout.proofs.ScalarParts.{some_same}
 use Rattle.c_objects.specs.Cells.{IsFoundAt}
 
 no_parts_in : (ty : CTypeTree) → IsScalar ty → HasNoParts ty
@@ -23,19 +23,6 @@ no_parts_in (Array of is_const n) s = absurd s
 no_parts_in (Struct n) s = absurd s
 no_parts_in (Function n) s = absurd s
 
--- ---- spaces of members
-
-same_space : (a b : Space) → Some a ≡ Some b → a ≡ b
-same_space a b e = cc
-
-ends_before : (at : ℕ) (spaces : List Space) (j k : ℕ) (m : Space) → j < k → slice_get spaces j ≡ Some m
-    → member_end (fold member_end at (take j spaces)) m ≤ fold member_end at (take k spaces)
-ends_before at [] j k m lt e = absurd (cc)
-ends_before at (x ∷ spaces) zero (suc k) m lt e =
-    subst (λ y. member_end at y ≤ fold member_end (member_end at x) (take k spaces)) (same_space x m e) (goes_up (member_end at x) (take k spaces))
-ends_before at (x ∷ spaces) (suc j) (suc k) m lt e = ends_before (member_end at x) spaces j k m (omega arith) e
-ends_before at (x ∷ spaces) j zero m lt e = absurd (omega arith)
-
 module _ (structs : List StructDefTree) (is : IsLaidOut structs) where
   -- a member of this type begins at this offset of a struct
   record IsMember (n k start : ℕ) (ty : CTypeTree) : Type 0 where
@@ -44,25 +31,15 @@ module _ (structs : List StructDefTree) (is : IsLaidOut structs) where
 
   apart : (n j k a b : ℕ) (ta tb : CTypeTree) → IsMember n j a ta → IsMember n k b tb → j < k → a + unwrap_or (size_in structs ta) 0 ≤ b
   apart n j k a b ta tb f g lt =
-      let spaces = member_spaces structs n in
-      let struct = in_table structs in
-      let sa = member_space struct (members_of structs n) j ta f.there in
-      let sb = member_space struct (members_of structs n) k tb g.there in
-      let oa = offset_is spaces j (space_by struct ta) a sa f.begins in
-      let ob = offset_is spaces k (space_by struct tb) b sb g.begins in
-      let size = ap (λ (space : Space). unwrap_or space.size 0) (stored_same structs is ta) in
-      let ends = ends_before 0 spaces j k (space_by struct ta) lt sa in
-      omega arith
+      let x = found (slice_get (members_of structs n) j) ta f.there in
+      let y = found (slice_get (members_of structs n) k) tb g.there in
+      let from : a ≡ x.0.offset = some_same (sym f.begins ∙ offset_told structs is n j x.0 x.1) in
+      let to : b ≡ y.0.offset = some_same (sym g.begins ∙ offset_told structs is n k y.0 y.1) in
+      let size = ap (λ ty. unwrap_or (size_in structs ty) 0) x.2 in
+      let ends = rising structs is n j k x.0 y.0 lt x.1 y.1 in
+      omega (arith, ends, from, to, size)
 
   -- ---- parts that are scalars
-
-  room : (o : Option ℕ) (inner size : ℕ) → IsSomeAnd o (λ n. inner + size ≤ n) → 0 < size → inner < unwrap_or o 0
-  room None inner size h some = absurd h
-  room (Some n) inner size h some = omega arith
-
-  lies_in : (ty part : CTypeTree) (inner size : ℕ) → IsScalar part → size_in structs part ≡ Some size → PartAt structs ty inner part
-      → inner < unwrap_or (size_in structs ty) 0
-  lies_in ty part inner size s b p = room (size_in structs ty) inner size (inside structs is size p b) (scalar_bytes structs part size s b)
 
   record InElement (of part : CTypeTree) (at : ℕ) : Type 0 where
     k : ℕ
@@ -106,16 +83,16 @@ module _ (structs : List StructDefTree) (is : IsLaidOut structs) where
       let other = in_array r q in
       let same : other.each ≡ each = some_same (sym other.sized ∙ es) in
       let size : unwrap_or (size_in structs of) 0 ≡ each = ap (λ (o : Option ℕ). unwrap_or o 0) es in
-      let low : inner < each = subst (λ z. inner < z) size (lies_in of a inner x s ea p) in
-      let low' : other.inner < each = subst (λ z. other.inner < z) size (lies_in of b other.inner y r eb other.part_in) in
+      let low : inner < each = subst (λ z. inner < z) size (member_fits structs is of a inner x s ea p) in
+      let low' : other.inner < each = subst (λ z. other.inner < z) size (member_fits structs is of b other.inner y r eb other.part_in) in
       let place : at ≡ other.k * each + other.inner = other.place ∙ ap (λ z. other.k * z + other.inner) same in
       let inners : other.inner ≡ inner = sym (remainder_is other.k each other.inner at low' place) ∙ remainder_is k each inner at low e in
       one_part b x y s r ea eb p (subst (λ z. PartAt structs of z b) inners other.part_in)
   one_part b x y s r ea eb (in_member ty a n k start inner at em eo p e) q =
       let other = in_struct r q in
       let mine : IsMember n k start ty = record { there = em; begins = eo } in
-      let low = lies_in ty a inner x s ea p in
-      let low' = lies_in other.ty b other.inner y r eb other.part_in in
+      let low = member_fits structs is ty a inner x s ea p in
+      let low' = member_fits structs is other.ty b other.inner y r eb other.part_in in
       elim (cases_lt k other.k) [
         | inl h ↦
             let ends = apart n k other.k start other.start ty other.ty mine other.is_member h in

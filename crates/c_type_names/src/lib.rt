@@ -14,8 +14,10 @@
 //! |---|---|---|
 //! | a list, looked up by name | `specs/Places.antt`, `specs/Kept.antt` | `Table` |
 //! | what names and tags stand for | `specs/Trees.antt` | - |
-//! | names, scopes, tags in scope | `Names` of `c_typing` | `World::{meaning_of, declared_here, first_here, open, close, declare, linked_as, tag_in_scope, tag_here}` |
-//! | structs and their tags | `Names` of `c_typing` | `World::{struct_named}` |
+//! | names in scope | `Names` of `c_typing` | `meaning_of`, `declared_here`, `first_here`, `declare`, `linked_as` |
+//! | scopes | `Names` of `c_typing` | `open`, `close` |
+//! | tags | `Names` of `c_typing` | `tag_in_scope`, `tag_here`, `struct_named`, `struct_opened`, `enum_named`, `enum_opened`, `enum_closed` |
+//! | objects, limits, literals | `Names` of `c_typing` | `check_size`, `add_object`, `add_initial`, `add_literal` |
 //! | names that need no declaration | `Names` of `c_typing` | `input_type`, `is_reserved` |
 #![tactic(auto)]
 
@@ -26,6 +28,8 @@ mod objects;
 mod reserved;
 mod struct_tags;
 mod table;
+#[cfg(test)]
+mod tests;
 mod types;
 mod world;
 

@@ -29,7 +29,7 @@ impl Model for NameIndex {
 }
 
 impl NameIndex {
-    ghost use Rattle.std.specs.Prelude.{◌≡◌, ℕ, List, [], ◌∷◌, ◌++◌, length, IfOk};
+    ghost use Rattle.std.specs.Prelude.{◌≡◌, ℕ, List, [], ◌∷◌, ◌++◌, IfOk};
     ghost use Rattle.c_type_names.specs.Places.{first_place, last_place};
 
     /// No names.
@@ -40,13 +40,6 @@ impl NameIndex {
             places: HashMap::new(alloc),
             names: Vec::new(alloc),
         }
-    }
-
-    /// How many names the list has.
-    pub fn len(&self) -> usize
-        ensures { result ≡ length self.now }
-    {
-        self.names.len()
     }
 
     /// The last place of a name.

@@ -61,7 +61,8 @@ impl World {
     /// Adds the object of a string literal of these bytes, to which a zero is added: its number. After
     /// want of memory the program is only dropped.
     pub fn add_literal(&mut self, at: Pos, bytes: &[u8]) -> Result<u64, NameError>
-        ensures { ComesTo (names.within_limits at (length bytes.now + 1) (world_of self.old) (typing.Typed (length self.old.objects.items) (names.with_literal (world_of self.old) at bytes.now))) (world_of self.new) result }
+        ensures { ComesTo (names.within_limits at (length bytes.now + 1) (world_of self.old)
+            (typing.Typed (length self.old.objects.items) (names.with_literal (world_of self.old) at bytes.now))) (world_of self.new) result }
     {
         let size = bytes.len() as u64 + 1;
         self.check_size(at, size)?;

@@ -165,7 +165,8 @@ impl World {
         meaning: TagMeaning,
     ) -> Result<(), NoMemory>
         requires { place < length self.old.tags }
-        ensures { OnOk result (world_of self.new ≡ record (world_of self.old) { tags = redefined_at defined (tag_meaning meaning) place (map tag_tree self.old.tags) }) }
+        ensures { OnOk result (world_of self.new
+            ≡ record (world_of self.old) { tags = redefined_at defined (tag_meaning meaning) place (map tag_tree self.old.tags) }) }
     {
         let old = self.tags.get(place);
         let tag = old.tag.copy()?;

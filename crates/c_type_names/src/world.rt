@@ -46,10 +46,34 @@ pub struct Scope {
 impl World {
     ghost use Rattle.std.specs.Prelude.{◌≡◌, OnOk};
     ghost use Rattle.std.specs.Option.{option_map};
+    ghost use Rattle.c_typing.specs.File.{nothing_yet};
     ghost use Rattle.c_typing.specs.Names as names;
     ghost use Rattle.c_typing.specs.World as typing;
     ghost use Rattle.c_type_names.specs.Trees.{meaning_tree, linked_tree, tag_tree};
     ghost use Rattle.c_type_names.specs.Worlds.{world_of, Encloses};
+
+    /// The program before the first declaration.
+    pub fn new(alloc: Global) -> World
+        ensures { world_of result ≡ nothing_yet }
+    {
+        World {
+            alloc,
+            structs: Vec::new(alloc),
+            objects: Vec::new(alloc),
+            functions: Vec::new(alloc),
+            signatures: Vec::new(alloc),
+            initial: Vec::new(alloc),
+            total: 0,
+            linked: Table::new(alloc),
+            names: Table::new(alloc),
+            first_name: 0,
+            tags: Table::new(alloc),
+            first_tag: 0,
+            labels: Table::new(alloc),
+            cases: Vec::new(alloc),
+            default: None,
+        }
+    }
 
     /// What the name stands for: its last declaration that is in scope.
     pub fn meaning_of(&self, name: &[u8]) -> Option<&Meaning>
