@@ -1,5 +1,5 @@
 -- Operators turned round.
-use Rattle.std.proofs.Common.{arith, ℕ, zero, suc, ℤ, pos, negsuc, ◌≡◌, ◌/◌, ◌*◌, ◌+ℤ◌, ◌-ℤ◌, ◌*ℤ◌, neg_ℤ, Some, Bool, true, false, refl, sym, subst, ap, ◌∙◌, None}
+use Rattle.std.proofs.Common.{◌⊎◌, inl, inr, ◌≤ℤ◌, arith, ℕ, zero, suc, ℤ, pos, negsuc, ◌≡◌, ◌/◌, ◌*◌, ◌+ℤ◌, ◌-ℤ◌, ◌*ℤ◌, neg_ℤ, Some, Bool, true, false, refl, sym, subst, ap, ◌∙◌, None}
 use Rattle.std.specs.Prelude.{IsTrue, int_div, not}
 use Rattle.std.specs.Ordering.{int_eq}
 use Rattle.std.proofs.Math.Nat.{mul-div_cancel}
@@ -91,3 +91,18 @@ negated_back op x n is e =
     let value : Some (neg_ℤ x) ≡ Some n = subst (λ (o : NOp). unary_value o x ≡ Some n) is e in
     let same : neg_ℤ x ≡ n = cc in
     ap (λ (m : ℤ). Some (neg_ℤ m)) (sym same) ∙ ap (λ (m : ℤ). Some m) (neg_ℤ-neg_ℤ x)
+
+-- ---- signs
+
+pub negated_by_sign : (sign n : ℤ) → (sign ≡ pos 1) ⊎ (sign ≡ negsuc 0) → (sign ≡ pos 1 → ⊥) → Some (neg_ℤ n) ≡ Some (sign *ℤ n)
+negated_by_sign sign n (inl e) ne = absurd (ne e)
+negated_by_sign sign n (inr e) ne = ap (λ (k : ℤ). Some k) (subst (λ (s : ℤ). neg_ℤ n ≡ s *ℤ n) (sym e) (omega (arith, ints)))
+
+pub below_rest : (a b bound : ℤ) → (a +ℤ b) ≤ℤ bound → a ≤ℤ (bound -ℤ b)
+below_rest a b bound h = omega (arith, ints)
+
+pub other_way : (a b bound : ℤ) → (a +ℤ b) ≤ℤ bound → (b +ℤ a) ≤ℤ bound
+other_way a b bound h = omega (arith, ints)
+
+pub along_three : (P : ℤ → ℤ → ℤ → Type 0) (a b c d e f : ℤ) → d ≡ a → e ≡ b → f ≡ c → P a b c → P d e f
+along_three P a b c d e f p q r h = subst (λ (x : ℤ). P x e f) (sym p) (subst (λ (x : ℤ). P a x f) (sym q) (subst (λ (x : ℤ). P a b x) (sym r) h))

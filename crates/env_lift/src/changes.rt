@@ -1,11 +1,12 @@
 // Changes of one variable's value.
 #![tactic(auto, using(num_api::proofs::Trees::nexpr_trees))]
 
-ghost use Rattle.std.specs.Prelude.{◌≡◌, ℤ, IsTrue, IfSome, IfNone, IfOk, Some};
+ghost use Rattle.std.specs.Prelude.{◌≡◌, ℤ, ◌+ℤ◌, ◌*ℤ◌, ◌≤ℤ◌, IsTrue, IfSome, IfNone, IfOk, Some};
+ghost use Rattle.ext_int.specs.Ext.{Above};
 ghost use Rattle.ext_int.specs.Valuation.{value_at};
 ghost use Rattle.num_api.specs.Exprs.{nexpr_tree};
 ghost use Rattle.num_api.specs.Value.{value_of};
-ghost use Rattle.num_api.specs.Messages.{Holds};
+ghost use Rattle.num_api.specs.Messages.{Holds, IsProper, IsSign};
 ghost use Rattle.num_api.specs.Ranges.{InRange, NoWider};
 ghost use Rattle.num_api.specs.Residues.{InResidue};
 ghost use Rattle.num_api.specs.declared.message.Range.{Range};
@@ -16,6 +17,7 @@ ghost use Rattle.env_eval.specs.States.{known_of, known_in};
 ghost use Rattle.env_lift.specs.Changes.{MayAdmit, IsCut};
 
 use env_eval::eval;
+use ext_int::{Ext, neg_low};
 use num_api::{Live, Message, NExpr, NOp, Range, Residue, ValueDomain, Var};
 use std::alloc::AllocError as NoMemory;
 use var_map::VarMap;
@@ -45,8 +47,8 @@ pub fn narrow<V: ValueDomain>(state: &mut VarMap<V>, x: Var, told: &V) -> Result
     Ok(Live::Live)
 }
 
-// The value, met with a range that holds its number too; the value where the two share none.
-pub fn met<V: ValueDomain>(value: V, r: Range) -> V
+// The value, cut by a range that holds its number too; the value where the two share none.
+fn met_range<V: ValueDomain>(value: V, r: Range) -> V
     ensures holds { (n : ℤ) → V.admits value n → InRange r n → V.admits result n }
     ensures plain { IsTrue V.exact → NoWider (V.known result) (V.known value) }
 {
@@ -54,6 +56,25 @@ pub fn met<V: ValueDomain>(value: V, r: Range) -> V
         Some(both) => both,
         None => value,
     }
+}
+
+// The value, cut by a class that holds its number too; the value where the two share none.
+fn met_class<V: ValueDomain>(value: V, c: Residue) -> V
+    ensures holds { (n : ℤ) → V.admits value n → InResidue c n → V.admits result n }
+    ensures plain { IsTrue V.exact → NoWider (V.known result) (V.known value) }
+{
+    match value.meet(&of_class(c)) {
+        Some(both) => both,
+        None => value,
+    }
+}
+
+// The value, cut by a range and a class that hold its number too.
+pub fn met<V: ValueDomain>(value: V, r: Range, c: Residue) -> V
+    ensures holds { (n : ℤ) → V.admits value n → InRange r n → InResidue c n → V.admits result n }
+    ensures plain { IsTrue V.exact → NoWider (V.known result) (V.known value) }
+{
+    met_class(met_range(value, r), c)
 }
 
 // The numbers of the value that lie in the range; `None` only where there is none.
@@ -101,8 +122,83 @@ fn keep_equal<V: ValueDomain>(state: &mut VarMap<V>, x: Var, e: &NExpr) -> Resul
     }
 }
 
+// The products of the value's numbers by the sign.
+fn signed<V: ValueDomain>(sign: i8, value: V) -> V
+    requires { IsSign sign }
+    ensures { (n : ℤ) → V.admits value n → V.admits result (sign *ℤ n) }
+{
+    if sign == 1 {
+        value
+    } else {
+        V::unary(NOp::Neg, &value)
+    }
+}
+
+// The numbers whose product by the sign is at most the end.
+fn up_to(sign: i8, end: Ext) -> Range
+    requires { IsSign sign }
+    ensures { (n m : ℤ) → Above end m → (sign *ℤ n) ≤ℤ m → InRange result n }
+{
+    if sign == 1 {
+        Range {
+            lo: Ext::Low,
+            hi: end,
+        }
+    } else {
+        Range {
+            lo: neg_low(end),
+            hi: Ext::High,
+        }
+    }
+}
+
+// Keeps the valuations in which the sum of both variables, each with its sign, is at most the bound, by a
+// cut of the first.
+fn keep_bounded<V: ValueDomain>(
+    state: &mut VarMap<V>,
+    sx: i8,
+    x: Var,
+    sy: i8,
+    y: Var,
+    bound: i128,
+) -> Result<Live, NoMemory>
+    requires first { IsSign sx }
+    requires second { IsSign sy }
+    ensures { IfOk result (IsCut V.admits V.known V.exact state.old state.new (λ v. ((sx *ℤ value_at v x.0) +ℤ (sy *ℤ value_at v y.0)) ≤ℤ bound)) }
+{
+    let Some(most) = V::within(Range::point(bound)) else {
+        return Ok(Live::Live);
+    };
+    let Some(other) = state.get(y) else {
+        return Ok(Live::Live);
+    };
+    let limit = V::binary(NOp::Sub, &most, &signed(sy, other));
+    keep_between(state, x, up_to(sx, limit.range().hi))
+}
+
+// Keeps those valuations by a cut of both variables.
+fn keep_at_most<V: ValueDomain>(
+    state: &mut VarMap<V>,
+    sx: i8,
+    x: Var,
+    sy: i8,
+    y: Var,
+    bound: i128,
+) -> Result<Live, NoMemory>
+    requires first { IsSign sx }
+    requires second { IsSign sy }
+    ensures { IfOk result (IsCut V.admits V.known V.exact state.old state.new (λ v. ((sx *ℤ value_at v x.0) +ℤ (sy *ℤ value_at v y.0)) ≤ℤ bound)) }
+{
+    match keep_bounded(state, sx, x, sy, y, bound)? {
+        Live::Dead => return Ok(Live::Dead),
+        Live::Live => {}
+    }
+    keep_bounded(state, sy, y, sx, x, bound)
+}
+
 // Keeps the valuations in which the message holds.
 pub fn accepted<V: ValueDomain>(state: &mut VarMap<V>, m: &Message) -> Result<Live, NoMemory>
+    requires { IsProper m.now }
     ensures cut { IfOk result (IsCut V.admits V.known V.exact state.old state.new (λ v. Holds v m.now)) }
     ensures between { IfOk result (λ live. (x : Variable) (r : Range) → IsTrue V.exact → m.now ≡ Between x r → IsTrue (is_live live)
         → NoWider (known_in V.known state.new x.0) r) }
@@ -111,6 +207,12 @@ pub fn accepted<V: ValueDomain>(state: &mut VarMap<V>, m: &Message) -> Result<Li
         Message::Between(x, r) => keep_between(state, *x, *r),
         Message::Class(x, c) => narrow(state, *x, &of_class::<V>(*c)),
         Message::Equal(x, e) => keep_equal(state, *x, e),
-        Message::AtMost { .. } => Ok(Live::Live),
+        Message::AtMost {
+            sx,
+            x,
+            sy,
+            y,
+            bound,
+        } => keep_at_most(state, *sx, *x, *sy, *y, *bound),
     }
 }

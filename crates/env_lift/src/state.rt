@@ -107,7 +107,7 @@ impl<V: ValueDomain> NumDomain for Env<V> {
             self.state.remove(x);
             return Ok(());
         };
-        let value = met(value, ask.range(e));
+        let value = met(value, ask.range(e), ask.residue(e));
         self.state.set(x, value)?;
         tell(x, &value, out)?;
         Ok(())

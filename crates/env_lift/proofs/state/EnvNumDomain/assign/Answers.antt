@@ -4,11 +4,11 @@ use Rattle.num_api.specs.Exprs.{nexpr_tree}
 use Rattle.num_api.specs.Ranges.{IsPoint, IsUnder}
 use Rattle.num_api.specs.Spans.{range_of}
 use Rattle.var_map.specs.declared.entries.Entry.{Entry}
-use Rattle.env_eval.specs.States.{known_in}
+use Rattle.env_eval.specs.States.{AllAdmit, known_in}
 use Rattle.env_eval.specs.Evaluation.{IsValue}
 use Rattle.env_eval.proofs.Parts.{wider, still_point}
 use Rattle.env_lift.specs.Laws.{first_flag}
-use Rattle.env_lift.proofs.Changing.{known_here, changed_under}
+use Rattle.env_lift.proofs.Changing.{known_here, changed_under, changed_admits}
 use Rattle.env_lift.proofs.state.EnvNumDomain.assign.Goals as goal
 
 pub returns-clause-sharp_here : goal.returns-clause-sharp_here
@@ -25,3 +25,18 @@ returns-clause-plain g c = λ given s claimed u p d e.
     let before = subst (λ (state : List (Entry g.row.V.Denot)). IsUnder (known_in D.known state) given) (sym c.self.view_is) u in
     changed_under D.known c.args.x.0 (Some r) c.self.inside.state c.set.new.self given (range_of s) c.in_ok-set.ensures.ok before
     (wider (D.known r) (D.known c.in-Some.value) (range_of s) (c.met-value.ensures.plain x) (value.plain given s x u p e))
+
+pub returns-clause-after : goal.returns-clause-after
+returns-clause-after g c = λ v w n p asked e set.
+    let D = g.V.ValueDomain in let r = c.met-value.result in
+    let value = subst (λ (state : List (Entry g.row.V.Denot)). IsValue D.admits D.known D.class D.exact D.folds state (nexpr_tree c.args.e.now) c.in-Some.value) c.self.view_is c.in-Some.ensures.some in
+    let before = subst (λ (state : List (Entry g.row.V.Denot)). AllAdmit D.admits state v) (sym c.self.view_is) p in
+    let admitted = c.met-value.ensures.holds n (value.holds v n p e) (c.range.ensures.holds v n asked e) (c.residue.ensures.holds v n asked e) in
+    changed_admits D.admits c.args.x.0 (Some r) c.self.inside.state c.set.new.self v w n c.in_ok-set.ensures.ok set before admitted
+
+pub returns-clause-told : goal.returns-clause-told
+returns-clause-told g c = λ v w n p asked e set.
+    let D = g.V.ValueDomain in let r = c.met-value.result in
+    let value = subst (λ (state : List (Entry g.row.V.Denot)). IsValue D.admits D.known D.class D.exact D.folds state (nexpr_tree c.args.e.now) c.in-Some.value) c.self.view_is c.in-Some.ensures.some in
+    let admitted = c.met-value.ensures.holds n (value.holds v n p e) (c.range.ensures.holds v n asked e) (c.residue.ensures.holds v n asked e) in
+    c.in_ok-tell.ensures.told w (subst (D.admits r) (sym set.here) admitted)
