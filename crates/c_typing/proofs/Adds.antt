@@ -1,9 +1,10 @@
 -- A world that is reached goes on from the one before: its objects and functions keep their numbers.
 use Rattle.std.proofs.Common.{◌≡◌, sym, ◌∙◌, subst, ap, refl}
-use Rattle.std.specs.Prelude.{true, ℕ, zero, suc, Option, Some, None, option_map, unwrap_or, IsSomeAnd, List, [], ◌∷◌, ◌++◌, set, slice_get}
+use Rattle.std.specs.Prelude.{ℕ, zero, suc, Option, Some, None, option_map, unwrap_or, IsSomeAnd, List, [], ◌∷◌, ◌++◌, set, slice_get}
 use Rattle.c_syntax.specs.Types.{CTypeTree}
 use Rattle.c_syntax.specs.Program.{StructDefTree}
 use Rattle.c_written.specs.WrittenFile.{OuterTree}
+use Rattle.c_typing.proofs.Changes.{Changes, Any}
 use Rattle.c_typing.specs.World.{World, Typed}
 use Rattle.std.proofs.lemmas.List.Elements.{All-nil}
 use Rattle.c_typing.specs.Formed.{IsFormedMeaning, IsFormedTag}
@@ -115,10 +116,10 @@ continued_then w u v one two = record {
 in_scope : (w x u v : World) → x.objects ≡ w.objects → x.functions ≡ w.functions → x.signatures ≡ w.signatures → v.objects ≡ u.objects → v.functions ≡ u.functions → v.signatures ≡ u.signatures → Continued x u → Continued w v
 in_scope w x u v a b c d e f k = continued_then w x v (all_same w x a b c) (continued_then x u v k (all_same u v d e f))
 
-continued : (w v : World) → Reaches true w v → Continued w v
+continued : {may : Changes} (w v : World) → Reaches may w v → Continued w v
 continued w v (stays _) = all_same w w refl refl refl
 continued w v (after _ u _ r s) = continued_then w u v (continued w u r) (continued u v s)
-continued w v (named _ at name meaning f) = all_same w _ refl refl refl
+continued w v (named _ at name meaning f h) = all_same w _ refl refl refl
 continued w v (literal _ at bytes) = same_functions w _ refl refl (keep_append objects_order w.objects _)
 continued w v (struct _ tag) = all_same w _ refl refl refl
 continued w v (new_struct _ tag d) = all_same w _ refl refl refl
@@ -145,7 +146,7 @@ continued w v (in_body _ u x first names tags r aside f s) = continued_then w u 
 is_some_and : {A : Type 0} {R : A → A → Type 0} (x : A) (ys : List A) (k : ℕ) → At R x ys k → IsSomeAnd (slice_get ys k) (R x)
 is_some_and {R = R} x ys k a = subst (λ o. IsSomeAnd o (R x)) (sym a.there) a.related
 
-reached : {w v : World} {A : Type 0} {a : A} → Goes true w (Typed a v) → Reaches true w v
+reached : {w v : World} {A : Type 0} {a : A} → Goes Any w (Typed a v) → Reaches Any w v
 reached (typed r) = r
 
 -- ---- structs

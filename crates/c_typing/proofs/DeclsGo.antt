@@ -15,6 +15,7 @@ use Rattle.c_syntax.specs.declared.op.Op.TheVariants as ops
 use Rattle.c_syntax.specs.Types.{CTypeTree, Void, Int, Pointer, Array, Struct, ObjectTree}
 use Rattle.c_syntax.specs.Types as types
 use Rattle.c_syntax.specs.Program.{StructDefTree}
+use Rattle.c_typing.proofs.Changes.{Changes, Constants, Any}
 use Rattle.c_typing.specs.World.{World, Form, Plain, Unsized, Callable, Meaning, Object, Missing, Parameter, Function, TypeName, Enumeration, Binding, Linked, Refusal, no_rule, NotConstant, ObjectTooLarge, TotalTooLarge, Unsupported, Outcome, Typed, Refused, Then, goes_on, stops, Is}
 use Rattle.c_typing.specs.Names as names
 use Rattle.c_typing.specs.Operands.{is_unsized, complete_size}
@@ -43,38 +44,38 @@ use Rattle.c_typing.proofs.TypesGo.{with_unless, with_declared, with_size, its_n
 
 -- ---- initialisers
 
-pub filled_by : {sizing : Bool} (w : World) (static : Bool) (part : Part) (at : Pos) (r : Refusal) (stored : Option Stored) → Goes sizing w (lists.filled_by w static part at r stored)
+pub filled_by : {may : Changes} (w : World) (static : Bool) (part : Part) (at : Pos) (r : Refusal) (stored : Option Stored) → Goes may w (lists.filled_by w static part at r stored)
 filled_by w static part at r None = refused
 filled_by w static part at r (Some stored) = goes_unless _ _ goes_same
 
-pub fill_text : {sizing : Bool} (w : World) (part : Part) (n : ℕ) (at : Pos) (text : List ℕ) → Goes sizing w (lists.fill_text w part n at text)
+pub fill_text : {may : Changes} (w : World) (part : Part) (n : ℕ) (at : Pos) (text : List ℕ) → Goes may w (lists.fill_text w part n at text)
 fill_text w part n at text = goes_unless _ _ goes_same
 
-pub at_part : {sizing : Bool} {A : Type 0} {w : World} (part : Option Part) {full : Outcome A → Type 0} {next : Part → Outcome A → Type 0} → AllGo sizing w full → ((p : Part) → AllGo sizing w (next p)) → AllGo sizing w (AtPart part full next)
+pub at_part : {may : Changes} {A : Type 0} {w : World} (part : Option Part) {full : Outcome A → Type 0} {next : Part → Outcome A → Type 0} → AllGo may w full → ((p : Part) → AllGo may w (next p)) → AllGo may w (AtPart part full next)
 unfolding AtPart
 at_part None f g = f
 at_part (Some p) f g = g p
 
-pub either : {sizing : Bool} {A : Type 0} {w : World} (b : Bool) {x y : Outcome A → Type 0} → AllGo sizing w x → AllGo sizing w y → AllGo sizing w (Either b x y)
+pub either : {may : Changes} {A : Type 0} {w : World} (b : Bool) {x y : Outcome A → Type 0} → AllGo may w x → AllGo may w y → AllGo may w (Either b x y)
 unfolding Either
 either true f g = f
 either false f g = g
 
-pub into : {sizing : Bool} {A : Type 0} {w : World} {structs : _} {takes : CTypeTree → Bool} {part : Part} {a : Aggregates} {next : Part → Aggregates → Outcome A → Type 0} → ((p : Part) (b : Aggregates) → AllGo sizing w (next p b)) → AllGo sizing w (Into structs takes part a next)
+pub into : {may : Changes} {A : Type 0} {w : World} {structs : _} {takes : CTypeTree → Bool} {part : Part} {a : Aggregates} {next : Part → Aggregates → Outcome A → Type 0} → ((p : Part) (b : Aggregates) → AllGo may w (next p b)) → AllGo may w (Into structs takes part a next)
 into f good o s = f s.part2 s.after good o s.goes
 
-pub with_text : {sizing : Bool} (w : World) (static : Bool) (part : Part) (at : Pos) (text : List ℕ) → AllGo sizing w (WithText w static part at text)
+pub with_text : {may : Changes} (w : World) (static : Bool) (part : Part) (at : Pos) (text : List ℕ) → AllGo may w (WithText w static part at text)
 with_text w static part at text =
     either _ (is_goes (fill_text w part _ at text))
     (then_goes (valued (go w (written.Strings at text))) (λ x v r. then_goes (is_goes (filled_by v static part at _ _)) (λ item v2 r2. is_goes goes_same)))
 
-pub typed_and_refused : {sizing : Bool} {A : Type 0} (w : World) (e : written.ExprTree) (refusal : World → Refusal) → AllGo sizing w (TypedAndRefused {A = A} w e refusal)
+pub typed_and_refused : {may : Changes} {A : Type 0} (w : World) (e : written.ExprTree) (refusal : World → Refusal) → AllGo may w (TypedAndRefused {A = A} w e refusal)
 typed_and_refused w e refusal = then_goes (valued (go w e)) (λ x v r. is_goes refused)
 
 mutual
   unfolding TypesItems TypesInBraces
 
-  pub go_inits : {sizing : Bool} (w : World) (static : Bool) (all : CTypeTree) (done : _) (items : InitTrees) → AllGo sizing w (TypesItems w static all done items)
+  pub go_inits : {may : Changes} (w : World) (static : Bool) (all : CTypeTree) (done : _) (items : InitTrees) → AllGo may w (TypesItems w static all done items)
   go_inits w static all done inits.no_inits = is_goes goes_same
   go_inits w static all done (inits.more_inits (inits.Braces at inner) rest) =
       at_part _ (is_goes refused) (λ part. either _ (go_in_braces w _ at inner)
@@ -86,16 +87,16 @@ mutual
       at_part _ (typed_and_refused w e _) (λ part. then_goes (valued (go w e)) (λ x v r. into (λ inner after.
       then_goes (is_goes (filled_by v static inner (expr_pos e) _ _)) (λ item v2 r2. go_inits v2 static all _ rest))))
 
-  pub go_in_braces : {sizing : Bool} (w : World) (refusal : _) (at : Pos) (items : InitTrees) → AllGo sizing w (TypesInBraces w refusal at items)
+  pub go_in_braces : {may : Changes} (w : World) (refusal : _) (at : Pos) (items : InitTrees) → AllGo may w (TypesInBraces w refusal at items)
   go_in_braces w refusal at inits.no_inits = is_goes refused
   go_in_braces w refusal at (inits.more_inits (inits.Braces inner_at inner) rest) = go_in_braces w refusal inner_at inner
   go_in_braces w refusal at (inits.more_inits (inits.Value e) rest) = typed_and_refused w e _
 
-pub by_value : {sizing : Bool} (w : World) (static : Bool) (ty : CTypeTree) (e : written.ExprTree) → AllGo sizing w (ByValue w static ty e)
+pub by_value : {may : Changes} (w : World) (static : Bool) (ty : CTypeTree) (e : written.ExprTree) → AllGo may w (ByValue w static ty e)
 by_value w static ty e =
     then_goes (valued (go w e)) (λ x v r. then_goes (is_goes (filled_by v static (whole_part ty) (expr_pos e) _ _)) (λ item v2 r2. is_goes goes_same))
 
-pub init : {sizing : Bool} (w : World) (static : Bool) (ty : CTypeTree) (frame : Frame) (tree : InitTree) → AllGo sizing w (TypesInit w static ty frame tree)
+pub init : {may : Changes} (w : World) (static : Bool) (ty : CTypeTree) (frame : Frame) (tree : InitTree) → AllGo may w (TypesInit w static ty frame tree)
 init w static ty frame (inits.Braces at items) = then_goes (go_inits w static ty _ items) (λ filled v r. is_goes goes_same)
 init w static ty frame (inits.Value (written.Strings at text)) =
     either _ (then_goes (is_goes (fill_text w _ _ at text)) (λ items v r. is_goes goes_same)) (by_value w static ty (written.Strings at text))
@@ -140,28 +141,28 @@ object_formed w ty c has_init (Function n) e structs = tt
 object_formed w ty c has_init (TypeName form) e structs = absurd (false≢true e)
 object_formed w ty c has_init (Enumeration n) e structs = absurd (false≢true e)
 
-pub unless_main_shape : {sizing : Bool} {A : Type 0} {w : World} (named : DeclaredName) (is_so : Bool) {o : Outcome A} → Goes sizing w o → Goes sizing w (decls.unless_main_shape named is_so o)
+pub unless_main_shape : {may : Changes} {A : Type 0} {w : World} (named : DeclaredName) (is_so : Bool) {o : Outcome A} → Goes may w o → Goes may w (decls.unless_main_shape named is_so o)
 unless_main_shape named is_so p = goes_unless (decls.is_named_main named.name && not is_so) (Unsupported named.pos constructs.MainShape) p
 
-pub new_function : (w : World) (named : DeclaredName) (later : Bool) (params : List ParameterTree) (types : List CTypeTree) (result : CTypeTree) → Reaches true w (decls.new_function w named later params types result)
+pub new_function : (w : World) (named : DeclaredName) (later : Bool) (params : List ParameterTree) (types : List CTypeTree) (result : CTypeTree) → Reaches Any w (decls.new_function w named later params types result)
 new_function w named true params types result = reaches.after _ _ _ (reaches.function w types _) (reaches.linked _ named _ false tt)
 new_function w named false params types result =
     reaches.after _ _ _ (reaches.parameters w params) (reaches.after _ _ _ (reaches.function _ types _) (reaches.linked _ named _ false tt))
 
-pub function_again : (w : World) (around : Context) (named : DeclaredName) (params : List ParameterTree) (types : List CTypeTree) (result : CTypeTree) (has_body : Bool) (l : Option Linked) → Agreed (decls.is_function_so w types result has_body) l → Goes true w (decls.function_again w around named params types result l)
+pub function_again : (w : World) (around : Context) (named : DeclaredName) (params : List ParameterTree) (types : List CTypeTree) (result : CTypeTree) (has_body : Bool) (l : Option Linked) → Agreed (decls.is_function_so w types result has_body) l → Goes Any w (decls.function_again w around named params types result l)
 function_again w around named params types result has_body None a = typed (new_function w named _ params types result)
-function_again w around named params types result has_body (Some l) a = typed (reaches.named w named.pos named.name _ (function_formed w types result has_body l.meaning a))
+function_again w around named params types result has_body (Some l) a = typed (reaches.named w named.pos named.name _ (function_formed w types result has_body l.meaning a) tt)
 
-pub function_declared : (w : World) (around : Context) (named : DeclaredName) (params : List ParameterTree) (types : List CTypeTree) (result : CTypeTree) (has_body : Bool) → Goes true w (decls.function_declared w around named params types result has_body)
+pub function_declared : (w : World) (around : Context) (named : DeclaredName) (params : List ParameterTree) (types : List CTypeTree) (result : CTypeTree) (has_body : Bool) → Goes Any w (decls.function_declared w around named params types result has_body)
 function_declared w around named params types result has_body =
     goes_if (names.is_reserved named.name)
     (goes_if (decls.is_input_type types result (names.input_type named.name) && not has_body) goes_same refused)
-    (unless_other (Goes true w) named.pos (decls.binding_here w named.name) (names.linked_as w named.name) (decls.is_function_so w types result has_body) _ (λ r. refused)
+    (unless_other (Goes Any w) named.pos (decls.binding_here w named.name) (names.linked_as w named.name) (decls.is_function_so w types result has_body) _ (λ r. refused)
     (λ l a. unless_main_shape named (decls.is_main_shape types result) (function_again w around named params types result has_body l a)))
 
-pub local_object : (w : World) (named : DeclaredName) (ty : CTypeTree) (c is_static : Bool) (size : ℕ) → Reaches true w (decls.local_object w named ty c is_static size)
+pub local_object : (w : World) (named : DeclaredName) (ty : CTypeTree) (c is_static : Bool) (size : ℕ) → Reaches Any w (decls.local_object w named ty c is_static size)
 local_object w named ty c is_static size =
-    reaches.after _ _ _ (reaches.object w _) (reaches.after _ _ _ (reaches.counted _ size) (reaches.named _ named.pos named.name _ tt))
+    reaches.after _ _ _ (reaches.object w _) (reaches.after _ _ _ (reaches.counted _ size) (reaches.named _ named.pos named.name _ tt tt))
 
 -- an object whose initialiser gives it its size stands in the program without one
 pub record IsMeasured (object : ObjectNow) (w : World) : Type 0 where
@@ -174,12 +175,12 @@ abbrev pub WhatIn : Declares → World → Type 0
 WhatIn NoObject w = Unit {0}
 WhatIn (AnObject object) w = object.measured ≡ true → IsMeasured object w
 
-limits_so : {A : Type 0} {v : World} {P : A → World → Type 0} (at : Pos) (size : ℕ) (w : World) {o : Outcome A} → GoesWith true v P o → GoesWith true v P (names.within_limits at size w o)
+limits_so : {A : Type 0} {v : World} {P : A → World → Type 0} (at : Pos) (size : ℕ) (w : World) {o : Outcome A} → GoesWith Any v P o → GoesWith Any v P (names.within_limits at size w o)
 limits_so at size w p =
     with_unless (nat_lt names.object_limit size) (ObjectTooLarge at size)
     (with_unless (nat_lt names.total_limit (w.total + size)) (TotalTooLarge at (w.total + size)) p)
 
-pub local_declared : (w : World) (named : DeclaredName) (form : Form) (is_static has_init : Bool) → GoesWith true w WhatIn (decls.local_declared w named form is_static has_init)
+pub local_declared : (w : World) (named : DeclaredName) (form : Form) (is_static has_init : Bool) → GoesWith Any w WhatIn (decls.local_declared w named form is_static has_init)
 local_declared w named (Plain ty c) is_static has_init =
     with_size _ _ (complete_size w.structs ty) (λ size e. with_declared named.pos (names.first_here w named.pos named.name) (limits_so named.pos size w (typed_so {a = AnObject (decls.local_now w named ty is_static false)} (local_object w named ty c is_static size) (λ h. absurd (false≢true h)))))
 local_declared w named (Unsized ty c) is_static has_init =
@@ -191,10 +192,10 @@ local_declared w named (Unsized ty c) is_static has_init =
     })))
 local_declared w named (Callable params result) is_static has_init = refused_so
 
-pub first_object : (w : World) (named : DeclaredName) (ty : CTypeTree) (c : Bool) (size : ℕ) (how : FileObject) → Reaches true w (decls.first_object w named ty c size how)
+pub first_object : (w : World) (named : DeclaredName) (ty : CTypeTree) (c : Bool) (size : ℕ) (how : FileObject) → Reaches Any w (decls.first_object w named ty c size how)
 first_object w named ty c size how = by how.is_there
   where
-    by : (b : Bool) → Reaches true w (if b then decls.with_linked (decls.with_object w (decls.object_of named ty c size true)) named (Object (length w.objects)) how.defines else decls.with_linked w named (Missing ty c) false)
+    by : (b : Bool) → Reaches Any w (if b then decls.with_linked (decls.with_object w (decls.object_of named ty c size true)) named (Object (length w.objects)) how.defines else decls.with_linked w named (Missing ty c) false)
     by true = reaches.after _ _ _ (reaches.object w _) (reaches.linked _ named _ _ tt)
     by false = reaches.linked w named _ false tt
 
@@ -203,7 +204,7 @@ abbrev pub MayBecome : World → CTypeTree → Meaning → Type 0
 MayBecome w ty (Object n) = (x : ObjectTree) → slice_get w.objects n ≡ Some x → IsLastType x.ty ty
 MayBecome w ty meaning = Unit {0}
 
-pub with_type : (w : World) (name : List ℕ) (meaning : Meaning) (ty : CTypeTree) (size : ℕ) → MayBecome w ty meaning → Reaches true w (decls.with_type w name meaning ty size)
+pub with_type : (w : World) (name : List ℕ) (meaning : Meaning) (ty : CTypeTree) (size : ℕ) → MayBecome w ty meaning → Reaches Any w (decls.with_type w name meaning ty size)
 with_type w name (Object n) ty size h = reaches.sized w n ty size h
 with_type w name (Missing before c) ty size h = reaches.retyped w _
 with_type w name (Parameter k t c) ty size h = reaches.stays w
@@ -293,14 +294,14 @@ abbrev pub IsEntity : World → CTypeTree → Option Linked → Type 0
 IsEntity w ty None = Unit {0}
 IsEntity w ty (Some l) = IsEntityOf w ty l
 
-pub object_world : (w : World) (named : DeclaredName) (ty : CTypeTree) (c : Bool) (size : ℕ) (how : FileObject) (l : Option Linked) → IsEntity w ty l → Reaches true w (decls.object_world w named ty c size how l)
+pub object_world : (w : World) (named : DeclaredName) (ty : CTypeTree) (c : Bool) (size : ℕ) (how : FileObject) (l : Option Linked) → IsEntity w ty l → Reaches Any w (decls.object_world w named ty c size how l)
 object_world w named ty c size how None a = first_object w named ty c size how
 object_world w named ty c size how (Some l) a =
-    reaches.after _ _ _ (with_type w named.name l.meaning ty size a.becomes) (reaches.after _ _ _ (reaches.named _ named.pos named.name _ (a.formed _)) (reaches.defined _ named.name how.defines))
+    reaches.after _ _ _ (with_type w named.name l.meaning ty size a.becomes) (reaches.after _ _ _ (reaches.named _ named.pos named.name _ (a.formed _) tt) (reaches.defined _ named.name how.defines))
 
 counted_so :
     {A : Type 0} {P : A → World → Type 0} (w : World) (at : Pos) (size : ℕ) (how : FileObject) (l : Option Linked) (outcome : World → Outcome A)
-    → ((v : World) → v.objects ≡ w.objects → GoesWith true v P (outcome v)) → GoesWith true w P (decls.counted_once w at size how l outcome)
+    → ((v : World) → v.objects ≡ w.objects → GoesWith Any v P (outcome v)) → GoesWith Any w P (decls.counted_once w at size how l outcome)
 counted_so w at size how l outcome f =
     with_if (how.defines && not (decls.is_defined l)) (limits_so at size w (with_after (reaches.counted w size) (f _ refl)))
     (with_unless (how.is_there && nat_lt names.object_limit size) (ObjectTooLarge at size) (f w refl))
@@ -314,10 +315,10 @@ not_measured : (w : World) (named : DeclaredName) (ty : CTypeTree) (how : FileOb
 not_measured w named ty how None = tt
 not_measured w named ty how (Some n) = λ h. absurd (false≢true h)
 
-shape_so : {w : World} {P : Declares → World → Type 0} (named : DeclaredName) (is_so : Bool) {o : Outcome Declares} → GoesWith true w P o → GoesWith true w P (decls.unless_main_shape named is_so o)
+shape_so : {w : World} {P : Declares → World → Type 0} (named : DeclaredName) (is_so : Bool) {o : Outcome Declares} → GoesWith Any w P o → GoesWith Any w P (decls.unless_main_shape named is_so o)
 shape_so named is_so p = with_unless (decls.is_named_main named.name && not is_so) (Unsupported named.pos constructs.MainShape) p
 
-pub file_sized : (w : World) (named : DeclaredName) (ty : CTypeTree) (c : Bool) (how : FileObject) (l : Option Linked) → IsEntity w ty l → GoesWith true w WhatIn (decls.file_sized w named ty c how l)
+pub file_sized : (w : World) (named : DeclaredName) (ty : CTypeTree) (c : Bool) (how : FileObject) (l : Option Linked) → IsEntity w ty l → GoesWith Any w WhatIn (decls.file_sized w named ty c how l)
 file_sized w named ty c how l a =
     with_size _ _ _ (λ size e. counted_so w named.pos size how l _ (λ v same. shape_so named false
     (typed_so (object_world v named ty c size how l (entity_kept w v ty l same a)) (not_measured _ named ty how (decls.object_number w how l)))))
@@ -369,19 +370,19 @@ is_measured w v named ty how (Some n) u f = λ h. let is = unsized_is ty u in re
 
 pub file_unsized :
     (w : World) (named : DeclaredName) (ty : CTypeTree) (how : FileObject) (l : Option Linked) → is_unsized ty ≡ true → IsEntity w ty l
-    → GoesWith true w WhatIn (decls.file_unsized w named ty how l)
+    → GoesWith Any w WhatIn (decls.file_unsized w named ty how l)
 file_unsized w named ty how l u a =
     with_unless (how.defines && not how.has_init) (NotConstant named.pos) (shape_so named false (typed_so (object_world w named ty false 0 how l a)
     (is_measured w _ named ty how (decls.object_number w how l) u (λ n e. object_has w named ty how l n a e))))
 
-pub file_object : (w : World) (named : DeclaredName) (ty : CTypeTree) (c : Bool) (how : FileObject) (l : Option Linked) → IsEntity w ty l → GoesWith true w WhatIn (decls.file_object w named ty c how l)
-file_object w named ty c how l a = agreed_if (GoesWith true w WhatIn) (is_unsized ty) (λ u. file_unsized w named ty how l u a) (file_sized w named ty c how l a)
+pub file_object : (w : World) (named : DeclaredName) (ty : CTypeTree) (c : Bool) (how : FileObject) (l : Option Linked) → IsEntity w ty l → GoesWith Any w WhatIn (decls.file_object w named ty c how l)
+file_object w named ty c how l a = agreed_if (GoesWith Any w WhatIn) (is_unsized ty) (λ u. file_unsized w named ty how l u a) (file_sized w named ty c how l a)
 
-pub file_declared : (w : World) (named : DeclaredName) (ty : CTypeTree) (c : Bool) (how : FileObject) → GoesWith true w WhatIn (decls.file_declared w named ty c how)
+pub file_declared : (w : World) (named : DeclaredName) (ty : CTypeTree) (c : Bool) (how : FileObject) → GoesWith Any w WhatIn (decls.file_declared w named ty c how)
 file_declared w named ty c how =
     with_unless (how.in_block && how.has_init) (no_rule w named.pos ops.Init ty None)
     (with_if (names.is_reserved named.name) refused_so
-    (unless_other (GoesWith true w WhatIn) named.pos (decls.binding_here w named.name) (names.linked_as w named.name) (decls.is_object_again w ty c how.has_init) _ (λ r. refused_so)
+    (unless_other (GoesWith Any w WhatIn) named.pos (decls.binding_here w named.name) (names.linked_as w named.name) (decls.is_object_again w ty c how.has_init) _ (λ r. refused_so)
     (λ l a. file_object w named (decls.composite_type w ty l) c how l (entity l a))))
   where
     entity : (l : Option Linked) → Agreed (decls.is_object_again w ty c how.has_init) l → IsEntity w (decls.composite_type w ty l) l
@@ -392,21 +393,21 @@ file_declared w named ty c how =
       there = object_there w ty c how.has_init l.meaning a;
     }
 
-pub file_form : (w : World) (named : DeclaredName) (form : Form) (how : FileObject) → GoesWith true w WhatIn (decls.file_form w named form how)
+pub file_form : (w : World) (named : DeclaredName) (form : Form) (how : FileObject) → GoesWith Any w WhatIn (decls.file_form w named form how)
 file_form w named (Plain ty c) how = with_size _ _ _ (λ size e. file_declared w named ty c how)
 file_form w named (Unsized ty c) how = file_declared w named (Array ty c 0) false how
 file_form w named (Callable params result) how = refused_so
 
-no_object : {w : World} (o : Outcome (Option ℕ)) → Goes true w o → GoesWith true w WhatIn (decls.no_object o)
+no_object : {w : World} (o : Outcome (Option ℕ)) → Goes Any w o → GoesWith Any w WhatIn (decls.no_object o)
 no_object (Typed n v) (typed r) = typed_so r tt
 no_object (Refused q) p = refused_so
 
-typedef_so : (w : World) (named : DeclaredName) (form : Form) → IsFormedForm w.structs form → GoesWith true w WhatIn (decls.typedef_declared w named form)
-typedef_so w named (Plain ty c) f = with_declared named.pos _ (typed_so (reaches.named w named.pos named.name _ f) tt)
+typedef_so : (w : World) (named : DeclaredName) (form : Form) → IsFormedForm w.structs form → GoesWith Any w WhatIn (decls.typedef_declared w named form)
+typedef_so w named (Plain ty c) f = with_declared named.pos _ (typed_so (reaches.named w named.pos named.name _ f tt) tt)
 typedef_so w named (Unsized ty c) f = with_declared named.pos _ refused_so
-typedef_so w named (Callable params result) f = with_declared named.pos _ (typed_so (reaches.named w named.pos named.name _ f) tt)
+typedef_so w named (Callable params result) f = with_declared named.pos _ (typed_so (reaches.named w named.pos named.name _ f tt) tt)
 
-pub entity_declared : (w : World) (around : Context) (storage : List StorageWord) (steps : List Step) (named : DeclaredName) (has_init : Bool) (form : Form) → GoesWith true w WhatIn (decls.entity_declared w around storage steps named has_init form)
+pub entity_declared : (w : World) (around : Context) (storage : List StorageWord) (steps : List Step) (named : DeclaredName) (has_init : Bool) (form : Form) → GoesWith Any w WhatIn (decls.entity_declared w around storage steps named has_init form)
 entity_declared w around storage steps named has_init (Callable types result) =
     with_unless has_init (no_rule w named.pos ops.Init (unknown_function w) None) (no_object _ (function_declared w around named _ types result false))
 entity_declared w around storage steps named has_init (Plain ty c) =
@@ -414,39 +415,39 @@ entity_declared w around storage steps named has_init (Plain ty c) =
 entity_declared w around storage steps named has_init (Unsized ty c) =
     with_if (around.in_block && not (decls.is_word Extern storage)) (local_declared w named (Unsized ty c) _ has_init) (file_form w named (Unsized ty c) (decls.file_object_of around storage named.name has_init))
 
-pub name_declared : {w : World} (around : Context) (storage : List StorageWord) (steps : List Step) (named : DeclaredName) (has_init : Bool) (o : Outcome Form) → FormAt w o → GoesWith true w WhatIn (decls.name_declared around storage steps named has_init o)
+pub name_declared : {w : World} (around : Context) (storage : List StorageWord) (steps : List Step) (named : DeclaredName) (has_init : Bool) (o : Outcome Form) → FormAt w o → GoesWith Any w WhatIn (decls.name_declared around storage steps named has_init o)
 name_declared around storage steps named has_init (Typed form v) (formed_at _ f) =
     with_if (decls.is_word Typedef storage) (typedef_so v named form f) (entity_declared v around storage steps named has_init form)
 name_declared around storage steps named has_init (Refused q) p = refused_so
 
-pub declared : (w : World) (around : Context) (first : Pos) (storage : List StorageWord) (base : Form) (has_init : Bool) (shape : Shape) → AreFormedSteps w.structs shape.steps → IsFormedForm w.structs base → GoesWith true w WhatIn (decls.declared w around first storage base has_init shape)
+pub declared : (w : World) (around : Context) (first : Pos) (storage : List StorageWord) (base : Form) (has_init : Bool) (shape : Shape) → AreFormedSteps w.structs shape.steps → IsFormedForm w.structs base → GoesWith Any w WhatIn (decls.declared w around first storage base has_init shape)
 declared w around first storage base has_init shape s f =
     its_name first shape.name _ (λ named. name_declared around storage shape.steps named has_init _ (laid_at w named.pos shape.steps base s f))
 
 -- ---- declarations
 
 -- nothing is said of what is typed
-only : {sizing : Bool} {A : Type 0} {w : World} {o : Outcome A} → Goes sizing w o → GoesWith sizing w (λ a v. Unit {0}) o
+only : {may : Changes} {A : Type 0} {w : World} {o : Outcome A} → Goes may w o → GoesWith may w (λ a v. Unit {0}) o
 only (typed r) = typed_so r tt
 only refused = refused_so
 
 -- one part and then the next, in a world that keeps the one before
 kept_goes :
-    {sizing : Bool} {A B : Type 0} {w : World} {first : Outcome A → Type 0} {next : A → World → Outcome B → Type 0} → AllGo sizing w first → ((a : A) (v : World) → Kept w v → AllGo sizing v (next a v)) → AllGo sizing w (Then first next)
+    {may : Changes} {A B : Type 0} {w : World} {first : Outcome A → Type 0} {next : A → World → Outcome B → Type 0} → AllGo may w first → ((a : A) (v : World) → Kept w v → AllGo may v (next a v)) → AllGo may w (Then first next)
 kept_goes f g = all_forget (then_with {Q = λ a v. Unit {0}} f (λ a v r k good o p. only (g a v k good o p)))
 
 pub specs_goes :
-    {sizing : Bool} {B : Type 0} {w : World} {first : Outcome specifiers.SpecsTree → Type 0} {next : specifiers.SpecsTree → World → Outcome B → Type 0}
-    → AllWith sizing w SpecsIn first → ((s : specifiers.SpecsTree) (v : World) → Kept w v → SpecsIn s v → AllGo sizing v (next s v)) → AllGo sizing w (Then first next)
+    {may : Changes} {B : Type 0} {w : World} {first : Outcome specifiers.SpecsTree → Type 0} {next : specifiers.SpecsTree → World → Outcome B → Type 0}
+    → AllWith may w SpecsIn first → ((s : specifiers.SpecsTree) (v : World) → Kept w v → SpecsIn s v → AllGo may v (next s v)) → AllGo may w (Then first next)
 specs_goes f g = all_forget (so_with {Q = λ a v. Unit {0}} f (λ s v r p k good o q. only (g s v k p good o q)))
 
 -- a form that is told in a world, which stays
 pub form_goes :
-    {sizing : Bool} {B : Type 0} {w : World} {x : Outcome Form} {next : Form → World → Outcome B → Type 0} → FormAt w x → ((form : Form) → IsFormedForm w.structs form → AllGo sizing w (next form w))
-    → AllGo sizing w (Then (Is x) next)
-form_goes {sizing = sizing} {w = w} {next = next} f g good o (goes_on {a = form} {w = v} p s) = by (subst (λ z. FormAt w z) (sym p) f) s
+    {may : Changes} {B : Type 0} {w : World} {x : Outcome Form} {next : Form → World → Outcome B → Type 0} → FormAt w x → ((form : Form) → IsFormedForm w.structs form → AllGo may w (next form w))
+    → AllGo may w (Then (Is x) next)
+form_goes {may = may} {w = w} {next = next} f g good o (goes_on {a = form} {w = v} p s) = by (subst (λ z. FormAt w z) (sym p) f) s
   where
-    by : {u : World} → FormAt w (Typed form u) → next form u o → Goes sizing w o
+    by : {u : World} → FormAt w (Typed form u) → next form u o → Goes may w o
     by (formed_at _ h) q = g form h good o q
 form_goes f g good _ (stops p) = refused
 
@@ -455,22 +456,22 @@ measured_last w object count is x there =
     let ty = subst (λ o. IsSomeAnd o (λ y. y.ty ≡ Array is.of is.is_const 0)) there is.there in
     subst (λ t. IsLastType t (decls.measured_type object.ty count)) (sym ty) (subst (λ t. IsLastType (Array is.of is.is_const 0) (decls.measured_type t count)) (sym is.ty) (sized is.of is.is_const count))
 
-pub measured : (w : World) (object : ObjectNow) (by : Initialised) → (object.measured ≡ true → IsMeasured object w) → Goes true w (decls.measured w object by)
+pub measured : (w : World) (object : ObjectNow) (by : Initialised) → (object.measured ≡ true → IsMeasured object w) → Goes Any w (decls.measured w object by)
 measured w object by is =
     let ty = decls.measured_type object.ty by.count in
     let size = decls.size_or_zero w ty in
-    agreed_if (Goes true w) object.measured
+    agreed_if (Goes Any w) object.measured
     (λ e. goes_unless (by.count == 0) (NotConstant object.pos) (goes_unless (nat_lt (2 ^ 40) size) (ObjectTooLarge object.pos (2 ^ 40))
     (within_limits object.pos size w (typed {a = ty} (reaches.after _ _ _ (reaches.sized w object.number ty size (measured_last w object by.count (is e))) (reaches.counted _ size)))))) (goes_same {a = object.ty})
 
-pub with_static : (w : World) (object : ObjectNow) (ty : CTypeTree) (by : Initialised) → Reaches true w (decls.with_static w object ty by)
+pub with_static : (w : World) (object : ObjectNow) (ty : CTypeTree) (by : Initialised) → Reaches Any w (decls.with_static w object ty by)
 with_static w object ty by = at object.is_static
   where
-    at : (b : Bool) → Reaches true w (if b then names.with_initial w object.number (lists.static_bytes w.objects (decls.size_or_zero w ty) by.items) else w)
+    at : (b : Bool) → Reaches Any w (if b then names.with_initial w object.number (lists.static_bytes w.objects (decls.size_or_zero w ty) by.items) else w)
     at true = reaches.initial w _ _
     at false = reaches.stays w
 
-pub initialised : {w : World} (v : World) (object : ObjectNow) (by : Initialised) (o : Outcome CTypeTree) → Goes true w o → Goes true w (decls.initialised v object by o)
+pub initialised : {w : World} (v : World) (object : ObjectNow) (by : Initialised) (o : Outcome CTypeTree) → Goes Any w o → Goes Any w (decls.initialised v object by o)
 initialised v object by (Typed ty u) (typed r) = typed (reaches.after _ _ _ r (with_static u object ty by))
 initialised v object by (Refused q) p = refused
 
@@ -482,38 +483,38 @@ still_measured w v object f is = record { of = is.of; is_const = is.is_const; ty
     by None e h = absurd h
     by (Some x) e h = subst (λ o. IsSomeAnd o (λ y. y.ty ≡ Array is.of is.is_const 0)) (sym (f object.number x e)) h
 
-quiet_goes : {A : Type 0} {w v : World} {a : A} → Goes false w (Typed a v) → IsPrefix w v
-quiet_goes {w = w} {v = v} (typed r) = quiet false w v r
+quiet_goes : {A : Type 0} {w v : World} {a : A} → Goes Constants w (Typed a v) → IsPrefix w v
+quiet_goes {w = w} {v = v} (typed r) = (quiet Constants w v r).objects
 
 init_made :
     (w : World) (object : ObjectNow) (tree : InitTree) → (object.measured ≡ true → IsMeasured object w) → Good w → (by : Initialised) (v : World)
-    → TypesInit w object.is_static object.ty (decls.frame_for w object) tree (Typed by v) → Goes true v (decls.initialised v object by (decls.measured v object by))
+    → TypesInit w object.is_static object.ty (decls.frame_for w object) tree (Typed by v) → Goes Any v (decls.initialised v object by (decls.measured v object by))
 init_made w object tree is good by v p =
     initialised v object by _ (measured v object by (λ e.
-    still_measured w v object (quiet_goes (init {sizing = false} w object.is_static object.ty (decls.frame_for w object) tree good (Typed by v) p)) (is e)))
+    still_measured w v object (quiet_goes (init {may = Constants} w object.is_static object.ty (decls.frame_for w object) tree good (Typed by v) p)) (is e)))
 
-pub init_of : (w : World) (what : Declares) (tree : Option InitTree) → WhatIn what w → AllGo true w (TypesInitOf w what tree)
+pub init_of : (w : World) (what : Declares) (tree : Option InitTree) → WhatIn what w → AllGo Any w (TypesInitOf w what tree)
 init_of w NoObject tree is good o p = is_goes goes_same good o p
 init_of w (AnObject object) None is good o p = is_goes goes_same good o p
 init_of w (AnObject object) (Some tree) is good o (goes_on {a = by} {w = v} p e) =
-    with_reached good (init w object.is_static object.ty (decls.frame_for w object) tree good _ p) (λ r after. subst (λ z. Goes true v z) (sym e) (init_made w object tree is good by v p))
+    with_reached good (init w object.is_static object.ty (decls.frame_for w object) tree good _ p) (λ r after. subst (λ z. Goes Any v z) (sym e) (init_made w object tree is good by v p))
 init_of w (AnObject object) (Some tree) is good _ (stops p) = refused
 
 -- a declarator, and what depends on it
 shape_goes :
-    {sizing : Bool} {B : Type 0} {w : World} {first : Outcome Shape → Type 0} {next : Shape → World → Outcome B → Type 0}
-    → AllWith sizing w (ShapeIn w) first → ((shape : Shape) (v : World) → Kept w v → AreFormedSteps v.structs shape.steps → AllGo sizing v (next shape v)) → AllGo sizing w (Then first next)
+    {may : Changes} {B : Type 0} {w : World} {first : Outcome Shape → Type 0} {next : Shape → World → Outcome B → Type 0}
+    → AllWith may w (ShapeIn w) first → ((shape : Shape) (v : World) → Kept w v → AreFormedSteps v.structs shape.steps → AllGo may v (next shape v)) → AllGo may w (Then first next)
 shape_goes {w = w} f g = all_forget (so_with {Q = λ a v. Unit {0}} f (λ shape v r a k good o p. only (g shape v k (steps_formed w v shape.steps a) good o p)))
 
 -- what is declared, and its initialiser
 what_goes :
-    {B : Type 0} {w : World} {x : Outcome Declares} {next : Declares → World → Outcome B → Type 0} → GoesWith true w WhatIn x
-    → ((what : Declares) (v : World) → Kept w v → WhatIn what v → AllGo true v (next what v)) → AllGo true w (Then (Is x) next)
+    {B : Type 0} {w : World} {x : Outcome Declares} {next : Declares → World → Outcome B → Type 0} → GoesWith Any w WhatIn x
+    → ((what : Declares) (v : World) → Kept w v → WhatIn what v → AllGo Any v (next what v)) → AllGo Any w (Then (Is x) next)
 what_goes f g = all_forget (so_with {Q = λ a v. Unit {0}} (is_with (λ good. f)) (λ what v r is k good o p. only (g what v k is good o p)))
 
 pub init_declarators :
     (w : World) (around : Context) (first : Pos) (storage : List StorageWord) (base : Form) (done : Made) (items : List InitDeclaratorTree) → IsFormedForm w.structs base
-    → AllGo true w (TypesInitDeclarators w around first storage base done items)
+    → AllGo Any w (TypesInitDeclarators w around first storage base done items)
 unfolding TypesInitDeclarators
 init_declarators w around first storage base done [] f good = is_goes goes_same good
 init_declarators w around first storage base done (item ∷ rest) f good =
@@ -524,7 +525,7 @@ init_declarators w around first storage base done (item ∷ rest) f good =
     (form_later v2.structs v3.structs (is_later v2 v3 k2.good k3.good k3.frame) base
     (form_later v.structs v2.structs (is_later v v2 k.good k2.good k2.frame) base (form_later w.structs v.structs (is_later w v good k.good k.frame) base f)))))) good
 
-pub decl : (w : World) (around : Context) (tree : DeclTree) → AllGo true w (TypesDecl w around tree)
+pub decl : (w : World) (around : Context) (tree : DeclTree) → AllGo Any w (TypesDecl w around tree)
 decl w around tree =
     specs_goes (go_specs w _ _ tree.specs (none_yet w)) (λ s v k p.
     form_goes (type_told_at specifiers.OfDeclaration (typing.first_of tree.pos tree.specs) s v p) (λ base f. init_declarators v around _ _ base _ tree.inits f))

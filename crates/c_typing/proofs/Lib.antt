@@ -6,6 +6,7 @@ pub mod Later
 pub mod SoundTables
 pub mod Same
 pub mod Good
+pub mod Changes
 pub mod Reaches
 pub mod NodesGo
 pub mod FormsGo

@@ -86,7 +86,7 @@ spaces_held f g (m ∷ rest) all =
 abbrev pub Keeps : List StructDefTree → List StructDefTree → Type 0
 Keeps a b = (n : ℕ) → IsTrue (is_complete a n) → slice_get b n ≡ slice_get a n
 
-complete_kept : (a b : List StructDefTree) (n : ℕ) → slice_get b n ≡ slice_get a n → IsTrue (is_complete a n) → IsTrue (is_complete b n)
+pub complete_kept : (a b : List StructDefTree) (n : ℕ) → slice_get b n ≡ slice_get a n → IsTrue (is_complete a n) → IsTrue (is_complete b n)
 complete_kept a b n e h = subst (λ o. IsTrue (has_members (unwrap_or (option_map (λ def. def.members) o) []))) (sym e) h
 
 pub told_kept : (a b : List StructDefTree) (n : ℕ) → slice_get b n ≡ slice_get a n → in_table b n ≡ in_table a n

@@ -1,11 +1,12 @@
 -- Nodes of expressions leave the world as it is, but for literals.
-use Rattle.std.specs.Prelude.{ℕ, Bool, ◌+◌, nat_lt, length, Option, Some, None, List}
+use Rattle.std.specs.Prelude.{ℕ, ◌+◌, nat_lt, length, Option, Some, None, List}
 use Rattle.c_written.specs.declared.place.Pos.{Pos}
 use Rattle.c_written.specs.declared.int_type.IntType.{IntType}
 use Rattle.c_written.specs.declared.written.UnaryOp.{UnaryOp}
 use Rattle.c_written.specs.declared.written.UnaryOp.TheVariants as prefixes
 use Rattle.c_syntax.specs.Types.{CTypeTree}
 use Rattle.c_syntax.specs.TypedExpr.{TExprTree, Assume, Assert, TLvalueTree, TExprTrees, none, more}
+use Rattle.c_typing.proofs.Changes.{Changes}
 use Rattle.c_typing.specs.World.{World, Form, Plain, Unsized, Callable, Meaning, Object, Missing, Parameter, TypeName, Enumeration, Refusal, ObjectTooLarge, TotalTooLarge, Outcome, Typed, Refused}
 use Rattle.c_typing.specs.Names as names
 use Rattle.c_typing.specs.World as world
@@ -14,15 +15,15 @@ use Rattle.c_typing.specs.Nodes as nodes
 use Rattle.c_typing.specs.Nodes.{Passed, Passes, Fails}
 use Rattle.c_typing.proofs.Reaches.{Goes, typed, refused, literal, goes_same, goes_if, goes_unless}
 
-pub given : {sizing : Bool} (r : Refusal) (e : Option TExprTree) (w : World) → Goes sizing w (nodes.given r e w)
+pub given : {may : Changes} (r : Refusal) (e : Option TExprTree) (w : World) → Goes may w (nodes.given r e w)
 given r None w = refused
 given r (Some e) w = goes_same
 
-pub given_place : {sizing : Bool} (r : Refusal) (e : Option TLvalueTree) (w : World) → Goes sizing w (nodes.given_place r e w)
+pub given_place : {may : Changes} (r : Refusal) (e : Option TLvalueTree) (w : World) → Goes may w (nodes.given_place r e w)
 given_place r None w = refused
 given_place r (Some e) w = goes_same
 
-pub named : {sizing : Bool} (w : World) (at : Pos) (m : Option Meaning) → Goes sizing w (nodes.named w at m)
+pub named : {may : Changes} (w : World) (at : Pos) (m : Option Meaning) → Goes may w (nodes.named w at m)
 named w at None = refused
 named w at (Some (Object n)) = given_place _ _ w
 named w at (Some (Missing ty is_const)) = refused
@@ -31,22 +32,22 @@ named w at (Some (world.Function n)) = refused
 named w at (Some (TypeName form)) = refused
 named w at (Some (Enumeration n)) = goes_same
 
-pub word : {sizing : Bool} (w : World) (at : Pos) (name : List ℕ) → Goes sizing w (nodes.word w at name)
+pub word : {may : Changes} (w : World) (at : Pos) (name : List ℕ) → Goes may w (nodes.word w at name)
 word w at name = goes_if _ refused (named w at _)
 
-pub within_limits : {sizing : Bool} {A : Type 0} {v : World} (at : Pos) (size : ℕ) (w : World) {o : Outcome A} → Goes sizing v o → Goes sizing v (names.within_limits at size w o)
+pub within_limits : {may : Changes} {A : Type 0} {v : World} (at : Pos) (size : ℕ) (w : World) {o : Outcome A} → Goes may v o → Goes may v (names.within_limits at size w o)
 within_limits at size w p =
     goes_unless (nat_lt names.object_limit size) (ObjectTooLarge at size)
     (goes_unless (nat_lt names.total_limit (w.total + size)) (TotalTooLarge at (w.total + size)) p)
 
-pub literal_node : {sizing : Bool} (w : World) (at : Pos) (bytes : List ℕ) → Goes sizing w (nodes.literal w at bytes)
+pub literal_node : {may : Changes} (w : World) (at : Pos) (bytes : List ℕ) → Goes may w (nodes.literal w at bytes)
 literal_node w at bytes = within_limits at (length bytes + 1) w (typed (literal w at bytes))
 
-pub address : {sizing : Bool} (w : World) (at : Pos) (x : OperandTree) → Goes sizing w (nodes.address w at x)
+pub address : {may : Changes} (w : World) (at : Pos) (x : OperandTree) → Goes may w (nodes.address w at x)
 address w at (Value e) = refused
 address w at (Place place) = goes_unless _ _ goes_same
 
-pub unary : {sizing : Bool} (w : World) (at : Pos) (op : UnaryOp) (x : OperandTree) → Goes sizing w (nodes.unary w at op x)
+pub unary : {may : Changes} (w : World) (at : Pos) (op : UnaryOp) (x : OperandTree) → Goes may w (nodes.unary w at op x)
 unary w at prefixes.AddressOf x = address w at x
 unary w at prefixes.Deref x = given_place _ _ w
 unary w at prefixes.Plus x = given _ _ w
@@ -54,39 +55,39 @@ unary w at prefixes.Minus x = given _ _ w
 unary w at prefixes.Complement x = given _ _ w
 unary w at prefixes.Not x = given _ _ w
 
-pub member : {sizing : Bool} (w : World) (at : Pos) (name : List ℕ) (x : OperandTree) → Goes sizing w (nodes.member w at name x)
+pub member : {may : Changes} (w : World) (at : Pos) (name : List ℕ) (x : OperandTree) → Goes may w (nodes.member w at name x)
 member w at name (Value e) = refused
 member w at name (Place place) = given_place _ _ w
 
-pub on_modifiable : {sizing : Bool} (at : Pos) (x : OperandTree) (node : TLvalueTree → TExprTree) (w : World) → Goes sizing w (nodes.on_modifiable at x node w)
+pub on_modifiable : {may : Changes} (at : Pos) (x : OperandTree) (node : TLvalueTree → TExprTree) (w : World) → Goes may w (nodes.on_modifiable at x node w)
 on_modifiable at (Value e) node w = refused
 on_modifiable at (Place place) node w = goes_if _ goes_same refused
 
-pub changed : {sizing : Bool} {A : Type 0} (r : Refusal) (at : Pos) (x : OperandTree) (row : Option A) (node : A → TLvalueTree → TExprTree) (w : World) → Goes sizing w (nodes.changed r at x row node w)
+pub changed : {may : Changes} {A : Type 0} (r : Refusal) (at : Pos) (x : OperandTree) (row : Option A) (node : A → TLvalueTree → TExprTree) (w : World) → Goes may w (nodes.changed r at x row node w)
 changed r at x None node w = refused
 changed r at x (Some row) node w = on_modifiable at x _ w
 
-pub tested : {sizing : Bool} (w : World) (at : Pos) (e : TExprTree) → Goes sizing w (nodes.tested w at e)
+pub tested : {may : Changes} (w : World) (at : Pos) (e : TExprTree) → Goes may w (nodes.tested w at e)
 tested w at e = goes_if _ goes_same refused
 
-pub conditional : {sizing : Bool} (w : World) (at : Pos) (test a b : TExprTree) → Goes sizing w (nodes.conditional w at test a b)
+pub conditional : {may : Changes} (w : World) (at : Pos) (test a b : TExprTree) → Goes may w (nodes.conditional w at test a b)
 conditional w at test a b = goes_if _ (given _ _ w) refused
 
-pub size_of_form : {sizing : Bool} (w : World) (at : Pos) (form : Form) → Goes sizing w (nodes.size_of_form w at form)
+pub size_of_form : {may : Changes} (w : World) (at : Pos) (form : Form) → Goes may w (nodes.size_of_form w at form)
 size_of_form w at (Plain ty is_const) = given _ _ w
 size_of_form w at (Unsized ty is_const) = refused
 size_of_form w at (Callable params result) = refused
 
-pub cast : {sizing : Bool} (w : World) (at : Pos) (form : Form) (e : TExprTree) → Goes sizing w (nodes.cast w at form e)
+pub cast : {may : Changes} (w : World) (at : Pos) (form : Form) (e : TExprTree) → Goes may w (nodes.cast w at form e)
 cast w at (Plain ty is_const) e = given _ _ w
 cast w at (Unsized ty is_const) e = refused
 cast w at (Callable params result) e = refused
 
-pub call_node : {sizing : Bool} (w : World) (at : Pos) (n : ℕ) (result : CTypeTree) (args : Passed) → Goes sizing w (nodes.call_node w at n result args)
+pub call_node : {may : Changes} (w : World) (at : Pos) (n : ℕ) (result : CTypeTree) (args : Passed) → Goes may w (nodes.call_node w at n result args)
 call_node w at n result (Passes args) = goes_same
 call_node w at n result (Fails r) = refused
 
-pub call_named : {sizing : Bool} (w : World) (at : Pos) (args : TExprTrees) (m : Option Meaning) → Goes sizing w (nodes.call_named w at args m)
+pub call_named : {may : Changes} (w : World) (at : Pos) (args : TExprTrees) (m : Option Meaning) → Goes may w (nodes.call_named w at args m)
 call_named w at args None = refused
 call_named w at args (Some (Object n)) = refused
 call_named w at args (Some (Missing ty is_const)) = refused
@@ -95,15 +96,15 @@ call_named w at args (Some (world.Function n)) = goes_if _ (call_node w at _ _ _
 call_named w at args (Some (TypeName form)) = refused
 call_named w at args (Some (Enumeration n)) = refused
 
-pub input_read : {sizing : Bool} (w : World) (at : Pos) (t : IntType) (args : TExprTrees) → Goes sizing w (nodes.input_read w at t args)
+pub input_read : {may : Changes} (w : World) (at : Pos) (t : IntType) (args : TExprTrees) → Goes may w (nodes.input_read w at t args)
 input_read w at t none = goes_same
 input_read w at t (more e rest) = refused
 
-pub told : {sizing : Bool} (w : World) (at : Pos) (node : TExprTree → TExprTree) (args : TExprTrees) → Goes sizing w (nodes.told w at node args)
+pub told : {may : Changes} (w : World) (at : Pos) (node : TExprTree → TExprTree) (args : TExprTrees) → Goes may w (nodes.told w at node args)
 told w at node none = refused
 told w at node (more e none) = goes_if _ goes_same refused
 told w at node (more e (more d rest)) = refused
 
-pub called_or_read : {sizing : Bool} (w : World) (at : Pos) (name : List ℕ) (args : TExprTrees) (t : Option IntType) → Goes sizing w (nodes.called_or_read w at name args t)
+pub called_or_read : {may : Changes} (w : World) (at : Pos) (name : List ℕ) (args : TExprTrees) (t : Option IntType) → Goes may w (nodes.called_or_read w at name args t)
 called_or_read w at name args (Some t) = input_read w at t args
 called_or_read w at name args None = goes_if (names.is_assume name) (told w at (Assume at) args) (goes_if (names.is_assert name) (told w at (Assert at) args) (call_named w at args (names.meaning_of w name)))

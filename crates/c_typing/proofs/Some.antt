@@ -1,7 +1,8 @@
 -- A good world and a tree have an outcome.
 use Rattle.std.proofs.Common.{refl}
-use Rattle.std.specs.Prelude.{true, Bool, Some, []}
+use Rattle.std.specs.Prelude.{Bool, Some, []}
 use Rattle.c_written.specs.WrittenParts.{expr_pos}
+use Rattle.c_typing.proofs.Changes.{Any, names_any}
 use Rattle.c_typing.specs.Constants.{constant_value}
 use Rattle.c_written.specs.Written as written
 use Rattle.c_typing.specs.World.{World, Outcome, Typed, Refused, Then, goes_on, stops, Is}
@@ -27,13 +28,13 @@ Has {A} kind = (o : Outcome A) × kind o
 pub is_has : {A : Type 0} (x : Outcome A) → Has (Is x)
 is_has x = (x, refl)
 
-after : {A : Type 0} {w v : World} {a : A} → Good w → Goes true w (Typed a v) → Kept w v
+after : {A : Type 0} {w v : World} {a : A} → Good w → Goes Any w (Typed a v) → Kept w v
 after {w = w} {v = v} good (typed r) = kept w v r good
 
 -- where the first part has an outcome, and in each world that it leaves so has the next, both together have one
 pub then_has :
     {A B : Type 0} {w : World} {first : Outcome A → Type 0} {next : A → World → Outcome B → Type 0}
-    → Good w → AllGo true w first → Has first → ((a : A) (v : World) → Kept w v → Has (next a v)) → Has (Then first next)
+    → Good w → AllGo Any w first → Has first → ((a : A) (v : World) → Kept w v → Has (next a v)) → Has (Then first next)
 then_has {A} {B} {w} {first} {next} good f h g = by h.0 h.1
   where
     by : (o : Outcome A) → first o → Has (Then first next)
@@ -43,10 +44,10 @@ then_has {A} {B} {w} {first} {next} good f h g = by h.0 h.1
 -- the same where what the first part leaves has a property
 pub so_has :
     {A B : Type 0} {w : World} {first : Outcome A → Type 0} {next : A → World → Outcome B → Type 0} {P : A → World → Type 0}
-    → Good w → AllWith true w P first → Has first → ((a : A) (v : World) → Kept w v → P a v → Has (next a v)) → Has (Then first next)
+    → Good w → AllWith Any w P first → Has first → ((a : A) (v : World) → Kept w v → P a v → Has (next a v)) → Has (Then first next)
 so_has {A} {B} {w} {first} {next} {P} good f h g = by h.0 h.1
   where
-    at : (a : A) (v : World) → first (Typed a v) → GoesWith true w P (Typed a v) → Has (Then first next)
+    at : (a : A) (v : World) → first (Typed a v) → GoesWith Any w P (Typed a v) → Has (Then first next)
     at a v p (typed_so r q) = let s = g a v (kept w v r good) q in (s.0, goes_on p s.1)
 
     by : (o : Outcome A) → first o → Has (Then first next)
@@ -61,14 +62,14 @@ value w e good h g = then_has good (valued (go w e)) (then_has good (go w e) h (
 
 pub of_type_name :
     {w : World} (first : _) {specs : Outcome specifiers.SpecsTree → Type 0} {declarator : World → Outcome Shape → Type 0} → Good w
-    → AllWith true w SpecsIn specs → Has specs → ((v : World) → AllWith true v (ShapeIn v) (declarator v)) → ((v : World) → Good v → Has (declarator v)) → Has (typing.OfTypeName first specs declarator)
+    → AllWith Any w SpecsIn specs → Has specs → ((v : World) → AllWith Any v (ShapeIn v) (declarator v)) → ((v : World) → Good v → Has (declarator v)) → Has (typing.OfTypeName first specs declarator)
 of_type_name first good f h g d =
     then_has good (all_forget f) h (λ s v k. then_has k.good (is_goes (types_go.type_told specifiers.OfPlainType first s v)) (is_has _) (λ base v2 k2.
     then_has k2.good (all_forget (g v2)) (d v2 k2.good) (λ shape v3 k3. is_has _)))
 
 pub of_parameter :
     {w : World} (n : _) (first : _) {specs : Outcome specifiers.SpecsTree → Type 0} {declarator : World → Outcome Shape → Type 0} → Good w
-    → AllWith true w SpecsIn specs → Has specs → ((v : World) → AllWith true v (ShapeIn v) (declarator v)) → ((v : World) → Good v → Has (declarator v)) → Has (typing.OfParameter n first specs declarator)
+    → AllWith Any w SpecsIn specs → Has specs → ((v : World) → AllWith Any v (ShapeIn v) (declarator v)) → ((v : World) → Good v → Has (declarator v)) → Has (typing.OfParameter n first specs declarator)
 of_parameter n first good f h g d =
     then_has good (all_forget f) h (λ s v k. then_has k.good (is_goes (types_go.type_told specifiers.OfParameter first s v)) (is_has _) (λ base v2 k2.
     then_has k2.good (all_forget (g v2)) (d v2 k2.good) (λ shape v3 k3. is_has _)))
@@ -161,16 +162,16 @@ mutual
   some_declarator w (written.OpenArray at inner) good = then_has good (all_forget (go_declarator w inner)) (some_declarator w inner good) (λ shape v k. is_has _)
   some_declarator w (written.Function at inner params) good =
       then_has good (all_forget (go_declarator w inner)) (some_declarator w inner good) (λ shape v k.
-      then_has (enters k.good) (all_forget (go_params (names.opened v) [] params (no_params_yet (names.opened v)))) (some_params (names.opened v) [] params (no_params_yet (names.opened v)) (enters k.good)) (λ list v2 k2. is_has _))
+      then_has (enters k.good) (all_forget (go_params names_any (names.opened v) [] params (no_params_yet (names.opened v)))) (some_params (names.opened v) [] params (no_params_yet (names.opened v)) (enters k.good)) (λ list v2 k2. is_has _))
   some_declarator w (written.VoidFunction at inner) good = then_has good (all_forget (go_declarator w inner)) (some_declarator w inner good) (λ shape v k. is_has _)
 
   pub some_params : (w : World) (done : _) (params : written.ParamTrees) → ParamsIn done w → Good w → Has (TypesParams w done params)
   some_params w done written.no_params all good = is_has _
   some_params w done (written.more_params (written.Named at specs declarator) rest) all good =
-      so_has good ((types_go.of_parameter _ _ (go_specs w _ _ specs (none_yet w)) (λ v. go_declarator v declarator)))
+      so_has good ((types_go.of_parameter _ _ names_any (go_specs w _ _ specs (none_yet w)) (λ v. go_declarator v declarator)))
       (of_parameter _ _ good (go_specs w _ _ specs (none_yet w)) (some_specs w _ _ specs good) (λ v. go_declarator v declarator) (λ v g. some_declarator v declarator g))
       (λ param v k p. some_params v _ rest (All-push (λ x. IsFormed v.structs x.ty) done param (params_after w v done (is_later w v good k.good k.frame) all) p) k.good)
   some_params w done (written.more_params (written.Abstract at specs declarator) rest) all good =
-      so_has good ((types_go.of_parameter _ _ (go_specs w _ _ specs (none_yet w)) (λ v. go_declarator v declarator)))
+      so_has good ((types_go.of_parameter _ _ names_any (go_specs w _ _ specs (none_yet w)) (λ v. go_declarator v declarator)))
       (of_parameter _ _ good (go_specs w _ _ specs (none_yet w)) (some_specs w _ _ specs good) (λ v. go_declarator v declarator) (λ v g. some_declarator v declarator g))
       (λ param v k p. some_params v _ rest (All-push (λ x. IsFormed v.structs x.ty) done param (params_after w v done (is_later w v good k.good k.frame) all) p) k.good)

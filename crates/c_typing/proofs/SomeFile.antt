@@ -14,6 +14,7 @@ use Rattle.c_syntax.specs.TypedExpr.{TExprTree}
 use Rattle.c_syntax.specs.TypedStmt.{TStmtTree, TStmtTrees}
 use Rattle.c_layout.specs.Layout.{members_of}
 use Rattle.c_layout.specs.Heights.{held, Falls}
+use Rattle.c_typing.proofs.Changes.{Any}
 use Rattle.c_typing.specs.World.{World, Outcome, Typed, Refused, Then, goes_on, stops, Is}
 use Rattle.c_typing.specs.Constants.{constant_value}
 use Rattle.c_typing.specs.SameTypes.{is_same}
@@ -208,17 +209,17 @@ dropped_has : (w : World) (e : written.ExprTree) → Good w → Has (Dropped w e
 dropped_has w e good = value w e good (some w e good) (λ x v k. is_has _)
 
 perhaps_has :
-    (w : World) {types : World → written.ExprTree → Outcome TExprTree → Type 0} → Good w → ((v : World) (e : written.ExprTree) → AllGo true v (types v e))
+    (w : World) {types : World → written.ExprTree → Outcome TExprTree → Type 0} → Good w → ((v : World) (e : written.ExprTree) → AllGo Any v (types v e))
     → ((v : World) (e : written.ExprTree) → Good v → Has (types v e)) → (e : Option written.ExprTree) → Has (Perhaps w types e)
 perhaps_has w good g f None = is_has _
 perhaps_has w good g f (Some e) = then_has good (g w e) (f w e good) (λ x v k. is_has _)
 
 substatement_has :
-    (w : World) (at : _) {types : World → Outcome TStmtTrees → Type 0} → Good w → ((v : World) → AllGo true v (types v)) → ((v : World) → Good v → Has (types v)) → Has (OfSubstatement w at types)
+    (w : World) (at : _) {types : World → Outcome TStmtTrees → Type 0} → Good w → ((v : World) → AllGo Any v (types v)) → ((v : World) → Good v → Has (types v)) → Has (OfSubstatement w at types)
 substatement_has w at good g f = then_has (enters good) (g (opened w)) (f (opened w) (enters good)) (λ items v k. is_has _)
 
 block_has :
-    (w : World) {types : World → Outcome Made → Type 0} (node : Made → TStmtTree) → Good w → ((v : World) → AllGo true v (types v)) → ((v : World) → Good v → Has (types v)) → Has (OfBlock w types node)
+    (w : World) {types : World → Outcome Made → Type 0} (node : Made → TStmtTree) → Good w → ((v : World) → AllGo Any v (types v)) → ((v : World) → Good v → Has (types v)) → Has (OfBlock w types node)
 block_has w node good g f = then_has (enters good) (g (opened w)) (f (opened w) (enters good)) (λ made v k. is_has _)
 
 switch_has : (w : World) (at : _) (e : written.ExprTree) → Good w → Has (SwitchValue w at e)
@@ -231,7 +232,7 @@ start_has w around (files.Declares decl) good = decl_has w around decl good
 
 -- no case yet
 uncased : {v : World} → Good v → Good (without_cases v)
-uncased {v = v} good = (kept {sizing = true} v _ (reaches.cased v [] None) good).good
+uncased {v = v} good = (kept {may = Any} v _ (reaches.cased v [] None) good).good
 
 mutual
   unfolding TypesStmt stmts.TypesItems
@@ -303,12 +304,12 @@ head_has (Refused r) good h f = (Refused r, stops refl)
 
 definition_has :
     {t : World} {first : Outcome Shape → Type 0} {x : Shape → World → Outcome Begun} {next : Begun → World → Outcome ⊤ → Type 0}
-    → Good t → AllWith true t (ShapeIn t) first → Has first
-    → ((shape : Shape) (w : World) → Good w → Reaches true t w → AreAside t w shape.steps → Heads t (x shape w)) → ((begun : Begun) (v : World) → Good v → Has (next begun v))
+    → Good t → AllWith Any t (ShapeIn t) first → Has first
+    → ((shape : Shape) (w : World) → Good w → Reaches Any t w → AreAside t w shape.steps → Heads t (x shape w)) → ((begun : Begun) (v : World) → Good v → Has (next begun v))
     → Has (Then first (λ shape w. Then (Is (x shape w)) next))
 definition_has {t} {first} {x} {next} good f h g d = by h.0 h.1
   where
-    at : (shape : Shape) (w : World) → first (Typed shape w) → GoesWith true t (ShapeIn t) (Typed shape w) → Has (Then first (λ y v. Then (Is (x y v)) next))
+    at : (shape : Shape) (w : World) → first (Typed shape w) → GoesWith Any t (ShapeIn t) (Typed shape w) → Has (Then first (λ y v. Then (Is (x y v)) next))
     at shape w p (typed_so r a) = let s = head_has (x shape w) good (g shape w (kept t w r good).good r a) d in (s.0, goes_on p s.1)
 
     by : (o : Outcome Shape) → first o → Has (Then first (λ y v. Then (Is (x y v)) next))

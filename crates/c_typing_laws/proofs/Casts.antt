@@ -248,7 +248,7 @@ conditionals_are_typed w v scope at test a b y t x z p = conditional_by w v scop
 
 -- ---- constants
 
-const_node : (scope : Scope) (at : Pos) (t : IntType) (n : ℤ) → HasNumber t n → IsTypedValue scope (Const at t n)
+pub const_node : (scope : Scope) (at : Pos) (t : IntType) (n : ℤ) → HasNumber t n → IsTypedValue scope (Const at t n)
 unfolding IsTypedExpr IsTypedPlace AreTyped
 const_node scope at t n h = record { typed = h; proper = tt }
 

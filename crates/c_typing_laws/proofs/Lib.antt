@@ -7,3 +7,4 @@ pub mod Places
 pub mod Assigns
 pub mod Casts
 pub mod Calls
+pub mod WholeExpressions

@@ -1,3 +1,4 @@
 pub mod TypedValues
 pub mod RowLaws
 pub mod NodeLaws
+pub mod ExpressionLaws

@@ -18,12 +18,15 @@
 //! | operators on one operand and on two | `NodeLaws` | `prefixes_are_typed`, `binaries_are_typed`, `indexes_are_typed`, `members_are_typed`, `arrows_are_typed` |
 //! | nodes that change a place | `NodeLaws` | `assignments_are_typed`, `compounds_are_typed`, `stepped_are_typed` |
 //! | `?:`, `,`, casts, sizes | `NodeLaws` | `conditionals_are_typed`, `commas_are_typed`, `casts_are_typed`, `sizes_are_typed` |
+//! | whole expressions | `ExpressionLaws` | `expressions_are_typed` |
 //! | calls and constants | `NodeLaws` | `calls_are_typed`, `numbers_are_typed`, `characters_are_typed` |
 #![tactic(auto)]
 
+mod expressions;
 mod nodes;
 mod rows;
 
+pub use expressions::expressions_are_typed;
 pub use nodes::{
     arrows_are_typed, assignments_are_typed, binaries_are_typed, calls_are_typed, casts_are_typed,
     characters_are_typed, commas_are_typed, compounds_are_typed, conditionals_are_typed,
