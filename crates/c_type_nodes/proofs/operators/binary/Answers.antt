@@ -6,7 +6,7 @@ use Rattle.c_typing.specs.Nodes as nodes
 use Rattle.c_typing.specs.Rows as rows
 use Rattle.c_typing.specs.World.{no_rule}
 use Rattle.c_type_conversions.specs.Views.{operand_tree}
-use Rattle.c_type_nodes.proofs.Steps.{so, for_types}
+use Rattle.c_type_errors.proofs.Steps.{so, for_types}
 use Rattle.c_type_nodes.proofs.operators.binary.Goals as goal
 
 pub returns : goal.returns

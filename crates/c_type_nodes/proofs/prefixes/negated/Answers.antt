@@ -5,7 +5,7 @@ use Rattle.c_typing.specs.Nodes as nodes
 use Rattle.c_typing.specs.Rows as rows
 use Rattle.c_typing.specs.World.{no_rule}
 use Rattle.c_type_conversions.specs.Views.{operand_tree}
-use Rattle.c_type_nodes.proofs.Steps.{for_type}
+use Rattle.c_type_errors.proofs.Steps.{for_type}
 use Rattle.c_type_nodes.proofs.prefixes.negated.Goals as goal
 
 pub returns : goal.returns

@@ -6,7 +6,7 @@ use Rattle.c_syntax.specs.declared.operator.DerefKind.TheVariants as derefs
 use Rattle.c_typing.specs.Nodes as nodes
 use Rattle.c_typing.specs.Rows as rows
 use Rattle.c_type_conversions.specs.Views.{operand_tree}
-use Rattle.c_type_nodes.proofs.Steps.{so}
+use Rattle.c_type_errors.proofs.Steps.{so}
 use Rattle.c_type_nodes.proofs.prefixes.unary.Goals as goal
 
 pub returns-in-AddressOf : goal.returns-in-AddressOf

@@ -35,3 +35,7 @@ when_true x y e f = ap (λ t. if t then x else y) (sym e ∙ f)
 
 pub when_false : {X : Type 0} {b c : Bool} (x y : X) → b ≡ false → b ≡ c → y ≡ (if c then x else y)
 when_false x y e f = ap (λ t. if t then x else y) (sym e ∙ f)
+
+-- an error that tells one refusal tells the same by another name
+pub told_as : (error : TypeError) {r q : Refusal} → r ≡ q → Tells error r → Tells error q
+told_as error e p = subst (Tells error) e p
