@@ -8,3 +8,4 @@ pub mod Beginning
 pub mod Starting
 pub mod Reading
 pub mod OneScalar
+pub mod Rising

@@ -1,10 +1,11 @@
 -- Stores, copies, and what is left of an initialiser.
-use Rattle.std.specs.Prelude.{ℕ, zero, suc, pos, ◌+◌, nat_le, nat_lt, Bool, false, ◌&&◌, ◌||◌, if◌then◌else◌, List, [], ◌∷◌, length, Option, Some, None}
+use Rattle.std.specs.Prelude.{◌≡◌, ℕ, zero, suc, pos, ◌+◌, ◌≤◌, nat_le, nat_lt, Bool, false, ◌&&◌, ◌||◌, if◌then◌else◌, List, [], ◌∷◌, length, Option, Some, None}
 use Rattle.std.specs.Prelude.{option_map}
 use Rattle.c_written.specs.declared.int_type.IntType.TheVariants as ints
 use Rattle.c_syntax.specs.declared.alarm.WrongKind.{WrongKind}
 use Rattle.c_syntax.specs.TypedStmt.{TInitTree, Store, Copy}
 use Rattle.c_layout.specs.Checks.{scalar_bytes}
+use Rattle.c_layout.specs.TypedNodes.{init_start}
 use Rattle.block_mem.specs.declared.types.Scalar.{Scalar}
 use Rattle.block_mem.specs.declared.types.Value.{Value}
 use Rattle.block_mem.specs.declared.types.Value.TheVariants as values
@@ -41,6 +42,15 @@ names_byte (Copy offset extent source) k = nat_le offset k && nat_lt k (offset +
 abbrev pub is_named : List TInitTree → ℕ → Bool
 is_named [] k = false
 is_named (init ∷ inits) k = names_byte init k || is_named inits k
+
+-- items of which none begins before a byte, nor before the one that it follows
+abbrev pub Rise : ℕ → List TInitTree → Type 0
+Rise low [] = Unit {0}
+Rise low (init ∷ inits) = (low ≤ init_start init) × Rise (init_start init) inits
+
+-- of the bytes from one on the two lists of items name the same
+abbrev pub NameSame : ℕ → List TInitTree → List TInitTree → Type 0
+NameSame from inits others = (k : ℕ) → from ≤ k → is_named inits k ≡ is_named others k
 
 -- a byte of a block becomes 0
 abbrev pub zero_at : ℕ → ℕ → List BlockView → List BlockView

@@ -1,16 +1,21 @@
-ghost use Rattle.std.specs.Prelude.{◌<◌, ◌≡◌, length};
+ghost use Rattle.std.specs.Prelude.{◌<◌, ◌≡◌, [], ◌∷◌, All, IfOk, Some, length, true};
+ghost use Rattle.c_objects.specs.Statics.{HasBlock};
 
 use crate::ObjectMemory;
 use block_mem::{Pointer, Scalar, Value};
 use c_syntax::{
-    Arithmetic, CType, IntType, Name, Object, Pos, Spot, TBinaryOp, TUnaryOp, WrongKind,
+    Arithmetic, CType, InitByte, InitBytes, Initial, IntType, Name, Object, Pos, Spot, TBinaryOp,
+    TUnaryOp, WrongKind,
 };
-use std::alloc::Global;
+use std::alloc::{AllocError, Global};
 use std::test::Fail;
 
 const INT: Scalar = Scalar::Int(IntType::Int);
 
-fn object(alloc: Global, size: u64) -> Object {
+fn object(alloc: Global, size: u64) -> Object
+    ensures size { result.size ≡ size }
+    ensures fixed { result.is_static ≡ true }
+{
     Object {
         name: Name::new(alloc),
         pos: Pos {
@@ -153,5 +158,66 @@ fn bytes_are_put_in(rt: HostRuntime) -> Result<(), Fail> {
     };
     let last = Pointer { block, offset: 8 };
     assert_eq!(rt; memory.load(INT, Value::Ptr(last)), Ok(int(0)));
+    Ok(())
+}
+
+// An int of value 5, and a pointer to it.
+fn started(alloc: Global) -> Result<ObjectMemory, AllocError> {
+    let objects = [object(alloc, 4), object(alloc, 8)];
+    let five = vec![in alloc;
+        InitByte::Num(5),
+        InitByte::Num(0),
+        InitByte::Num(0),
+        InitByte::Num(0),
+    ]?;
+    let initials = [
+        Initial {
+            object: 0,
+            bytes: InitBytes::from_vec(five),
+        },
+        Initial {
+            object: 1,
+            bytes: InitBytes::from_vec(pointer(alloc)?),
+        },
+    ];
+    ObjectMemory::start(alloc, &objects, &initials)
+}
+
+// The pieces of a pointer to the first byte of object 0.
+fn pointer(alloc: Global) -> Result<Vec<InitByte>, AllocError>
+    ensures { IfOk result (λ pieces. (length pieces.items ≡ 8) × All (λ piece. HasBlock (Some 0 ∷ Some 1 ∷ []) piece) pieces.items) }
+{
+    let mut pieces = Vec::new(alloc);
+    for k in 0..8 {
+        pieces.push(InitByte::Piece {
+            object: 0,
+            offset: 0,
+            k,
+        })?;
+    }
+    Ok(pieces)
+}
+
+#[test]
+fn initial_bytes(rt: HostRuntime) -> Result<(), Fail> {
+    let memory = started(rt.alloc())?;
+    let (Some(number), Some(block)) = (memory.place(0), memory.place(1)) else {
+        return Ok(());
+    };
+    let five = Value::Ptr(Pointer {
+        block: number,
+        offset: 0,
+    });
+    assert_eq!(rt; memory.load(INT, five), Ok(int(5)));
+    let at = Value::Ptr(Pointer { block, offset: 0 });
+    assert_eq!(rt; memory.load(Scalar::Pointer, at), Ok(five));
+    Ok(())
+}
+
+#[test]
+fn no_member_of_null(rt: HostRuntime) -> Result<(), Fail> {
+    let memory = ObjectMemory::new(rt.alloc(), 0)?;
+    let moved = memory.member(&[], Value::Null, 4);
+    assert_eq!(rt; moved.map_err(|wrong| wrong.kind), Err(WrongKind::NullUse));
     Ok(())
 }
