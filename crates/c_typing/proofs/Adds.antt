@@ -12,8 +12,9 @@ use Rattle.c_typing.specs.Context.{Context}
 use Rattle.c_typing.specs.File.{TypesOuters, nothing_yet}
 use Rattle.c_typing.specs.Decls.{sized_object}
 use Rattle.c_typing.specs.Later.{has_members}
+use Rattle.std.proofs.lemmas.Option.{same_Some}
 use Rattle.c_typing.specs.Laws.{IsLastType, same, sized, IsSameFunction, IsSameObject, IsSameStruct, TypingAdds, StructsAreTyped}
-use Rattle.c_typing.proofs.MadeTables.{made_nothing}
+use Rattle.c_typing.proofs.MadeTables.{get_append, made_nothing}
 use Rattle.c_typing.proofs.SoundTables.{sound_nothing, typed_table}
 use Rattle.c_typing.proofs.Good.{Good, Frame, complete_shut}
 use Rattle.c_typing.proofs.Reaches as reaches
@@ -42,21 +43,12 @@ keep_then : {A : Type 0} {R : A → A → Type 0} → Preorder R → (xs ys zs :
 keep_then p xs ys zs f g k x e =
     let one = f k x e in let two = g k one.item one.there in record { item = two.item; there = two.there; related = p.next _ _ _ one.related two.related }
 
-there_append : {A : Type 0} (xs ys : List A) (k : ℕ) (x : A) → slice_get xs k ≡ Some x → slice_get (xs ++ ys) k ≡ Some x
-there_append [] ys k x e = cc
-there_append (a ∷ xs) ys zero x e = e
-there_append (a ∷ xs) ys (suc k) x e = there_append xs ys k x e
-
 keep_append : {A : Type 0} {R : A → A → Type 0} → Preorder R → (xs ys : List A) → Keep R xs (xs ++ ys)
-keep_append p xs ys k x e = record { item = x; there = there_append xs ys k x e; related = p.same x }
-
--- what is there is one item
-some_is : {A : Type 0} (x y : A) → Some x ≡ Some y → x ≡ y
-some_is x y e = cc
+keep_append p xs ys k x e = record { item = x; there = get_append xs ys k x e; related = p.same x }
 
 keep_set : {A : Type 0} {R : A → A → Type 0} → Preorder R → (xs : List A) (n : ℕ) (y z : A) → slice_get xs n ≡ Some y → R y z → Keep R xs (set xs n z)
 keep_set p [] n y z e r k x q = cc
-keep_set {R = R} p (a ∷ xs) zero y z e r zero x q = record { item = z; there = refl; related = subst (λ w. R w z) (some_is y x (sym e ∙ q)) r }
+keep_set {R = R} p (a ∷ xs) zero y z e r zero x q = record { item = z; there = refl; related = subst (λ w. R w z) (same_Some y x (sym e ∙ q)) r }
 keep_set p (a ∷ xs) zero y z e r (suc k) x q = record { item = x; there = q; related = p.same x }
 keep_set p (a ∷ xs) (suc n) y z e r zero x q = record { item = x; there = q; related = p.same x }
 keep_set p (a ∷ xs) (suc n) y z e r (suc k) x q =
@@ -165,7 +157,7 @@ same_struct w v good f n def e =
       tag = sym now.2;
       whole = λ c.
           let shut = complete_shut w good n (ap (λ o. has_members (unwrap_or (option_map (λ d. d.members) o) [])) e ∙ c) in
-          some_is def now.0 (sym (f.same n def e shut) ∙ now.1);
+          same_Some def now.0 (sym (f.same n def e shut) ∙ now.1);
     })
 
 pub typing_adds : TypingAdds

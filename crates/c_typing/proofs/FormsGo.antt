@@ -28,7 +28,7 @@ pub data FormAt (w : World) : Outcome Form → Type 0 where
   formed_at : (form : Form) → IsFormedForm w.structs form → FormAt w (Typed form w)
   unformed : {r : Refusal} → FormAt w (Refused r)
 
-no_some : {A P : Type 0} (x : A) → None ≡ Some x → P
+pub no_some : {A P : Type 0} (x : A) → None ≡ Some x → P
 no_some x e = absurd (none-some x e)
 
 -- what is found in a list has what each of the list has

@@ -3,7 +3,7 @@ use Rattle.std.proofs.Common.{◌≡◌, ℕ, zero, suc, ◌+◌, ◌*◌, ◌^�
 use Rattle.std.specs.Prelude.{Option, None, Some, option_map, unwrap_or, IfSome, IsSomeAnd, IsTrue, All, fold}
 use Rattle.std.proofs.lemmas.Bool.{cases_eq, cases_lt, false≢true}
 use Rattle.std.proofs.lemmas.Bool.Decides.{nat_tests}
-use Rattle.std.proofs.lemmas.Option.{slice_get-get_or}
+use Rattle.std.proofs.lemmas.Option.{same_Some, slice_get-get_or}
 use Rattle.std.proofs.lemmas.List.{map-append}
 use Rattle.std.proofs.lemmas.List.Sums.{fold-append}
 use Rattle.std.proofs.lemmas.List.Elements.{All-nil, All-push, All-weaker}
@@ -205,12 +205,9 @@ some_members : (members : List MemberTree) → IsTrue (has_members members) → 
 some_members [] h = absurd (false≢true h)
 some_members (m ∷ rest) h = omega arith
 
-some_is : {A : Type 0} (x y : A) → Some x ≡ Some y → x ≡ y
-some_is x y e = cc
-
 product_some : (n size : ℕ) (o : Option ℕ) → 0 < n → option_map (λ s. n * s) o ≡ Some size → ((s : ℕ) → o ≡ Some s → 0 < s) → 0 < size
 product_some n size None h e f = absurd cc
-product_some n size (Some s) h e f = let is = some_is (n * s) size e in let p = f s refl in subst (λ x. 0 < x) is (mul-lt n s h p)
+product_some n size (Some s) h e f = let is = same_Some (n * s) size e in let p = f s refl in subst (λ x. 0 < x) is (mul-lt n s h p)
   where
     mul-lt : (a b : ℕ) → 0 < a → 0 < b → 0 < a * b
     mul-lt (suc a) (suc b) h p = grind arith
@@ -219,12 +216,12 @@ product_some n size (Some s) h e f = let is = some_is (n * s) size e in let p = 
 
 struct_some : (o : Option ℕ) (size : ℕ) → o ≡ Some size → IsSomeAnd o (λ s. (0 < s) × IsTold s) → 0 < size
 struct_some None size e h = absurd h
-struct_some (Some s) size e h = subst (λ x. 0 < x) (some_is s size e) h.0
+struct_some (Some s) size e h = subst (λ x. 0 < x) (same_Some s size e) h.0
 
 pub some_bytes : (structs : List StructDefTree) → IsTypedTable structs → (ty : CTypeTree) (size : ℕ) → IsFormed structs ty → size_in structs ty ≡ Some size → 0 < size
 some_bytes structs table Void size f e = absurd cc
-some_bytes structs table (Int t) size f e = subst (λ x. 0 < x) (some_is (bytes t) size e) (int_some t)
-some_bytes structs table (Pointer to c) size f e = subst (λ x. 0 < x) (some_is 8 size e) (omega arith)
+some_bytes structs table (Int t) size f e = subst (λ x. 0 < x) (same_Some (bytes t) size e) (int_some t)
+some_bytes structs table (Pointer to c) size f e = subst (λ x. 0 < x) (same_Some 8 size e) (omega arith)
 some_bytes structs table (Array of c n) size f e = product_some n size (size_in structs of) f.1 e (λ s q. some_bytes structs table of s f.0 q)
 some_bytes structs table (Struct n) size f e = struct_some (size_in structs (Struct n)) size e (struct_size structs table n (some_members (members_of structs n) (size_held structs (Struct n) size e)))
 some_bytes structs table (Function n) size f e = absurd cc

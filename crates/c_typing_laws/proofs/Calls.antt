@@ -1,8 +1,7 @@
 -- Calls, inputs, `__assume` and `__assert`.
 use Rattle.std.proofs.Common.{◌≡◌, ℕ, true, false, List, [], ◌∷◌, length, refl, sym, subst, arith}
-use Rattle.std.specs.Prelude.{◌==◌, Bool, if◌then◌else◌, Option, None, Some, option_map, IsSomeAnd, All, find, bytes_eq}
+use Rattle.std.specs.Prelude.{◌==◌, Bool, if◌then◌else◌, Option, None, Some, IsSomeAnd, All, find, bytes_eq}
 use Rattle.std.proofs.lemmas.Bool.{eqb-true}
-use Rattle.std.proofs.lemmas.Option.{same_Some}
 use Rattle.std.proofs.lemmas.List.Elements.{All-from_recursion, All-head, All-tail}
 use Rattle.c_written.specs.declared.place.Pos.{Pos}
 use Rattle.c_written.specs.declared.int_type.IntType.{IntType}
@@ -19,11 +18,12 @@ use Rattle.c_typing.specs.Names.{inputs, input_type, is_assume, is_assert, meani
 use Rattle.c_typing.specs.Operands.{OperandTree, Value}
 use Rattle.c_typing.specs.Rows.{is_scalar, store_row}
 use Rattle.c_typing.specs.Nodes.{count_of, Passed, Passes, Fails, with_passed, passed_one, passed, call_node, result_of, params_of, call_named, input_read, told, called_or_read}
+use Rattle.c_typing.proofs.FormsGo.{found_each, mapped}
 use Rattle.c_typing_laws.specs.TypedValues.{IsTypedValue, IsTypedOperand, AreTypedValues}
 use Rattle.c_typing_laws.specs.RowLaws.{IsStored}
 use Rattle.c_typing_laws.specs.NodeLaws.{IsCallable, CallsAreTyped}
 use Rattle.c_typing_laws.proofs.Stores.{values_are_stored}
-use Rattle.c_typing_laws.proofs.Operators.{no_node, scalar_value}
+use Rattle.c_typing_laws.proofs.Operators.{scalar_value}
 use Rattle.c_typing_laws.proofs.Places.{typed_is, not_typed}
 
 -- ---- arguments
@@ -115,19 +115,6 @@ named_called w v scope at args (Some (TypeName form)) y f typed p = not_typed _ 
 named_called w v scope at args (Some (Enumeration n)) y f typed p = not_typed _ y v p
 
 -- ---- inputs, and what is told
-
--- what is found in a list has what each of the list has
-found_each : {A : Type 0} (P : A → Type 0) (test : A → Bool) (xs : List A) (x : A) → All P xs → find test xs ≡ Some x → P x
-found_each P test [] x all e = no_node x e
-found_each P test (y ∷ xs) x all e = by (test y) e (found_each P test xs x (All-tail P y xs all))
-  where
-    by : (b : Bool) → (if b then Some y else find test xs) ≡ Some x → (find test xs ≡ Some x → P x) → P x
-    by true r again = subst P (same_Some y x r) (All-head P y xs all)
-    by false r again = again r
-
-mapped : {A B : Type 0} (f : A → B) (o : Option A) (b : B) (P : B → Type 0) → ((a : A) → o ≡ Some a → P (f a)) → option_map f o ≡ Some b → P b
-mapped f None b P g e = no_node b e
-mapped f (Some a) b P g e = subst P (same_Some (f a) b e) (g a refl)
 
 inputs_typed : All (λ input. IsInputType input.1) inputs
 inputs_typed = All-from_recursion (λ input. IsInputType input.1) inputs (tt, (tt, (tt, (tt, (tt, (tt, (tt, (tt, tt))))))))

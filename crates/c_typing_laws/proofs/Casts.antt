@@ -26,12 +26,13 @@ use Rattle.c_typing.specs.Constants.{is_null_constant}
 use Rattle.c_typing.specs.Rows.{is_scalar, cond_type, cond_part, cond_row, cast_node, cast_row}
 use Rattle.c_typing.specs.Nodes.{given}
 use Rattle.c_typing.proofs.MadeMembers.{complete_is_told}
+use Rattle.c_typing.proofs.FormsGo.{no_some}
 use Rattle.c_typing_laws.specs.TypedValues.{IsTypedValue, IsTypedOperand}
 use Rattle.c_typing_laws.specs.NodeLaws.{ConditionalsAreTyped, CommasAreTyped, SizesAreTyped, CastsAreTyped, NumbersAreTyped, CharactersAreTyped}
 use Rattle.c_typing.proofs.Same.{one_but_const}
 use Rattle.c_typing_laws.proofs.Wide.{balanced_same}
 use Rattle.c_typing_laws.proofs.Values.{value_given, int_value, pointer_value, null_value, as_pointer_value, as_type_type}
-use Rattle.c_typing_laws.proofs.Operators.{no_node, made, proper_of, scalar_value}
+use Rattle.c_typing_laws.proofs.Operators.{made, proper_of, scalar_value}
 use Rattle.c_typing_laws.proofs.Places.{typed_is, not_typed, given_typed}
 
 -- ---- values that are not used
@@ -85,7 +86,7 @@ cast_null :
     (scope : Scope) (at : Pos) (to : CTypeTree) (c null : Bool) (x : TExprTree) → IsProperType scope.program.structs to
     → (if null then Some (Null at (Pointer to c)) else None) ≡ Some x → IsTypedValue scope x
 cast_null scope at to c true x proper r = made _ x r (null_value scope at to c proper)
-cast_null scope at to c false x proper r = no_node x r
+cast_null scope at to c false x proper r = no_some x r
 
 cast_by :
     (scope : Scope) (at : Pos) (target ty : CTypeTree) (e x : TExprTree) → IsProperType scope.program.structs target → IsTypedValue scope e → texpr_type e ≡ ty
@@ -94,7 +95,7 @@ cast_by scope at Void ty e x proper v p r = made _ x r (void_node scope at e v)
 cast_by scope at (Int t) (Int u) e x proper v p r = made _ x r (cast_same scope at (Int t) e v (int_value scope at u t e v p))
 cast_by scope at (Pointer to c) (Pointer from d) e x proper v p r = made _ x r (cast_same scope at (Pointer to c) e v (pointer_value scope at to from c d e v p proper))
 cast_by scope at (Pointer to c) (Int u) e x proper v p r = cast_null scope at to c (is_null_constant e) x proper r
-cast_by scope at target ty e x proper v p r = no_node x r
+cast_by scope at target ty e x proper v p r = no_some x r
 
 pub casts_are_typed : CastsAreTyped
 casts_are_typed w v scope at target c e y proper x p = given_typed scope _ _ w v y (λ n r. cast_by scope at target (texpr_type e) e n proper x refl r) p
@@ -152,7 +153,7 @@ has_type : {scope : Scope} {a b : TExprTree} (x ty : CTypeTree) → Some x ≡ S
 has_type {scope} {a} {b} x ty r h = subst (λ z. HasType scope z a b) (same_Some x ty r) h
 
 no_type : {P : Type 0} (ty : CTypeTree) → None ≡ Some ty → P
-no_type ty r = no_node ty r
+no_type ty r = no_some ty r
 
 -- by what is asked of two pointers: one target, a null constant on the right, one on the left, one to void
 pointers_by :
@@ -233,7 +234,7 @@ cond_node scope at test a b ty t s h =
 with_type :
     (scope : Scope) (at : Pos) (test a b e : TExprTree) (o : Option CTypeTree) → IsTypedValue scope test → is_scalar (texpr_type test) ≡ true
     → ((ty : CTypeTree) → o ≡ Some ty → HasType scope ty a b) → option_map (λ ty. Cond at ty test (cond_part ty a) (cond_part ty b)) o ≡ Some e → IsTypedValue scope e
-with_type scope at test a b e None t s f r = no_node e r
+with_type scope at test a b e None t s f r = no_some e r
 with_type scope at test a b e (Some ty) t s f r = made _ e r (cond_node scope at test a b ty t s (f ty refl))
 
 conditional_by :
@@ -266,7 +267,7 @@ number_fits ints.LLong n h = fits_signed_from_abs w64 (pos n) (omega arith)
 number_fits ints.ULLong n h = (omega (arith, ints), omega (arith, ints))
 
 first_holds : (n : ℕ) (types : List IntType) (t : IntType) → first_holding n types ≡ Some t → n ≤ greatest t
-first_holds n [] t e = no_node t e
+first_holds n [] t e = no_some t e
 first_holds n (u ∷ rest) t e = by (nat_le n (greatest u)) refl e (first_holds n rest t)
   where
     by : (b : Bool) → nat_le n (greatest u) ≡ b → (if b then Some u else first_holding n rest) ≡ Some t → (first_holding n rest ≡ Some t → n ≤ greatest t) → n ≤ greatest t
@@ -276,7 +277,7 @@ first_holds n (u ∷ rest) t e = by (nat_le n (greatest u)) refl e (first_holds 
 constant_by :
     (scope : Scope) (at : Pos) (c : Constant) (o : Option IntType) (e : TExprTree) → ((t : IntType) → o ≡ Some t → HasNumber t (pos c.value))
     → option_map (λ t. Const at t (pos c.value)) o ≡ Some e → IsTypedValue scope e
-constant_by scope at c None e f r = no_node e r
+constant_by scope at c None e f r = no_some e r
 constant_by scope at c (Some t) e f r = made _ e r (const_node scope at t (pos c.value) (f t refl))
 
 pub numbers_are_typed : NumbersAreTyped
@@ -294,7 +295,7 @@ characters_are_typed w v scope at byte y p =
 size_by :
     (scope : Scope) (at : Pos) (o : Option ℕ) (e : TExprTree) → ((size : ℕ) → o ≡ Some size → IsTold size)
     → option_map (λ size. Const at ints.ULong (pos size)) o ≡ Some e → IsTypedValue scope e
-size_by scope at None e f r = no_node e r
+size_by scope at None e f r = no_some e r
 size_by scope at (Some size) e f r = let told = f size refl in made _ e r (const_node scope at ints.ULong (pos size) (number_fits ints.ULong size (omega arith)))
 
 pub sizes_are_typed : SizesAreTyped

@@ -23,12 +23,12 @@ use Rattle.c_layout.specs.TypedNodes.{Scope}
 use Rattle.c_typing.specs.Operands.{complete_size}
 use Rattle.c_typing.specs.Rows.{CompoundTree, compound_integers, compound_shift, compound_move}
 use Rattle.c_typing.specs.Later.{IsLater}
+use Rattle.c_typing.proofs.FormsGo.{no_some}
 use Rattle.c_typing_laws.specs.TypedValues.{IsTypedValue}
 use Rattle.c_typing_laws.specs.RowLaws.{IsChange, ChangesAreTyped, StepsAreTyped}
 use Rattle.c_typing.proofs.Later.{size_later}
 use Rattle.c_typing_laws.proofs.Wide.{balanced_again}
 use Rattle.c_typing_laws.proofs.Values.{value_given, fits, as_int_value, as_int_type}
-use Rattle.c_typing_laws.proofs.Operators.{no_node}
 
 change_as : {scope : Scope} {target : CTypeTree} (x row : CompoundTree) → Some x ≡ Some row → IsChange scope target x → IsChange scope target row
 change_as {scope} {target} x row p c = subst (IsChange scope target) (same_Some x row p) c
@@ -39,13 +39,13 @@ integers_by :
 integers_by scope op (Int p) (Int u) e row v q r =
     let x = as_int_value scope (balanced p u) u e v q in
     change_as _ row r (record { value = x; row = (value_given scope _ x _ (as_int_type (balanced p u) u e q), balanced_again p u) })
-integers_by scope op target ty e row v q r = no_node row r
+integers_by scope op target ty e row v q r = no_some row r
 
 shift_by :
     (scope : Scope) (way : Shift) (target ty : CTypeTree) (e : TExprTree) (row : CompoundTree) → IsTypedValue scope e → texpr_type e ≡ ty
     → compound_shift way target ty e ≡ Some row → IsChange scope target row
 shift_by scope way (Int p) (Int u) e row v q r = change_as _ row r (record { value = v; row = (refl, fits scope e v IsInteger (Int u) q tt) })
-shift_by scope way target ty e row v q r = no_node row r
+shift_by scope way target ty e row v q r = no_some row r
 
 -- what a pointer moves by: the size of what it points to
 record IsMove (scope : Scope) (move : ℕ → TBinaryOp) : Type 0 where
@@ -55,7 +55,7 @@ pointer_by :
     (structs : List StructDefTree) (scope : Scope) (move : ℕ → TBinaryOp) (to : CTypeTree) (c : Bool) (u : IntType) (e : TExprTree) (size : Option ℕ) (row : CompoundTree)
     → IsLater structs scope.program.structs → IsMove scope move → IsTypedValue scope e → texpr_type e ≡ Int u → complete_size structs to ≡ size
     → option_map (λ s. record { op = move s; value = e }) size ≡ Some row → IsChange scope (Pointer to c) row
-pointer_by structs scope move to c u e None row later is v q s r = no_node row r
+pointer_by structs scope move to c u e None row later is v q s r = no_some row r
 pointer_by structs scope move to c u e (Some n) row later is v q s r =
     change_as _ row r (record { value = v; row = is.row n (Pointer to c) _ (size_later structs scope.program.structs later to n s, fits scope e v IsInteger (Int u) q tt) })
 
@@ -89,11 +89,11 @@ changes_are_typed structs scope assigns.BitOr target e row later v r = integers_
 element_by :
     (structs : List StructDefTree) (scope : Scope) (to : CTypeTree) (c : Bool) (size : Option ℕ) (stride : Stride) → IsLater structs scope.program.structs
     → complete_size structs to ≡ size → option_map (λ s. strides.Element s) size ≡ Some stride → StepRow scope.program.structs stride (Pointer to c)
-element_by structs scope to c None stride later s r = no_node stride r
+element_by structs scope to c None stride later s r = no_some stride r
 element_by structs scope to c (Some n) stride later s r =
     subst (λ x. StepRow scope.program.structs x (Pointer to c)) (same_Some (strides.Element n) stride r) (size_later structs scope.program.structs later to n s)
 
 pub steps_are_typed : StepsAreTyped
 steps_are_typed structs scope (Int p) stride later r = subst (λ x. StepRow scope.program.structs x (Int p)) (same_Some (strides.Int (balanced p ints.Int)) stride r) refl
 steps_are_typed structs scope (Pointer to c) stride later r = element_by structs scope to c (complete_size structs to) stride later refl r
-steps_are_typed structs scope target stride later r = no_node stride r
+steps_are_typed structs scope target stride later r = no_some stride r

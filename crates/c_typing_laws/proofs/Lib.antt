@@ -8,3 +8,4 @@ pub mod Assigns
 pub mod Casts
 pub mod Calls
 pub mod WholeExpressions
+pub mod WholePrograms

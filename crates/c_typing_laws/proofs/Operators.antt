@@ -2,7 +2,7 @@
 use Rattle.std.proofs.Common.{◌≡◌, ℕ, true, false, List, refl, ap, subst, inl, inr}
 use Rattle.std.specs.Prelude.{Bool, ◌||◌, ◌&&◌, if◌then◌else◌, Option, None, Some, option_map}
 use Rattle.std.proofs.lemmas.Bool.{false≢true, and_parts}
-use Rattle.std.proofs.lemmas.Option.{none-some, same_Some}
+use Rattle.std.proofs.lemmas.Option.{same_Some}
 use Rattle.c_written.specs.declared.place.Pos.{Pos}
 use Rattle.c_written.specs.declared.int_type.IntType.{IntType}
 use Rattle.c_written.specs.declared.written.BinaryOp.TheVariants as signs
@@ -28,6 +28,7 @@ use Rattle.c_typing.specs.Operands.{as_int, as_null, complete_size}
 use Rattle.c_typing.specs.Constants.{is_null_constant}
 use Rattle.c_typing.specs.Rows.{is_scalar, balanced_row, shift_row, moved_row, plus_row, minus_row, order_row, equality_row}
 use Rattle.c_typing.specs.Later.{IsLater}
+use Rattle.c_typing.proofs.FormsGo.{no_some}
 use Rattle.c_typing_laws.specs.TypedValues.{IsTypedValue}
 use Rattle.c_typing_laws.specs.RowLaws.{OperatorsAreTyped}
 use Rattle.c_typing.proofs.Later.{size_later}
@@ -38,9 +39,6 @@ use Rattle.c_typing_laws.proofs.Values.{value_given, fits, as_int_value, as_int_
 -- the node of a row that is there
 pub made : {scope : Scope} (x e : TExprTree) → Some x ≡ Some e → IsTypedValue scope x → IsTypedValue scope e
 made {scope} x e p v = subst (IsTypedValue scope) (same_Some x e p) v
-
-pub no_node : {P : Type 0} {A : Type 0} (e : A) → None ≡ Some e → P
-no_node e p = absurd (none-some e p)
 
 -- an operator on two typed values whose row they have
 node :
@@ -77,7 +75,7 @@ balanced_by :
     (scope : Scope) (at : Pos) (op : IntType → TBinaryOp) (s t : CTypeTree) (a b e : TExprTree) → AtIntegers scope op → IsTypedValue scope a → IsTypedValue scope b
     → texpr_type a ≡ s → texpr_type b ≡ t → balanced_row op at s t a b ≡ Some e → IsTypedValue scope e
 balanced_by scope at op (Int t) (Int u) a b e is v w p q r = made _ e r (on_integers scope at op t u a b is v w p q)
-balanced_by scope at op s t a b e is v w p q r = no_node e r
+balanced_by scope at op s t a b e is v w p q r = no_some e r
 
 shift_by :
     (scope : Scope) (at : Pos) (way : Shift) (s t : CTypeTree) (a b e : TExprTree) → IsTypedValue scope a → IsTypedValue scope b
@@ -86,12 +84,12 @@ shift_by scope at way (Int t) (Int u) a b e v w p q r =
     let x = as_int_value scope (promoted t) t a v p in
     made _ e r (node scope at (binaries.Shift way (promoted t)) _ b x w
     (value_given scope _ x _ (as_int_type (promoted t) t a p), promoted_same t, fits scope b w IsInteger (Int u) q tt) tt)
-shift_by scope at way s t a b e v w p q r = no_node e r
+shift_by scope at way s t a b e v w p q r = no_some e r
 
 -- ---- pointers that move
 
 told : {A : Type 0} (size : Option ℕ) (f : ℕ → TExprTree) (e : TExprTree) → option_map f size ≡ Some e → ((n : ℕ) → size ≡ Some n → f n ≡ e → A) → A
-told None f e r k = no_node e r
+told None f e r k = no_some e r
 told (Some n) f e r k = k n refl (same_Some (f n) e r)
 
 sized : (structs : List StructDefTree) (scope : Scope) (to : CTypeTree) (c : Bool) (n : ℕ) → IsLater structs scope.program.structs → complete_size structs to ≡ Some n → PointsToSize scope.program.structs (Pointer to c) n
@@ -134,7 +132,7 @@ minus_pointers structs scope at s t c d true a b e later v w p q same r =
     (fits scope a v (λ x. DifferenceRow scope.program.structs n x (given_type b)) (Pointer s c) p
     (fits scope b w (λ y. DifferenceRow scope.program.structs n (Pointer s c) y) (Pointer t d) q
     ((tt, ap (λ x. Pointer x false) (one_but_const s t same)), sized structs scope s c n later size))) tt))
-minus_pointers structs scope at s t c d false a b e later v w p q same r = no_node e r
+minus_pointers structs scope at s t c d false a b e later v w p q same r = no_some e r
 
 minus_by :
     (structs : List StructDefTree) (scope : Scope) (at : Pos) (s t : CTypeTree) (a b e : TExprTree) → IsLater structs scope.program.structs
@@ -170,7 +168,7 @@ order_pointers :
     → texpr_type a ≡ Pointer s c → texpr_type b ≡ Pointer t d → is_same_but_const s t ≡ one
     → (if one then Some (Binary at (binaries.ComparePointers op) a b) else None) ≡ Some e → IsTypedValue scope e
 order_pointers scope at op s t c d true a b e v w p q same r = made _ e r (compared scope at op (Pointer s c) (Pointer t d) a b v w p q (one_target op s t c d (one_but_const s t same)))
-order_pointers scope at op s t c d false a b e v w p q same r = no_node e r
+order_pointers scope at op s t c d false a b e v w p q same r = no_some e r
 
 order_by :
     (scope : Scope) (at : Pos) (op : Comparison) (s t : CTypeTree) (a b e : TExprTree) → IsTypedValue scope a → IsTypedValue scope b
@@ -218,7 +216,7 @@ void_pointers :
     → texpr_type a ≡ Pointer s c → texpr_type b ≡ Pointer t d → (is_void s || is_void t) ≡ void
     → (if void then Some (Binary at (binaries.ComparePointers op) a b) else None) ≡ Some e → IsTypedValue scope e
 void_pointers scope at op s t c d true a b e is v w p q h r = made _ e r (compared scope at op (Pointer s c) (Pointer t d) a b v w p q (is.row _ _ (void_either s t c d h)))
-void_pointers scope at op s t c d false a b e is v w p q h r = no_node e r
+void_pointers scope at op s t c d false a b e is v w p q h r = no_some e r
 
 null_pointers :
     (scope : Scope) (at : Pos) (op : Comparison) (s t : CTypeTree) (c d right left : Bool) (a b e : TExprTree) → IsEquality op → IsTypedValue scope a → IsTypedValue scope b
@@ -247,13 +245,13 @@ null_right :
     (scope : Scope) (at : Pos) (op : Comparison) (s : CTypeTree) (c null : Bool) (a b e : TExprTree) → IsEquality op → IsTypedValue scope a → texpr_type a ≡ Pointer s c
     → (if null then Some (Binary at (binaries.ComparePointers op) a (as_null (Pointer s c) b)) else None) ≡ Some e → IsTypedValue scope e
 null_right scope at op s c true a b e is v p r = made _ e r (with_null_right scope at op s c a b is v p)
-null_right scope at op s c false a b e is v p r = no_node e r
+null_right scope at op s c false a b e is v p r = no_some e r
 
 null_left :
     (scope : Scope) (at : Pos) (op : Comparison) (s : CTypeTree) (c null : Bool) (a b e : TExprTree) → IsEquality op → IsTypedValue scope b → texpr_type b ≡ Pointer s c
     → (if null then Some (Binary at (binaries.ComparePointers op) (as_null (Pointer s c) a) b) else None) ≡ Some e → IsTypedValue scope e
 null_left scope at op s c true a b e is w q r = made _ e r (with_null_left scope at op s c a b is w q)
-null_left scope at op s c false a b e is w q r = no_node e r
+null_left scope at op s c false a b e is w q r = no_some e r
 
 equality_by :
     (scope : Scope) (at : Pos) (op : Comparison) (s t : CTypeTree) (a b e : TExprTree) → IsEquality op → IsTypedValue scope a → IsTypedValue scope b
@@ -286,7 +284,7 @@ logical_by :
     → IsTypedValue scope a → IsTypedValue scope b → (is_scalar (texpr_type a) && is_scalar (texpr_type b)) ≡ both → (if both then Some (node a b) else None) ≡ Some e → IsTypedValue scope e
 logical_by scope node true a b e f v w h r =
     let p = and_parts (is_scalar (texpr_type a)) (is_scalar (texpr_type b)) h in made _ e r (f (scalar_value scope a v p.0, scalar_value scope b w p.1))
-logical_by scope node false a b e f v w h r = no_node e r
+logical_by scope node false a b e f v w h r = no_some e r
 
 -- ---- all of them
 

@@ -1,8 +1,8 @@
 -- Places that typed nodes name, and what is read there.
 use Rattle.std.proofs.Common.{◌≡◌, ℕ, zero, suc, true, false, List, [], ◌∷◌, refl, ap, sym, subst, ◌∙◌}
-use Rattle.std.specs.Prelude.{◌<◌, Bool, if◌then◌else◌, IsTrue, Option, None, Some, option_map, unwrap_or, IsSomeAnd, All, position, slice_get, bytes_eq}
+use Rattle.std.specs.Prelude.{◌<◌, Bool, if◌then◌else◌, IsTrue, Option, None, Some, option_map, IsSomeAnd, All, position, slice_get, bytes_eq}
 use Rattle.std.proofs.lemmas.Option.{same_Some, option_and_then_some}
-use Rattle.std.proofs.lemmas.List.Elements.{All-nil, All-head, All-tail}
+use Rattle.std.proofs.lemmas.List.Elements.{All-head, All-tail}
 use Rattle.c_written.specs.declared.place.Pos.{Pos}
 use Rattle.c_written.specs.declared.written.UnaryOp.TheVariants as prefixes
 use Rattle.c_written.specs.declared.int_type.IntType.{IntType}
@@ -21,18 +21,20 @@ use Rattle.c_layout.specs.Tables.{IsTypedTable, IsTypedMember}
 use Rattle.c_layout.specs.ProperTypes.{IsProperType, IsTold}
 use Rattle.c_layout.specs.RowTypes.{IsScalar, UnaryRow, is_declared_const}
 use Rattle.c_layout.specs.TypedNodes.{Scope, IsArray, IsStruct, IsTypedExpr, IsTypedPlace, AreTyped, VarRow}
+use Rattle.c_layout.proofs.ScalarMembers.{members_typed}
 use Rattle.c_typing.specs.World.{World, Refusal, Typed, Refused, unless}
 use Rattle.c_typing.specs.Operands.{OperandTree, Place, Value, read_by, value_of, is_unsized}
 use Rattle.c_typing.specs.Rows.{is_scalar, unary_row, star_row, plus_row, member_node, member_at, member_row, arrow_row, index_row}
 use Rattle.c_typing.specs.Nodes.{given, given_place}
 use Rattle.c_typing.specs.Later.{has_members}
 use Rattle.c_typing.specs.Later.{IsLater}
+use Rattle.c_typing.proofs.FormsGo.{no_some}
 use Rattle.c_typing_laws.specs.TypedValues.{IsTypedValue, IsObjectType, IsTypedLvalue, IsTypedOperand}
 use Rattle.c_typing_laws.specs.NodeLaws.{ReadsAreTyped, PrefixesAreTyped, BinariesAreTyped, IndexesAreTyped, MembersAreTyped, ArrowsAreTyped, ObjectsAreTyped}
 use Rattle.c_typing.proofs.Later.{members_later}
 use Rattle.c_typing_laws.proofs.Wide.{promoted_same}
 use Rattle.c_typing_laws.proofs.Values.{value_given, as_int_value, as_int_type}
-use Rattle.c_typing_laws.proofs.Operators.{no_node, made, proper_of, plus_typed, scalar_value, operators_are_typed}
+use Rattle.c_typing_laws.proofs.Operators.{made, proper_of, plus_typed, scalar_value, operators_are_typed}
 
 -- ---- outcomes of nodes
 
@@ -55,9 +57,6 @@ pub place_typed :
     → given_place r row w ≡ Typed y v → IsTypedOperand scope y
 place_typed scope r None w v y f p = not_typed r y v p
 place_typed scope r (Some place) w v y f p = subst (IsTypedOperand scope) (typed_is (Place place) y w v p) (f place refl)
-
-pub no_place : {P : Type 0} (place : TLvalueTree) → None ≡ Some place → P
-no_place place p = no_node place p
 
 -- ---- what is read
 
@@ -94,12 +93,12 @@ reads_are_typed scope (Value e) t = t
 
 -- what has a size and is no function is the type of an object
 pub sized_object : (structs : List StructDefTree) (ty : CTypeTree) (size : ℕ) → size_in structs ty ≡ Some size → IsObjectType ty
-sized_object structs Void size e = no_node size e
+sized_object structs Void size e = no_some size e
 sized_object structs (Int t) size e = tt
 sized_object structs (Pointer to c) size e = tt
 sized_object structs (Array of c n) size e = tt
 sized_object structs (Struct n) size e = tt
-sized_object structs (Function n) size e = no_node size e
+sized_object structs (Function n) size e = no_some size e
 
 pub objects_are_typed : ObjectsAreTyped
 unfolding IsTypedExpr IsTypedPlace AreTyped
@@ -131,7 +130,7 @@ not_void ty object e = subst IsObjectType e object
 pub star_by :
     (scope : Scope) (kind : DerefKind) (at : Pos) (ty : CTypeTree) (e : TExprTree) (place : TLvalueTree) → IsTypedValue scope e → texpr_type e ≡ ty
     → star_row kind at ty e ≡ Some place → IsTypedLvalue scope place
-star_by scope kind at (Pointer Void c) e place v p r = no_place place r
+star_by scope kind at (Pointer Void c) e place v p r = no_some place r
 star_by scope kind at (Pointer (Int t) c) e place v p r =
     subst (IsTypedLvalue scope) (same_Some _ place r) (deref scope kind at (Int t) c e v p (not_void (Int t) tt) tt)
 star_by scope kind at (Pointer (Pointer to d) c) e place v p r =
@@ -141,7 +140,7 @@ star_by scope kind at (Pointer (Array of d n) c) e place v p r =
 star_by scope kind at (Pointer (Struct n) c) e place v p r =
     subst (IsTypedLvalue scope) (same_Some _ place r) (deref scope kind at (Struct n) c e v p (not_void (Struct n) tt) tt)
 star_by scope kind at (Pointer (Function n) c) e place v p r = absurd (no_function scope.program.structs n (proper_of scope e v (Pointer (Function n) c) p))
-star_by scope kind at ty e place v p r = no_place place r
+star_by scope kind at ty e place v p r = no_some place r
 
 pub star_typed :
     (scope : Scope) (kind : DerefKind) (at : Pos) (e : TExprTree) (place : TLvalueTree) → IsTypedValue scope e → star_row kind at (texpr_type e) e ≡ Some place → IsTypedLvalue scope place
@@ -166,13 +165,13 @@ sign_by :
 sign_by scope at op (Int t) e x is v p r =
     let y = as_int_value scope (promoted t) t e v p in
     made _ x r (unary_node scope at (op (promoted t)) _ y (is.row (promoted t) _ (value_given scope _ y _ (as_int_type (promoted t) t e p), promoted_same t)) (is.proper (promoted t)))
-sign_by scope at op ty e x is v p r = no_node x r
+sign_by scope at op ty e x is v p r = no_some x r
 
 not_by :
     (scope : Scope) (at : Pos) (scalar : Bool) (e x : TExprTree) → IsTypedValue scope e → is_scalar (texpr_type e) ≡ scalar
     → (if scalar then Some (Unary at unaries.Not e) else None) ≡ Some x → IsTypedValue scope x
 not_by scope at true e x v p r = made _ x r (unary_node scope at unaries.Not e v (scalar_value scope e v p) tt)
-not_by scope at false e x v p r = no_node x r
+not_by scope at false e x v p r = no_some x r
 
 address_node : (scope : Scope) (at : Pos) (place : TLvalueTree) → IsTypedLvalue scope place → IsTypedValue scope (AddressOf at place)
 unfolding IsTypedExpr IsTypedPlace AreTyped
@@ -211,20 +210,13 @@ indexes_are_typed w v scope at a b y later x z p = place_typed scope _ _ w v y (
 -- ---- members
 
 member_is : (xs : List MemberTree) (k : ℕ) (m : MemberTree) → slice_get xs k ≡ Some m → IsTrue (has_members xs)
-member_is [] k m e = no_node m e
+member_is [] k m e = no_some m e
 member_is (x ∷ xs) k m e = refl
 
 each_member : (structs : List StructDefTree) (members : List MemberTree) (k : ℕ) (m : MemberTree) → All (IsTypedMember structs) members → slice_get members k ≡ Some m → IsTypedMember structs m
-each_member structs [] k m all e = no_node m e
+each_member structs [] k m all e = no_some m e
 each_member structs (x ∷ rest) zero m all e = subst (IsTypedMember structs) (same_Some x m e) (All-head (IsTypedMember structs) x rest all)
 each_member structs (x ∷ rest) (suc k) m all e = each_member structs rest k m (All-tail (IsTypedMember structs) x rest all) e
-
-each_struct :
-    (structs all : List StructDefTree) (n : ℕ) → All (λ def. All (IsTypedMember structs) def.members) all
-    → All (IsTypedMember structs) (unwrap_or (option_map (λ def. def.members) (slice_get all n)) [])
-each_struct structs [] n h = All-nil (IsTypedMember structs)
-each_struct structs (def ∷ rest) zero h = All-head (λ d. All (IsTypedMember structs) d.members) def rest h
-each_struct structs (def ∷ rest) (suc n) h = each_struct structs rest n (All-tail (λ d. All (IsTypedMember structs) d.members) def rest h)
 
 member_sized : (structs : List StructDefTree) (m : MemberTree) (o : Option ℕ) → size_in structs m.ty ≡ o → IsSomeAnd o (λ size. (0 < size) × IsTold size) → IsObjectType m.ty
 member_sized structs m None e h = absurd h
@@ -235,7 +227,7 @@ member_place :
     → tlvalue_type place ≡ Struct n → slice_get (members_of scope.program.structs n) k ≡ Some m → IsTypedLvalue scope (member_node at place k m)
 unfolding IsTypedExpr IsTypedPlace AreTyped
 member_place scope at place n k m table t p e =
-    let typed = each_member scope.program.structs (members_of scope.program.structs n) k m (each_struct scope.program.structs scope.program.structs n table.members) e in record {
+    let typed = each_member scope.program.structs (members_of scope.program.structs n) k m (members_typed scope.program.structs scope.program.structs n table.members) e in record {
       typed = (
         t.typed,
         record {
@@ -255,7 +247,7 @@ found_member :
     (structs : List StructDefTree) (scope : Scope) (at : Pos) (place found : TLvalueTree) (n k : ℕ) (o : Option MemberTree) → IsLater structs scope.program.structs
     → IsTypedTable scope.program.structs → IsTypedLvalue scope place → tlvalue_type place ≡ Struct n → slice_get (members_of structs n) k ≡ o
     → option_map (member_node at place k) o ≡ Some found → IsTypedLvalue scope found
-found_member structs scope at place found n k None later table t p e r = no_place found r
+found_member structs scope at place found n k None later table t p e r = no_some found r
 found_member structs scope at place found n k (Some m) later table t p e r =
     subst (IsTypedLvalue scope) (same_Some _ found r)
     (member_place scope at place n k m table t p (ap (λ members. slice_get members k) (members_later structs scope.program.structs later n (member_is (members_of structs n) k m e)) ∙ e))
@@ -266,7 +258,7 @@ member_by :
 member_by structs scope at name (Struct n) place found later table t p r =
     option_and_then_some (member_at (members_of structs n) at place) (position (λ m. bytes_eq m.name name) (members_of structs n)) found r
     (λ k q s. found_member structs scope at place found n k (slice_get (members_of structs n) k) later table t p refl s)
-member_by structs scope at name ty place found later table t p r = no_place found r
+member_by structs scope at name ty place found later table t p r = no_some found r
 
 pub members_are_typed : MembersAreTyped
 members_are_typed w v scope at name (Value e) y later table t p = not_typed _ y v p

@@ -15,12 +15,12 @@ use Rattle.c_typing.specs.Operands.{as_type, as_null, complete_size}
 use Rattle.c_typing.specs.Constants.{is_null_constant}
 use Rattle.c_typing.specs.Rows.{store_row, stored_row, extent_of, Stored, Scalar, Copied}
 use Rattle.c_typing.specs.Later.{IsLater}
+use Rattle.c_typing.proofs.FormsGo.{no_some}
 use Rattle.c_typing_laws.specs.TypedValues.{IsTypedValue}
 use Rattle.c_typing_laws.specs.RowLaws.{IsStored, IsPut, ValuesAreStored, ValuesArePut}
 use Rattle.c_typing.proofs.Later.{size_later, align_later}
 use Rattle.c_typing.proofs.Same.{one_type}
 use Rattle.c_typing_laws.proofs.Values.{value_given, as_int_value, as_int_type, as_pointer_value, as_type_type, null_value}
-use Rattle.c_typing_laws.proofs.Operators.{no_node}
 
 -- a value of the type that is stored
 stored_same : (scope : Scope) (ty : CTypeTree) (e : TExprTree) → IsScalar ty → IsTypedValue scope e → texpr_type e ≡ ty → IsStored scope ty e
@@ -38,13 +38,13 @@ stored_pointer :
 stored_pointer scope to from c d true allowed e value v proper p r = stored_as _ value r (stored_null scope to c e proper)
 stored_pointer scope to from c d false true e value v proper p r =
     stored_as _ value r (stored_same scope (Pointer to c) _ tt (as_pointer_value scope to from c d e v p proper) (as_type_type (Pointer to c) e))
-stored_pointer scope to from c d false false e value v proper p r = no_node value r
+stored_pointer scope to from c d false false e value v proper p r = no_some value r
 
 null_pointer :
     (scope : Scope) (to : CTypeTree) (c null : Bool) (e value : TExprTree) → IsProperType scope.program.structs to
     → (if null then Some (as_null (Pointer to c) e) else None) ≡ Some value → IsStored scope (Pointer to c) value
 null_pointer scope to c true e value proper r = stored_as _ value r (stored_null scope to c e proper)
-null_pointer scope to c false e value proper r = no_node value r
+null_pointer scope to c false e value proper r = no_some value r
 
 pub store_by :
     (scope : Scope) (target ty : CTypeTree) (e value : TExprTree) → IsTypedValue scope e → IsProperType scope.program.structs target → texpr_type e ≡ ty
@@ -52,7 +52,7 @@ pub store_by :
 store_by scope (Int t) (Int u) e value v proper p r = stored_as _ value r (stored_same scope (Int t) _ tt (as_int_value scope t u e v p) (as_int_type t u e p))
 store_by scope (Pointer to c) (Pointer from d) e value v proper p r = stored_pointer scope to from c d (is_null_constant e) _ e value v proper p r
 store_by scope (Pointer to c) (Int u) e value v proper p r = null_pointer scope to c (is_null_constant e) e value proper r
-store_by scope target ty e value v proper p r = no_node value r
+store_by scope target ty e value v proper p r = no_some value r
 
 pub values_are_stored : ValuesAreStored
 values_are_stored scope target e value v proper r = store_by scope target (texpr_type e) e value v proper refl r
@@ -62,7 +62,7 @@ values_are_stored scope target e value v proper r = store_by scope target (texpr
 scalar_put :
     (scope : Scope) (target : CTypeTree) (o : Option TExprTree) (stored : Stored) → ((value : TExprTree) → o ≡ Some value → IsStored scope target value)
     → option_map Scalar o ≡ Some stored → IsPut scope target stored
-scalar_put scope target None stored f r = no_node stored r
+scalar_put scope target None stored f r = no_some stored r
 scalar_put scope target (Some value) stored f r = subst (IsPut scope target) (same_Some (Scalar value) stored r) (f value refl)
 
 copied :
@@ -70,7 +70,7 @@ copied :
     → IsTypedValue scope e → texpr_type e ≡ Struct n → complete_size structs (Struct n) ≡ size
     → option_map (λ extent. Copied extent e) (option_map (λ s. record { size = s; align = align_in structs (Struct n) }) size) ≡ Some stored
     → IsPut scope (Struct n) stored
-copied structs scope n e None stored later v p q r = no_node stored r
+copied structs scope n e None stored later v p q r = no_some stored r
 copied structs scope n e (Some s) stored later v p q r =
     subst (IsPut scope (Struct n)) (same_Some _ stored r) (
       v,
@@ -89,7 +89,7 @@ put_struct :
     → (if same then option_map (λ extent. Copied extent e) (extent_of structs (Struct m)) else None) ≡ Some stored → IsPut scope (Struct m) stored
 put_struct structs scope m n true e stored later v p q r =
     copied structs scope m e (complete_size structs (Struct m)) stored later v (p ∙ sym (one_type (Struct m) (Struct n) q)) refl r
-put_struct structs scope m n false e stored later v p q r = no_node stored r
+put_struct structs scope m n false e stored later v p q r = no_some stored r
 
 put_by :
     (structs : List StructDefTree) (scope : Scope) (target ty : CTypeTree) (e : TExprTree) (stored : Stored) → IsLater structs scope.program.structs

@@ -50,5 +50,5 @@ pub record EndsFrom (w : World) (scope : Scope) : Type 0 where
 -- an expression between the declarations of a file, where the names in scope may be used (C11 6.5)
 abbrev pub ExpressionsAreTyped : Type 0
 ExpressionsAreTyped =
-    (around : Context) (before : List OuterTree) (w v : World) (scope : Scope) (e : ExprTree) (x : OperandTree) → TypesOuters nothing_yet around before (Typed tt w)
-    → AreUsable w scope → Types w e (Typed x v) → EndsFrom v scope → IsTypedOperand scope x
+    (around : Context) (before : List OuterTree) (w v : World) (scope : Scope) (e : ExprTree) (x : OperandTree)
+    → TypesOuters nothing_yet around before (Typed tt w) → AreUsable w scope → Types w e (Typed x v) → EndsFrom v scope → IsTypedOperand scope x

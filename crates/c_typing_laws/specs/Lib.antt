@@ -2,3 +2,4 @@ pub mod TypedValues
 pub mod RowLaws
 pub mod NodeLaws
 pub mod ExpressionLaws
+pub mod ProgramLaws

@@ -1,0 +1,14 @@
+// The laws of whole programs.
+#![tactic(auto)]
+
+ghost use Rattle.c_typing_laws.specs.ProgramLaws.{InitialsAreGiven, TablesAreTyped};
+
+/// The structs of a program are laid out, with members that are complete and not too large (C11 6.7.2.1).
+pub fn tables_are_typed()
+    ensures { TablesAreTyped }
+{}
+
+/// Each object of static duration has one initial value, and nothing else has one (C11 6.7.9p10).
+pub fn initials_are_given()
+    ensures { InitialsAreGiven }
+{}
