@@ -1,0 +1,4 @@
+pub mod Forms
+mod Known
+mod Lists
+mod Stays
