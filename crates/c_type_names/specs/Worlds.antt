@@ -1,5 +1,5 @@
 -- The program so far as the code holds it, and what a call on it comes to.
-use Rattle.std.specs.Prelude.{◌≡◌, List, map, length, Option, Some, None, IfSome, Result, Ok, Err}
+use Rattle.std.specs.Prelude.{◌≡◌, map, length, Option, Some, None, IfSome, Result, Ok, Err}
 use Rattle.c_syntax.specs.Types.{ctype_tree, object_tree}
 use Rattle.c_syntax.specs.Program.{structdef_tree, tfunction_tree}
 use Rattle.c_typing.specs.World as typing
