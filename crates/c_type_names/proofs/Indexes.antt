@@ -1,17 +1,17 @@
 -- A map from each name to its places, where one name more comes or the last one goes.
-use Rattle.std.proofs.Common.{◌≡◌, refl, sym, ap, subst, ◌∙◌, ℕ, ◌+◌, ◌-◌, arith, Bool, true, false, cond, List, [], ◌∷◌, ◌++◌, length, length-append, take, Option, Some, None, ◌⊎◌, inl, inr}
+use Rattle.std.proofs.Common.{◌≡◌, sym, ap, subst, ◌∙◌, ℕ, ◌+◌, ◌-◌, arith, Bool, true, false, List, [], ◌∷◌, ◌++◌, length, length-append, take, Option, Some, ◌⊎◌, inl, inr}
 use Rattle.std.specs.Prelude.{if◌then◌else◌}
 use Rattle.std.specs.Option.{option_map_or}
 use Rattle.std.specs.Bool.{nat_eq}
 use Rattle.std.specs.Cmp.Lexicographic.{pointwise, bytes_decides, nat_list_eq_equiv}
 use Rattle.std.specs.Str.{bytes_eq}
-use Rattle.std.specs.HashMap.{HashMap, get_by, UpdatesBy}
+use Rattle.std.specs.HashMap.{HashMap, UpdatesBy}
 use Rattle.std.specs.Map.{lookup, IsKeyTest, AreApart, KeepsOthers}
 use Rattle.std.specs.declared.vec.Vec.{Vec}
 use Rattle.std.specs.declared.alloc.Global.{Global}
-use Rattle.std.proofs.lemmas.Bool.{cases_Bool, cond-true, cond-false}
+use Rattle.std.proofs.lemmas.Bool.{cases_Bool}
 use Rattle.std.proofs.lemmas.List.{append-nil, take_at}
-use Rattle.c_type_names.specs.Places.{places_of, places_from}
+use Rattle.c_type_names.specs.Places.{places_of}
 use Rattle.c_type_names.specs.Kept.{places_at, IsIndexOf}
 use Rattle.c_type_names.proofs.Places.{places-append}
 

@@ -1,5 +1,5 @@
 -- The program so far as the code holds it, and what a call on it comes to.
-use Rattle.std.specs.Prelude.{◌≡◌, List, map, length, Option, Some, None, IfSome, Result, Ok, Err}
+use Rattle.std.specs.Prelude.{◌≡◌, map, length, Option, Some, None, IfSome, Result, Ok, Err}
 use Rattle.c_syntax.specs.Types.{ctype_tree, object_tree}
 use Rattle.c_syntax.specs.Program.{structdef_tree, tfunction_tree}
 use Rattle.c_typing.specs.World as typing
@@ -11,7 +11,7 @@ use Rattle.c_type_names.specs.Trees.{binding_tree, tag_tree, linked_tree, labell
 
 abbrev pub world_of : World → typing.World
 world_of w = record {
-  structs = map structdef_tree w.structs.items;
+  structs = map structdef_tree w.structs;
   objects = map object_tree w.objects.items;
   functions = map tfunction_tree w.functions.items;
   signatures = map (λ params. map ctype_tree params.items) w.signatures.items;

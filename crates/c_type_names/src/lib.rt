@@ -14,9 +14,10 @@
 //! |---|---|---|
 //! | a list, looked up by name | `specs/Places.antt`, `specs/Kept.antt` | `Table` |
 //! | what names and tags stand for | `specs/Trees.antt` | - |
-//! | names in scope | `Names` of `c_typing` | `meaning_of`, `declared_here`, `first_here`, `declare`, `linked_as` |
+//! | names in scope | `Names` of `c_typing` | `meaning_of`, `declared_here`, `first_here`, `declare`, `linked_as`, `link` |
 //! | scopes | `Names` of `c_typing` | `open`, `close` |
-//! | tags | `Names` of `c_typing` | `tag_in_scope`, `tag_here`, `struct_named`, `struct_opened`, `enum_named`, `enum_opened`, `enum_closed` |
+//! | tags | `Names` of `c_typing` | `tag_in_scope`, `tag_here`, `add_tag`, `redefine` |
+//! | structs and enumerations by their tags | `Names` of `c_typing` | `struct_named`, `struct_opened`, `enum_named`, `enum_opened`, `enum_closed` |
 //! | objects, limits, literals | `Names` of `c_typing` | `check_size`, `add_object`, `add_initial`, `add_literal` |
 //! | names that need no declaration | `Names` of `c_typing` | `input_type`, `is_reserved` |
 #![tactic(auto)]

@@ -5,9 +5,10 @@ ghost use Rattle.std.specs.Prelude.{◌≡◌};
 use crate::error::NameError;
 use crate::types::{TagBinding, TagMeaning};
 use crate::world::World;
-use c_syntax::{Members, StructDef};
+use c_syntax::{Members, StructDef, StructDefs};
 use c_written::{Name, Pos, Tag};
 use std::alloc::AllocError as NoMemory;
+use std::mem;
 
 impl World {
     ghost use Rattle.std.specs.Prelude.{◌≡◌, ◌<◌, length, map, Some, None, OnOk};
@@ -20,17 +21,21 @@ impl World {
     fn add_struct(&mut self, tag: Name) -> Result<(), NoMemory>
         ensures { OnOk result (world_of self.new ≡ names.with_struct (world_of self.old) tag) }
     {
-        self.structs.push(StructDef {
+        let members = Members::new(self.alloc);
+        let none = StructDefs::new(self.alloc);
+        let mut structs = mem::replace(&mut self.structs, none).into_vec();
+        structs.push(StructDef {
             tag,
-            members: Members::new(self.alloc),
+            members,
             size: 0,
             align: 1,
         })?;
+        self.structs = StructDefs::from_vec(structs);
         Ok(())
     }
 
     /// Puts a tag into the innermost scope. After want of memory the program is only dropped.
-    pub(crate) fn add_tag(
+    pub fn add_tag(
         &mut self,
         tag: &Tag,
         defined: Option<Pos>,
@@ -51,7 +56,7 @@ impl World {
     fn new_struct(&mut self, tag: &Tag, defined: Option<Pos>) -> Result<u64, NameError>
         ensures { ComesTo (names.new_struct (world_of self.old) tag.now defined) (world_of self.new) result }
     {
-        let number = self.structs.len() as u64;
+        let number = self.structs.as_slice().len() as u64;
         self.add_struct(tag.name.copy()?)?;
         self.add_tag(tag, defined, TagMeaning::Struct(number))?;
         Ok(number)
@@ -106,7 +111,7 @@ impl World {
     fn nameless_struct(&mut self) -> Result<u64, NameError>
         ensures { ComesTo (names.struct_opened (world_of self.old) None) (world_of self.new) result }
     {
-        let number = self.structs.len() as u64;
+        let number = self.structs.as_slice().len() as u64;
         let nameless = Name::new(self.alloc);
         self.add_struct(nameless)?;
         Ok(number)
@@ -142,7 +147,7 @@ impl World {
 
     /// The tags of this name in the innermost scope now have this place of their definition and this
     /// meaning. After want of memory the program is only dropped.
-    pub(crate) fn redefine(
+    pub fn redefine(
         &mut self,
         tag: &[u8],
         defined: Option<Pos>,

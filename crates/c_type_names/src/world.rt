@@ -5,7 +5,7 @@ ghost use Rattle.std.specs.Prelude.{◌≡◌, ◌≤◌};
 use crate::reserved::is_reserved;
 use crate::table::Table;
 use crate::types::{Binding, CaseAt, Labelled, Linked, Meaning, TagBinding};
-use c_syntax::{CType, Initial, Object, StructDef, TFunction};
+use c_syntax::{CType, Initial, Object, StructDefs, TFunction};
 use c_written::{Name, Pos};
 use std::alloc::{AllocError as NoMemory, Global};
 
@@ -13,7 +13,7 @@ use std::alloc::{AllocError as NoMemory, Global};
 #[derive(Drop)]
 pub struct World {
     pub(crate) alloc: Global,
-    pub structs: Vec<StructDef>,
+    pub structs: StructDefs,
     pub objects: Vec<Object>,
     pub functions: Vec<TFunction>,
     /// The types of each function's parameters.
@@ -44,7 +44,7 @@ pub struct Scope {
 }
 
 impl World {
-    ghost use Rattle.std.specs.Prelude.{◌≡◌, OnOk};
+    ghost use Rattle.std.specs.Prelude.{◌≡◌, [], ◌∷◌, ◌++◌, map, OnOk};
     ghost use Rattle.std.specs.Option.{option_map};
     ghost use Rattle.c_typing.specs.File.{nothing_yet};
     ghost use Rattle.c_typing.specs.Names as names;
@@ -58,7 +58,7 @@ impl World {
     {
         World {
             alloc,
-            structs: Vec::new(alloc),
+            structs: StructDefs::new(alloc),
             objects: Vec::new(alloc),
             functions: Vec::new(alloc),
             signatures: Vec::new(alloc),
@@ -116,6 +116,16 @@ impl World {
             pos: at,
             meaning,
         })?;
+        Ok(())
+    }
+
+    /// Adds an object or a function of the file, by its name. After want of memory the program is only
+    /// dropped.
+    pub fn link(&mut self, linked: Linked) -> Result<(), NoMemory>
+        ensures { OnOk result (world_of self.new
+            ≡ record (world_of self.old) { linked = map linked_tree self.old.linked ++ linked_tree linked ∷ [] }) }
+    {
+        self.linked.push(linked)?;
         Ok(())
     }
 

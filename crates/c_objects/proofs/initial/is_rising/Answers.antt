@@ -1,4 +1,4 @@
-use Rattle.std.proofs.Common.{◌≡◌, ◌+◌, ◌≤◌, sym, ap, subst, ◌∙◌, arith, drop, map}
+use Rattle.std.proofs.Common.{◌+◌, ◌≤◌, sym, subst, arith, drop, map}
 use Rattle.std.proofs.lemmas.List.{drop_all}
 use Rattle.c_syntax.specs.TypedStmt.{tinit_tree}
 use Rattle.c_layout.specs.TypedNodes.{init_start}

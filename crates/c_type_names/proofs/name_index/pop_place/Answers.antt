@@ -1,7 +1,7 @@
-use Rattle.std.proofs.Common.{◌≡◌, ap, sym, subst, ◌∙◌, ◌+◌, ◌-◌, arith, rules, List, [], ◌∷◌, ◌++◌, length, length-append, take}
+use Rattle.std.proofs.Common.{◌≡◌, ap, ◌∙◌, ◌+◌, ◌-◌, arith, rules, [], ◌∷◌, length, length-append, take}
 use Rattle.std.specs.Prelude.{vec_len}
 use Rattle.std.specs.Option.{option_map_or}
-use Rattle.c_type_names.specs.Kept.{places_at, IsIndexOf}
+use Rattle.c_type_names.specs.Kept.{places_at}
 use Rattle.c_type_names.specs.Places.{places_of}
 use Rattle.c_type_names.proofs.Indexes.{one_less, places_before}
 use Rattle.c_type_names.proofs.name_index.pop_place.Goals as goal

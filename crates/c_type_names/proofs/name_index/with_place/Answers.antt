@@ -1,6 +1,5 @@
-use Rattle.std.proofs.Common.{◌≡◌, ap, sym, subst, ◌∙◌, rules, List, [], ◌∷◌, ◌++◌, length}
+use Rattle.std.proofs.Common.{ap, sym, subst, ◌∙◌, rules, [], ◌∷◌, ◌++◌, length}
 use Rattle.std.specs.Option.{option_map_or}
-use Rattle.std.specs.declared.vec.Vec.{Vec}
 use Rattle.c_type_names.specs.Kept.{places_at, IsIndexOf}
 use Rattle.c_type_names.proofs.Indexes.{one_more}
 use Rattle.c_type_names.proofs.name_index.with_place.Goals as goal

@@ -1,9 +1,9 @@
-use Rattle.std.proofs.Common.{◌≡◌, ltb, ap, sym, ◌∙◌, rules, [], List, ℕ}
+use Rattle.std.proofs.Common.{◌≡◌, ltb, ap, sym, ◌∙◌, rules, []}
 use Rattle.std.specs.Prelude.{slice_get, find, nat_le}
-use Rattle.std.specs.Option.{option_map_or, option_copied}
+use Rattle.std.specs.Option.{option_map_or}
 use Rattle.std.specs.List.Sorted.{IsPartitionedBy}
 use Rattle.std.proofs.lemmas.List.Sorted.{IsPartitionPoint-from_clause}
-use Rattle.c_type_names.specs.Places.{places_of, first_place}
+use Rattle.c_type_names.specs.Places.{places_of}
 use Rattle.c_type_names.proofs.Places.{parted, at_point, got}
 use Rattle.c_type_names.proofs.name_index.NameIndex.first_from.Goals as goal
 

@@ -1,8 +1,8 @@
-use Rattle.std.proofs.Common.{◌≡◌, sym, ap, ◌∙◌}
+use Rattle.std.proofs.Common.{sym, ap, ◌∙◌}
 use Rattle.std.specs.Option.{option_map}
 use Rattle.std.specs.Str.{bytes_eq}
-use Rattle.c_type_names.specs.Trees.{binding_tree, meaning_tree, linked_tree}
-use Rattle.c_type_names.proofs.Found.{first_tree, last_tree, found_tree}
+use Rattle.c_type_names.specs.Trees.{binding_tree}
+use Rattle.c_type_names.proofs.Found.{first_tree}
 use Rattle.c_type_names.proofs.world.World.declared_here.Goals as goal
 
 pub returns-in-Some : goal.returns-in-Some

@@ -1,4 +1,4 @@
-use Rattle.std.proofs.Common.{◌≡◌, ◌+◌, ◌<◌, ◌≤◌, sym, ap, ◌∙◌, arith, length, map}
+use Rattle.std.proofs.Common.{◌≡◌, ◌+◌, sym, ap, ◌∙◌, arith, length, map}
 use Rattle.std.proofs.lemmas.List.{length-map}
 use Rattle.c_typing.specs.World as typing
 use Rattle.c_type_names.specs.Trees.{redefined_at, tag_meaning, tag_tree}

@@ -1,4 +1,4 @@
-use Rattle.std.proofs.Common.{◌≡◌, ap, ◌∙◌, ℕ, List, map}
+use Rattle.std.proofs.Common.{ap, ◌∙◌, ℕ, List, map}
 use Rattle.c_typing.specs.World.{TagBinding}
 use Rattle.c_type_names.specs.Trees.{tag_meaning, tag_tree}
 use Rattle.c_type_names.specs.Worlds.{world_of}
