@@ -19,7 +19,7 @@
 //! | members of structs | `NodeLaws` | `members_are_typed`, `arrows_are_typed` |
 //! | nodes that change a place | `NodeLaws` | `assignments_are_typed`, `compounds_are_typed`, `stepped_are_typed` |
 //! | `?:`, `,`, casts, sizes | `NodeLaws` | `conditionals_are_typed`, `commas_are_typed`, `casts_are_typed`, `sizes_are_typed` |
-//! | whole programs | `ProgramLaws` | `tables_are_typed`, `initials_are_given` |
+//! | whole programs | `ProgramLaws` | `tables_are_typed`, `initials_are_given`, `names_are_distinct` |
 //! | whole expressions | `ExpressionLaws` | `expressions_are_typed` |
 //! | calls and constants | `NodeLaws` | `calls_are_typed`, `numbers_are_typed`, `characters_are_typed` |
 #![tactic(auto)]
@@ -36,7 +36,7 @@ pub use nodes::{
     indexes_are_typed, members_are_typed, numbers_are_typed, objects_are_typed, prefixes_are_typed,
     reads_are_typed, sizes_are_typed, stepped_are_typed,
 };
-pub use programs::{initials_are_given, tables_are_typed};
+pub use programs::{initials_are_given, names_are_distinct, tables_are_typed};
 pub use rows::{
     changes_are_typed, operators_are_typed, steps_are_typed, values_are_put, values_are_stored,
 };
