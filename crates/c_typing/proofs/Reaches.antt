@@ -325,17 +325,6 @@ pub so_with :
 so_with f g good o (goes_on {a = a} {w = v} p s) = met_so good (f good _ p) (λ r q k. g a v r q k k.good o s)
 so_with f g good _ (stops p) = refused_so
 
-met_in :
-    {may : Changes} {A B : Type 0} {u w v : World} {a : A} {o : Outcome B} {Q : B → World → Type 0} → Good u → Goes may u (Typed a v) → (Reaches may u v → Kept u v → GoesWith may w Q o) → GoesWith may w Q o
-met_in {u = u} {v = v} good (typed r) next = next r (kept u v r good)
-
--- a part in a scope of its own, and what closes it, which has the property
-pub scope_with :
-    {may : Changes} {A B : Type 0} {u w : World} {first : Outcome A → Type 0} {next : A → World → Outcome B → Type 0} {Q : B → World → Type 0}
-    → (Good w → Good u) → AllGo may u first → ((a : A) (v : World) → Reaches may u v → Kept u v → AllWith may w Q (next a v)) → AllWith may w Q (Then first next)
-scope_with entry f g good o (goes_on {a = a} {w = v} p s) = met_in (entry good) (f (entry good) _ p) (λ r k. g a v r k good o s)
-scope_with entry f g good _ (stops p) = refused_so
-
 met_list :
     {may inner : Changes} {A B : Type 0} {u w v : World} {a : A} {o : Outcome B} {P : A → World → Type 0} {Q : B → World → Type 0}
     → Good u → GoesWith inner u P (Typed a v) → (Reaches inner u v → P a v → Kept u v → GoesWith may w Q o) → GoesWith may w Q o
