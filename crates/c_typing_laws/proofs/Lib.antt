@@ -10,3 +10,4 @@ pub mod Calls
 pub mod WholeExpressions
 pub mod WholePrograms
 pub mod DistinctNames
+pub mod LawSamples
