@@ -127,9 +127,9 @@ continued w v (reaches.sized _ n ty size h) =
 continued w v (initial _ n bytes) = all_same w _ refl refl refl
 continued w v (linked _ name meaning d f) = all_same w _ refl refl refl
 continued w v (defined _ name now) = all_same w _ refl refl refl
-continued w v (retyped _ list) = all_same w _ refl refl refl
+continued w v (retyped _ name ty c) = all_same w _ refl refl refl
 continued w v (parameters _ params) = same_functions w _ refl refl (keep_append objects_order w.objects _)
-continued w v (function _ types f) = same_objects w _ refl (keep_append functions_order w.functions _) (keep_append signatures_order w.signatures _)
+continued w v (function _ told types f e none) = same_objects w _ refl (keep_append functions_order w.functions _) (keep_append signatures_order w.signatures _)
 continued w v (function_changed _ n change f) = same_objects w _ refl (keep_change functions_order w.functions n change (λ y there. f y) _ refl) (keep_all signatures_order w.signatures)
 continued w v (labelled _ labels) = all_same w _ refl refl refl
 continued w v (cased _ cases default) = all_same w _ refl refl refl
@@ -138,7 +138,7 @@ continued w v (in_body _ u x first names tags r aside f s) = continued_then w u 
 is_some_and : {A : Type 0} {R : A → A → Type 0} (x : A) (ys : List A) (k : ℕ) → At R x ys k → IsSomeAnd (slice_get ys k) (R x)
 is_some_and {R = R} x ys k a = subst (λ o. IsSomeAnd o (R x)) (sym a.there) a.related
 
-reached : {w v : World} {A : Type 0} {a : A} → Goes Any w (Typed a v) → Reaches Any w v
+pub reached : {w v : World} {A : Type 0} {a : A} → Goes Any w (Typed a v) → Reaches Any w v
 reached (typed r) = r
 
 -- ---- structs

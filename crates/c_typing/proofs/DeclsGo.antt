@@ -116,12 +116,12 @@ agreed_if Q false f q = q
 -- what holds of each refusal, and of what comes where the entity agrees
 pub unless_other :
     {A : Type 0} (Q : Outcome A → Type 0) (at : Pos) (b : Option Binding) (l : Option Linked) (agrees : Meaning → Bool) (outcome : Option Linked → Outcome A)
-    → ((r : Refusal) → Q (Refused r)) → ((m : Option Linked) → Agreed agrees m → Q (outcome m)) → Q (decls.unless_other at b l agrees outcome)
-unless_other Q at None None agrees outcome r f = f None tt
-unless_other Q at None (Some l) agrees outcome r f = agreed_if Q (agrees l.meaning) (λ e. f (Some l) e) (r _)
+    → ((r : Refusal) → Q (Refused r)) → ((m : Option Linked) → l ≡ m → Agreed agrees m → Q (outcome m)) → Q (decls.unless_other at b l agrees outcome)
+unless_other Q at None None agrees outcome r f = f None refl tt
+unless_other Q at None (Some l) agrees outcome r f = agreed_if Q (agrees l.meaning) (λ e. f (Some l) refl e) (r _)
 unless_other Q at (Some b) None agrees outcome r f = r _
 unless_other Q at (Some b) (Some l) agrees outcome r f =
-    agreed_if Q (decls.is_same_entity b.meaning l.meaning && agrees l.meaning) (λ e. f (Some l) (and_parts (decls.is_same_entity b.meaning l.meaning) (agrees l.meaning) e).1) (r _)
+    agreed_if Q (decls.is_same_entity b.meaning l.meaning && agrees l.meaning) (λ e. f (Some l) refl (and_parts (decls.is_same_entity b.meaning l.meaning) (agrees l.meaning) e).1) (r _)
 
 -- an entity of the file is an object or a function, which names no type
 function_formed : (w : World) (types : List CTypeTree) (result : CTypeTree) (has_body : Bool) (m : Meaning) → decls.is_function_so w types result has_body m ≡ true → IsFormedMeaning w.structs m
@@ -144,21 +144,24 @@ object_formed w ty c has_init (Enumeration n) e structs = absurd (false≢true e
 pub unless_main_shape : {may : Changes} {A : Type 0} {w : World} (named : DeclaredName) (is_so : Bool) {o : Outcome A} → Goes may w o → Goes may w (decls.unless_main_shape named is_so o)
 unless_main_shape named is_so p = goes_unless (decls.is_named_main named.name && not is_so) (Unsupported named.pos constructs.MainShape) p
 
-pub new_function : (w : World) (named : DeclaredName) (later : Bool) (params : List ParameterTree) (types : List CTypeTree) (result : CTypeTree) → Reaches Any w (decls.new_function w named later params types result)
-new_function w named true params types result = reaches.after _ _ _ (reaches.function w types _) (reaches.linked _ named _ false tt)
-new_function w named false params types result =
-    reaches.after _ _ _ (reaches.parameters w params) (reaches.after _ _ _ (reaches.function _ types _) (reaches.linked _ named _ false tt))
+pub new_function :
+    (w : World) (named : DeclaredName) (later : Bool) (params : List ParameterTree) (types : List CTypeTree) (result : CTypeTree)
+    → names.linked_as w named.name ≡ None → Reaches Any w (decls.new_function w named later params types result)
+new_function w named true params types result none = reaches.function w named types _ refl none
+new_function w named false params types result none = reaches.after _ _ _ (reaches.parameters w params) (reaches.function _ named types _ refl none)
 
-pub function_again : (w : World) (around : Context) (named : DeclaredName) (params : List ParameterTree) (types : List CTypeTree) (result : CTypeTree) (has_body : Bool) (l : Option Linked) → Agreed (decls.is_function_so w types result has_body) l → Goes Any w (decls.function_again w around named params types result l)
-function_again w around named params types result has_body None a = typed (new_function w named _ params types result)
-function_again w around named params types result has_body (Some l) a = typed (reaches.named w named.pos named.name _ (function_formed w types result has_body l.meaning a) tt)
+pub function_again :
+    (w : World) (around : Context) (named : DeclaredName) (params : List ParameterTree) (types : List CTypeTree) (result : CTypeTree) (has_body : Bool) (l : Option Linked)
+    → names.linked_as w named.name ≡ l → Agreed (decls.is_function_so w types result has_body) l → Goes Any w (decls.function_again w around named params types result l)
+function_again w around named params types result has_body None e a = typed (new_function w named _ params types result e)
+function_again w around named params types result has_body (Some l) e a = typed (reaches.named w named.pos named.name _ (function_formed w types result has_body l.meaning a) tt)
 
 pub function_declared : (w : World) (around : Context) (named : DeclaredName) (params : List ParameterTree) (types : List CTypeTree) (result : CTypeTree) (has_body : Bool) → Goes Any w (decls.function_declared w around named params types result has_body)
 function_declared w around named params types result has_body =
     goes_if (names.is_reserved named.name)
     (goes_if (decls.is_input_type types result (names.input_type named.name) && not has_body) goes_same refused)
     (unless_other (Goes Any w) named.pos (decls.binding_here w named.name) (names.linked_as w named.name) (decls.is_function_so w types result has_body) _ (λ r. refused)
-    (λ l a. unless_main_shape named (decls.is_main_shape types result) (function_again w around named params types result has_body l a)))
+    (λ l e a. unless_main_shape named (decls.is_main_shape types result) (function_again w around named params types result has_body l e a)))
 
 pub local_object : (w : World) (named : DeclaredName) (ty : CTypeTree) (c is_static : Bool) (size : ℕ) → Reaches Any w (decls.local_object w named ty c is_static size)
 local_object w named ty c is_static size =
@@ -206,7 +209,7 @@ MayBecome w ty meaning = Unit {0}
 
 pub with_type : (w : World) (name : List ℕ) (meaning : Meaning) (ty : CTypeTree) (size : ℕ) → MayBecome w ty meaning → Reaches Any w (decls.with_type w name meaning ty size)
 with_type w name (Object n) ty size h = reaches.sized w n ty size h
-with_type w name (Missing before c) ty size h = reaches.retyped w _
+with_type w name (Missing before c) ty size h = reaches.retyped w name ty c
 with_type w name (Parameter k t c) ty size h = reaches.stays w
 with_type w name (Function n) ty size h = reaches.stays w
 with_type w name (TypeName form) ty size h = reaches.stays w
@@ -383,7 +386,7 @@ file_declared w named ty c how =
     with_unless (how.in_block && how.has_init) (no_rule w named.pos ops.Init ty None)
     (with_if (names.is_reserved named.name) refused_so
     (unless_other (GoesWith Any w WhatIn) named.pos (decls.binding_here w named.name) (names.linked_as w named.name) (decls.is_object_again w ty c how.has_init) _ (λ r. refused_so)
-    (λ l a. file_object w named (decls.composite_type w ty l) c how l (entity l a))))
+    (λ l e a. file_object w named (decls.composite_type w ty l) c how l (entity l a))))
   where
     entity : (l : Option Linked) → Agreed (decls.is_object_again w ty c how.has_init) l → IsEntity w (decls.composite_type w ty l) l
     entity None a = tt

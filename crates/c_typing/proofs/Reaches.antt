@@ -10,7 +10,7 @@ use Rattle.c_syntax.specs.Program.{MemberTree, StructDefTree}
 use Rattle.c_typing.proofs.Changes.{Changes, Constants, Names, Any, within, MayName}
 use Rattle.c_typing.specs.World as world
 use Rattle.c_typing.specs.World.{World, Meaning, Object, Missing, Parameter, TypeName, Enumeration, TagMeaning, OpenEnumTag, Outcome, Typed, Refused, Refusal, Then, goes_on, stops, Is, unless}
-use Rattle.c_typing.specs.Names.{opened, closed, with_name, with_struct, with_tag, with_tag_become, with_members, with_literal, with_initial}
+use Rattle.c_typing.specs.Names.{linked_as, opened, closed, with_name, with_struct, with_tag, with_tag_become, with_members, with_literal, with_initial}
 use Rattle.c_syntax.specs.declared.program.InitByte.{InitByte}
 use Rattle.c_syntax.specs.Types.{ObjectTree}
 use Rattle.c_syntax.specs.Program.{TFunctionTree}
@@ -43,9 +43,11 @@ pub data Reaches : Changes → World → World → Type 0 where
   initial : (w : World) (n : ℕ) (bytes : List InitByte) → Reaches Any w (with_initial w n bytes)
   linked : (w : World) (named : DeclaredName) (meaning : Meaning) (defined : Bool) → IsFormedMeaning w.structs meaning → Reaches Any w (decls.with_linked w named meaning defined)
   defined : (w : World) (name : List ℕ) (now : Bool) → Reaches Any w (decls.with_defined w name now)
-  retyped : (w : World) (list : List Linked) → Reaches Any w (record w { linked = list })
+  retyped : (w : World) (name : List ℕ) (ty : CTypeTree) (is_const : Bool) → Reaches Any w (record w { linked = map (decls.missing_if name ty is_const) w.linked })
   parameters : (w : World) (params : List ParameterTree) → Reaches Any w (decls.with_parameters w params)
-  function : (w : World) (types : List CTypeTree) (f : TFunctionTree) → Reaches Any w (decls.with_function_entry w types f)
+  function :
+      (w : World) (named : DeclaredName) (types : List CTypeTree) (f : TFunctionTree) → f.name ≡ named.name → linked_as w named.name ≡ None
+      → Reaches Any w (decls.with_linked (decls.with_function_entry w types f) named (world.Function (length w.functions)) false)
   function_changed : (w : World) (n : ℕ) (change : TFunctionTree → TFunctionTree) → ((f : TFunctionTree) → IsSameFunction f (change f)) → Reaches Any w (files.with_function_at w n change)
   labelled : (w : World) (labels : List Labelled) → Reaches Any w (record w { labels = labels })
   cased : (w : World) (cases : List CaseAt) (default : Option Pos) → Reaches Any w (record w { cases = cases; default = default })
@@ -99,9 +101,13 @@ kept w v (sized _ n ty size h) good = kept_same w _ refl refl refl good
 kept w v (initial _ n bytes) good = kept_same w _ refl refl refl good
 kept w v (linked _ x meaning d f) good = record { good = good_same (with_name w x.pos x.name meaning) _ refl refl refl (good_named w x.pos x.name meaning f good); frame = frame_same w _ refl refl }
 kept w v (defined _ name now) good = kept_same w _ refl refl refl good
-kept w v (retyped _ list) good = kept_same w _ refl refl refl good
+kept w v (retyped _ name ty c) good = kept_same w _ refl refl refl good
 kept w v (parameters _ params) good = kept_same w _ refl refl refl good
-kept w v (function _ types f) good = kept_same w _ refl refl refl good
+kept w v (function _ told types f e none) good = record {
+  good = good_same (with_name w told.pos told.name (world.Function (length w.functions))) _ refl refl refl
+      (good_named w told.pos told.name (world.Function (length w.functions)) tt good);
+  frame = frame_same w _ refl refl;
+}
 kept w v (function_changed _ n change f) good = kept_same w _ refl refl refl good
 kept w v (labelled _ labels) good = kept_same w _ refl refl refl good
 kept w v (cased _ cases default) good = kept_same w _ refl refl refl good
@@ -214,9 +220,9 @@ quiet may w v (sized _ n ty size h) = tt
 quiet may w v (initial _ n bytes) = tt
 quiet may w v (linked _ x meaning d f) = tt
 quiet may w v (defined _ name now) = tt
-quiet may w v (retyped _ list) = tt
+quiet may w v (retyped _ name ty c) = tt
 quiet may w v (parameters _ params) = tt
-quiet may w v (function _ types f) = tt
+quiet may w v (function _ told types f e none) = tt
 quiet may w v (function_changed _ n change f) = tt
 quiet may w v (labelled _ labels) = tt
 quiet may w v (cased _ cases default) = tt
@@ -318,17 +324,6 @@ pub so_with :
     → AllWith may w P first → ((a : A) (v : World) → Reaches may w v → P a v → Kept w v → AllWith may v Q (next a v)) → AllWith may w Q (Then first next)
 so_with f g good o (goes_on {a = a} {w = v} p s) = met_so good (f good _ p) (λ r q k. g a v r q k k.good o s)
 so_with f g good _ (stops p) = refused_so
-
-met_in :
-    {may : Changes} {A B : Type 0} {u w v : World} {a : A} {o : Outcome B} {Q : B → World → Type 0} → Good u → Goes may u (Typed a v) → (Reaches may u v → Kept u v → GoesWith may w Q o) → GoesWith may w Q o
-met_in {u = u} {v = v} good (typed r) next = next r (kept u v r good)
-
--- a part in a scope of its own, and what closes it, which has the property
-pub scope_with :
-    {may : Changes} {A B : Type 0} {u w : World} {first : Outcome A → Type 0} {next : A → World → Outcome B → Type 0} {Q : B → World → Type 0}
-    → (Good w → Good u) → AllGo may u first → ((a : A) (v : World) → Reaches may u v → Kept u v → AllWith may w Q (next a v)) → AllWith may w Q (Then first next)
-scope_with entry f g good o (goes_on {a = a} {w = v} p s) = met_in (entry good) (f (entry good) _ p) (λ r k. g a v r k good o s)
-scope_with entry f g good _ (stops p) = refused_so
 
 met_list :
     {may inner : Changes} {A B : Type 0} {u w v : World} {a : A} {o : Outcome B} {P : A → World → Type 0} {Q : B → World → Type 0}

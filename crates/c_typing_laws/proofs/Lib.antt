@@ -9,3 +9,5 @@ pub mod Casts
 pub mod Calls
 pub mod WholeExpressions
 pub mod WholePrograms
+pub mod DistinctNames
+pub mod LawSamples

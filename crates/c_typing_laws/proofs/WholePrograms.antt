@@ -121,7 +121,7 @@ program_in (Program program) other = program
 program_in (NoProgram r) other = other
 
 -- what holds of each program that declarations leave holds of that of the file
-of_last :
+pub of_last :
     (P : TProgramTree → Type 0) (program : TProgramTree) (last : Outcome ⊤) → Program program ≡ outcome_of last
     → ((w : World) → last ≡ Typed tt w → P (program_of w)) → P program
 of_last P program (Typed unit w) e f = subst P (sym (ap (λ o. program_in o program) e)) (f w refl)

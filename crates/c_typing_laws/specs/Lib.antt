@@ -3,3 +3,4 @@ pub mod RowLaws
 pub mod NodeLaws
 pub mod ExpressionLaws
 pub mod ProgramLaws
+pub mod LawSamples

@@ -1,5 +1,5 @@
 -- What the typed program of a file has.
-use Rattle.std.specs.Prelude.{All}
+use Rattle.std.specs.Prelude.{◌≢◌, All, AllPairs}
 use Rattle.c_written.specs.WrittenFile.{FileTree}
 use Rattle.c_syntax.specs.Program.{TProgramTree}
 use Rattle.c_layout.specs.Tables.{IsTypedTable}
@@ -17,3 +17,7 @@ pub record HasInitials (program : TProgramTree) : Type 0 where
 
 abbrev pub InitialsAreGiven : Type 0
 InitialsAreGiven = (file : FileTree) (program : TProgramTree) → TypesFile file (Program program) → HasInitials program
+
+-- a name is that of one function (C11 6.2.2p2)
+abbrev pub NamesAreDistinct : Type 0
+NamesAreDistinct = (file : FileTree) (program : TProgramTree) → TypesFile file (Program program) → AllPairs (λ f g. f.name ≢ g.name) program.functions

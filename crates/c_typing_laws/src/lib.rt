@@ -9,7 +9,6 @@
 //!
 //! | What | Stated in `specs/` | Promised by |
 //! |---|---|---|
-//! | structs of a program that goes on | `Later` | - |
 //! | typed values, places and operands | `TypedValues` | - |
 //! | operators between two values | `RowLaws` | `operators_are_typed` |
 //! | values that are stored | `RowLaws` | `values_are_stored`, `values_are_put` |
@@ -19,9 +18,9 @@
 //! | members of structs | `NodeLaws` | `members_are_typed`, `arrows_are_typed` |
 //! | nodes that change a place | `NodeLaws` | `assignments_are_typed`, `compounds_are_typed`, `stepped_are_typed` |
 //! | `?:`, `,`, casts, sizes | `NodeLaws` | `conditionals_are_typed`, `commas_are_typed`, `casts_are_typed`, `sizes_are_typed` |
-//! | whole programs | `ProgramLaws` | `tables_are_typed`, `initials_are_given` |
-//! | whole expressions | `ExpressionLaws` | `expressions_are_typed` |
 //! | calls and constants | `NodeLaws` | `calls_are_typed`, `numbers_are_typed`, `characters_are_typed` |
+//! | whole expressions | `ExpressionLaws`, `LawSamples` | `expressions_are_typed`, `samples_are_typed` |
+//! | whole programs | `ProgramLaws` | `tables_are_typed`, `initials_are_given`, `names_are_distinct` |
 #![tactic(auto)]
 
 mod expressions;
@@ -29,14 +28,14 @@ mod nodes;
 mod programs;
 mod rows;
 
-pub use expressions::expressions_are_typed;
+pub use expressions::{expressions_are_typed, samples_are_typed};
 pub use nodes::{
     arrows_are_typed, assignments_are_typed, binaries_are_typed, calls_are_typed, casts_are_typed,
     characters_are_typed, commas_are_typed, compounds_are_typed, conditionals_are_typed,
     indexes_are_typed, members_are_typed, numbers_are_typed, objects_are_typed, prefixes_are_typed,
     reads_are_typed, sizes_are_typed, stepped_are_typed,
 };
-pub use programs::{initials_are_given, tables_are_typed};
+pub use programs::{initials_are_given, names_are_distinct, tables_are_typed};
 pub use rows::{
     changes_are_typed, operators_are_typed, steps_are_typed, values_are_put, values_are_stored,
 };
