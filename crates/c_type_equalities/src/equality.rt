@@ -143,7 +143,7 @@ fn right_null(
 ) -> Result<Option<TExpr>, NoMemory>
     ensures { IfOk result (λ row. option_map texpr_tree row ≡ (if constants.is_null_constant (texpr_tree b)
         then Some (trees.Binary pos (TBinaryOp.ComparePointers op) (texpr_tree a)
-            (operands.as_null (types.Pointer (ctype_tree s.now.value.ty) s.now.value.is_const) (texpr_tree b)))
+        (operands.as_null (types.Pointer (ctype_tree s.now.value.ty) s.now.value.is_const) (texpr_tree b)))
         else None)) }
 {
     if !is_null_constant(&b)? {
@@ -165,7 +165,7 @@ fn left_null(
 ) -> Result<Option<TExpr>, NoMemory>
     ensures { IfOk result (λ row. option_map texpr_tree row ≡ (if constants.is_null_constant (texpr_tree a)
         then Some (trees.Binary pos (TBinaryOp.ComparePointers op)
-            (operands.as_null (types.Pointer (ctype_tree t.now.value.ty) t.now.value.is_const) (texpr_tree a)) (texpr_tree b))
+        (operands.as_null (types.Pointer (ctype_tree t.now.value.ty) t.now.value.is_const) (texpr_tree a)) (texpr_tree b))
         else None)) }
 {
     if !is_null_constant(&a)? {

@@ -140,5 +140,7 @@ fn position_of(members: &[Member], name: &[u8]) -> Option<usize>
 fn first_named(members: &[Member], name: &[u8]) -> Option<usize>
     ensures { result ≡ position (λ member. bytes_eq member.name name.now) members.now }
 {
-    members.iter().position(|member| member.name.as_slice() == name)
+    members
+        .iter()
+        .position(|member| member.name.as_slice() == name)
 }

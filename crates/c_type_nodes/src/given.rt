@@ -47,8 +47,8 @@ pub(crate) fn given_place(
     row: Option<TLvalue>,
 ) -> Result<Operand, TypeError>
     ensures { (w : World) → w.structs ≡ map structdef_tree structs.now
-        → Answers (λ out. out ≡ nodes.given_place (worlds.no_rule w pos op (ctype_tree left) (option_map ctype_tree right)) (option_map tlvalue_tree row) w)
-        operand_tree w result }
+        → Answers (λ out. out ≡ nodes.given_place (worlds.no_rule w pos op (ctype_tree left) (option_map ctype_tree right))
+        (option_map tlvalue_tree row) w) operand_tree w result }
 {
     match row {
         Some(place) => Ok(Operand::Place(place)),
