@@ -1,7 +1,9 @@
 use crate::Env;
 use ext_int::Ext;
 use intervals::Interval;
-use num_api::{Live, Messages, NExpr, NOp, NumDomain, Oracle, Range, Unknowing, Var};
+use num_api::{
+    Live, Message, Messages, NExpr, NOp, NumDomain, NumFacts, Oracle, Range, Unknowing, Var,
+};
 use residues::{Class, Pair};
 use std::alloc::{AllocError as NoMemory, Global};
 
@@ -59,5 +61,24 @@ fn joins(rt: HostRuntime) -> Result<(), NoMemory> {
     assert_eq!(rt; first.residue(&NExpr::Read(Var(0))).modulus, 4);
     first.forget(Var(0))?;
     assert_eq!(rt; first.range(&NExpr::Read(Var(0))), Range::all());
+    Ok(())
+}
+
+// y is -x of x in [0, 9], and a message leaves it in [-9, -5].
+#[test]
+fn messages(rt: HostRuntime) -> Result<(), NoMemory> {
+    let alloc = rt.alloc();
+    let mut state = State::top(alloc);
+    put(&mut state, 0, 0, 9)?;
+    let e = NExpr::Unary(NOp::Neg, read(alloc, 0)?);
+    let mut out = Messages::new(alloc);
+    state.assign(Var(1), &e, &Unknowing, &mut out)?;
+    let live = state.accept(&Message::Between(Var(1), from_to(-20, -5)))?;
+    assert_eq!(rt; live, Live::Live);
+    assert_eq!(rt; state.range(&NExpr::Read(Var(1))), from_to(-9, -5));
+    let mut facts = NumFacts::new(alloc);
+    state.facts(&mut facts)?;
+    assert_eq!(rt; facts.as_slice().len(), 4);
+    assert!(rt; state.same(Var(1)).is_none());
     Ok(())
 }
