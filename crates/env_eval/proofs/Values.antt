@@ -78,12 +78,6 @@ module _ {V : Type 0} (A : V → ℤ → Type 0) (K : V → Range) (C : V → Re
     fold = λ c f al h. absurd (fold_unary c op e h);
   }
 
-  pub one_none : (op : NOp) (e : NExprTree) → IsNoValue A K exact state e → IsNoValue A K exact state (Unary op e)
-  one_none op e part = record {
-    none = λ v n p q. let step = of_one-some (unary_value op) (value_of v e) n q in part.none v step.0 p step.1;
-    none_plain = λ given s x u p d q. let step = of_one-some (unary_span op) (plain given e) s q in part.none_plain given step.0 x u p.1 d step.1;
-  }
-
   -- ---- two operands
 
   pub two_value : (op : NOp) (e f : NExprTree) (a b r : V) → IsValue A K C exact folds state e a → IsValue A K C exact folds state f b
@@ -117,18 +111,6 @@ module _ {V : Type 0} (A : V → ℤ → Type 0) (K : V → Range) (C : V → Re
         (λ (k : (op ≡ Add) × IsFold c e × IsFold c f). sum c w al k.0 (first.fold c w al k.1) (second.fold c w al k.2))
         g)
         (fold_binary c op e f h);
-  }
-
-  pub first_none : (op : NOp) (e f : NExprTree) → IsNoValue A K exact state e → IsNoValue A K exact state (Binary op e f)
-  first_none op e f part = record {
-    none = λ v n p q. let step = of_two-some (binary_value op) (value_of v e) (value_of v f) n q in part.none v step.0 p step.2;
-    none_plain = λ given s x u p d q. let step = of_two-some (binary_span op) (plain given e) (plain given f) s q in part.none_plain given step.0 x u p.1 d.1 step.2;
-  }
-
-  pub second_none : (op : NOp) (e f : NExprTree) → IsNoValue A K exact state f → IsNoValue A K exact state (Binary op e f)
-  second_none op e f part = record {
-    none = λ v n p q. let step = of_two-some (binary_value op) (value_of v e) (value_of v f) n q in part.none v step.1 p step.3;
-    none_plain = λ given s x u p d q. let step = of_two-some (binary_span op) (plain given e) (plain given f) s q in part.none_plain given step.1 x u p.2 d.2 step.3;
   }
 
   -- a quotient by what is known to be 0

@@ -21,10 +21,6 @@ pub some_map : {T : Type 0} (P Q : T → Type 0) (o : Option T) → IfSome o P �
 some_map P Q None h f = tt
 some_map P Q (Some t) h f = f t h
 
-pub none_map : {T : Type 0} (P Q : Type 0) (o : Option T) → IfNone o P → (P → Q) → IfNone o Q
-none_map P Q None h f = f h
-none_map P Q (Some t) h f = tt
-
 pub none_any : {T : Type 0} (P : Type 0) (o : Option T) → P → IfNone o P
 none_any P None p = p
 none_any P (Some t) p = tt
