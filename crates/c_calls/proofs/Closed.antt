@@ -1,11 +1,11 @@
 -- A way that comes back to one of its functions closes a list of calls.
-use Rattle.std.proofs.Common.{◌≡◌, ◌≢◌, ◌⊎◌, inl, inr, ℕ, zero, suc, ◌+◌, ◌<◌, ◌≤◌, List, [], ◌∷◌, ◌++◌, length, get_or, take, drop, Some, refl, sym, subst, ap, ◌∙◌, arith}
+use Rattle.std.proofs.Common.{◌≡◌, ◌≢◌, inl, inr, ℕ, zero, suc, ◌<◌, List, [], ◌∷◌, ◌++◌, length, take, drop, Some, refl, sym, subst, ◌∙◌, arith}
 use Rattle.std.specs.Prelude.{Option, All, AllPairs, Contains, slice_get}
 use Rattle.std.proofs.lemmas.List.Kept.{AllPairs-cons}
 use Rattle.std.proofs.lemmas.List.Elements.{All-nil, All-cons, All-push}
 use Rattle.c_layout.specs.Calls.{PlacedCall, chain_end}
 use Rattle.c_calls.specs.Graph.{calls_from, IsWay, IsClosedList}
-use Rattle.c_calls.specs.Search.{IsGoing, AreGoing, callees, functions_of, IsAmong, AreApart}
+use Rattle.c_calls.specs.Search.{AreGoing, callees, functions_of, IsAmong, AreApart}
 use Rattle.c_calls.specs.declared.search.Progress.{Progress}
 use Rattle.c_calls.proofs.Ways.{some_same, none_some, ends, going_pop}
 

@@ -1,6 +1,6 @@
 -- How many statements each form of statement has, an equation a form, and sums that end at the greatest number.
-use Rattle.std.proofs.Common.{◌≡◌, ℕ, ℤ, ◌+◌, ◌*◌, ◌<◌, ◌-◌, ◌^◌, Bool, List, [], ◌∷◌, ◌++◌, map, length, take, get_or, refl, sym, ap, ◌∙◌, arith}
-use Rattle.std.specs.Prelude.{Option, min}
+use Rattle.std.proofs.Common.{◌≡◌, ℕ, ℤ, ◌+◌, ◌<◌, Bool, List, [], ◌∷◌, ◌++◌, length, take, get_or, refl, sym, ap, ◌∙◌, arith}
+use Rattle.std.specs.Prelude.{Option}
 use Rattle.std.specs.declared.boxed.Box.{Box}
 use Rattle.std.specs.declared.alloc.Global.{Global}
 use Rattle.c_written.specs.declared.place.Pos.{Pos}
@@ -14,7 +14,7 @@ use Rattle.std.proofs.lemmas.List.{take_more}
 use Rattle.c_syntax.specs.TypedExpr.{TExprTree}
 use Rattle.c_syntax.specs.TypedStmt.{TInitTree, TStmtTree, TStmtTrees, tstmt_tree, tstmts_from}
 use Rattle.c_syntax.specs.TypedStmt as stmts
-use Rattle.c_calls.specs.Inlined.{blocks_of, body_size, declared_by, declares, ended, statements_among, statements_in}
+use Rattle.c_calls.specs.Inlined.{blocks_of, body_size, declared_by, declares, statements_among, statements_in}
 
 pub count_empty : (x0 : Pos) → statements_in (stmts.Empty x0) ≡ 1
 unfolding statements_in

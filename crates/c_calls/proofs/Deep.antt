@@ -1,13 +1,13 @@
 -- How deep calls go, function by function in an order in which callees are first.
-use Rattle.std.proofs.Common.{◌≡◌, ◌≢◌, ◌⊎◌, inl, inr, ℕ, zero, suc, ◌+◌, ◌<◌, ◌≤◌, Bool, true, cond, List, [], ◌∷◌, ◌++◌, map, length, get_or, set, take, Some, None, refl, sym, subst, ap, ◌∙◌, arith, nat_cmp}
+use Rattle.std.proofs.Common.{◌≡◌, ◌≢◌, inl, inr, ℕ, zero, suc, ◌+◌, ◌<◌, ◌≤◌, true, cond, List, [], ◌∷◌, ◌++◌, map, length, get_or, set, take, refl, sym, subst, arith, nat_cmp}
 use Rattle.std.proofs.lemmas.Grind.{common_steps}
 use Rattle.std.specs.Ordering.{ord_max}
-use Rattle.std.specs.Prelude.{Option, min, max, IfSome, IsSome, All, Contains, count_by, slice_get, ◌==◌}
+use Rattle.std.specs.Prelude.{Option, min, max, All, Contains, ◌==◌}
 use Rattle.std.proofs.lemmas.List.{get_or-set_same, get_or-set_other, get_or-take, get_or-map, take_all, length-take, length-map}
 use Rattle.std.proofs.lemmas.Bool.{cases_lt}
 use Rattle.std.proofs.lemmas.List.Elements.{All-weaker, All-contains, All-from_get_or, All-get_or, All-more, All-push, All-map, Contains-append_left, Contains-get_or, Contains-push}
 use Rattle.std.proofs.lemmas.List.Sums.{count_by_more_yes, sum_by-take-le, get_or-le-sum_by}
-use Rattle.c_layout.specs.Calls.{PlacedCall, chain_end}
+use Rattle.c_layout.specs.Calls.{PlacedCall}
 use Rattle.c_layout.specs.WellTyped.{EachOf}
 use Rattle.c_calls.specs.Graph.{calls_from, AreDefined, IsDefined, IsOrderOf, IsWay}
 use Rattle.c_calls.specs.Placed.{placed}

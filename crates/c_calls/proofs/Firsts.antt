@@ -1,15 +1,15 @@
 -- The first call of a function without a body, as more calls are seen.
-use Rattle.std.proofs.Common.{◌≡◌, ◌≢◌, ◌⊎◌, inl, inr, ℕ, zero, suc, ◌+◌, ◌<◌, ◌≤◌, List, [], ◌∷◌, ◌++◌, map, length, get_or, take, Some, None, refl, sym, subst, ap, ◌∙◌, arith}
-use Rattle.std.specs.Prelude.{Option, All, Contains, MatchOption, slice_get}
+use Rattle.std.proofs.Common.{◌≡◌, ◌⊎◌, inl, inr, ℕ, zero, suc, ◌+◌, ◌<◌, ◌≤◌, List, [], ◌∷◌, map, length, get_or, take, Some, None, sym, subst, ap, ◌∙◌, arith}
+use Rattle.std.specs.Prelude.{Option, Contains, MatchOption}
 use Rattle.std.proofs.lemmas.List.{take_all, take_more}
 use Rattle.std.proofs.lemmas.List.Elements.{Contains-get_or, Contains-append_left, Contains-push, Contains-push_cases}
 use Rattle.std.proofs.lemmas.Bool.{cases_eq}
 use Rattle.c_written.specs.declared.place.Pos.{Pos}
 use Rattle.c_layout.specs.Calls.{PlacedCall, IsBefore}
-use Rattle.c_calls.specs.Graph.{calls_from, calls_or_none, AreDefined, IsDefined}
+use Rattle.c_calls.specs.Graph.{calls_from, AreDefined, IsDefined}
 use Rattle.c_calls.specs.Placed.{placed}
 use Rattle.c_calls.specs.declared.call.Call.{Call}
-use Rattle.c_calls.specs.Undefined.{IsEarlier, IsFirstSeen, IsFirstUndefined, IsFound, IsFoundWith, IsSeen}
+use Rattle.c_calls.specs.Undefined.{IsEarlier, IsFirstUndefined, IsFound, IsFoundWith, IsSeen}
 
 -- ---- places
 

@@ -1,6 +1,6 @@
 -- Inlined sizes, function by function in an order in which callees are first.
-use Rattle.std.proofs.Common.{◌≡◌, ◌≢◌, ◌⊎◌, inl, inr, ℕ, zero, suc, ◌+◌, ◌-◌, ◌^◌, ◌<◌, ◌≤◌, Bool, true, false, cond, List, [], ◌∷◌, ◌++◌, map, length, get_or, set, take, Some, None, refl, sym, subst, ap, ◌∙◌, arith, length-set}
-use Rattle.std.specs.Prelude.{Option, min, All, Contains, ◌==◌}
+use Rattle.std.proofs.Common.{◌≡◌, ◌≢◌, ℕ, zero, suc, ◌+◌, ◌<◌, ◌≤◌, cond, List, [], ◌∷◌, ◌++◌, map, length, get_or, set, take, refl, sym, subst, ap, ◌∙◌, arith, length-set}
+use Rattle.std.specs.Prelude.{Option, All, Contains, ◌==◌}
 use Rattle.std.specs.List.{sum_by}
 use Rattle.std.proofs.lemmas.List.{get_or-set_same, get_or-set_other, length-map, get_or-take, take_more, take_all, length-take}
 use Rattle.std.proofs.lemmas.List.Elements.{All-nil, All-head, All-tail, All-more, All-weaker, All-contains, All-from_get_or, All-get_or, Contains-append_left, Contains-get_or, Contains-push}

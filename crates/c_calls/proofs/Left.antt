@@ -1,5 +1,5 @@
 -- What is left to do falls with each step.
-use Rattle.std.proofs.Common.{◌≡◌, ℕ, zero, suc, ◌+◌, ◌-◌, ◌<◌, ◌≤◌, List, [], ◌∷◌, length, get_or, set, Some, None, refl, sym, subst, ap, ◌∙◌, arith}
+use Rattle.std.proofs.Common.{◌≡◌, ℕ, zero, suc, ◌+◌, ◌<◌, ◌≤◌, List, [], ◌∷◌, length, get_or, set, Some, None, refl, sym, subst, ap, arith}
 use Rattle.std.specs.Prelude.{Option}
 use Rattle.c_layout.specs.Calls.{PlacedCall}
 use Rattle.c_calls.specs.Graph.{calls_or_none, calls_from}

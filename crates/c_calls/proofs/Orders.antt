@@ -1,16 +1,15 @@
 -- The order of what is done, as it grows.
-use Rattle.std.proofs.Common.{◌≡◌, ◌≢◌, ◌⊎◌, inl, inr, ℕ, zero, suc, ◌+◌, ◌<◌, ◌≤◌, Bool, true, false, cond, List, [], ◌∷◌, ◌++◌, length, get_or, set, take, Some, refl, sym, subst, ap, ◌∙◌, arith, eq-eqb}
-use Rattle.std.specs.Prelude.{Option, IfSome, All, Contains, count_by, slice_get, ◌==◌}
+use Rattle.std.proofs.Common.{◌≡◌, ◌≢◌, inl, inr, ℕ, zero, suc, ◌+◌, ◌<◌, cond, List, [], ◌∷◌, ◌++◌, length, take, refl, sym, subst, ap, ◌∙◌, arith}
+use Rattle.std.specs.Prelude.{Option, All, Contains, count_by, ◌==◌}
 use Rattle.std.proofs.lemmas.List.{take-append-le, take_at}
-use Rattle.std.proofs.lemmas.List.Elements.{All-weaker, All-push, All-head, All-tail, Contains-append_left, Contains-push, All-contains}
+use Rattle.std.proofs.lemmas.List.Elements.{All-weaker, All-push, All-head, All-tail}
 use Rattle.std.proofs.lemmas.Bool.{cases_eq}
 use Rattle.std.proofs.lemmas.List.Sums.{sum_by-cons, sum_by_push}
-use Rattle.c_layout.specs.Calls.{PlacedCall, chain_end}
+use Rattle.c_layout.specs.Calls.{PlacedCall}
 use Rattle.c_layout.specs.WellTyped.{EachOf}
-use Rattle.c_calls.specs.Graph.{calls_from, IsDefined, IsOrderOf}
-use Rattle.c_calls.specs.Search.{at, IsDone, AreOrdered}
+use Rattle.c_calls.specs.Graph.{calls_from, IsDefined}
+use Rattle.c_calls.specs.Search.{IsDone, AreOrdered}
 use Rattle.c_calls.specs.declared.search.Progress.{Progress}
-use Rattle.c_calls.specs.declared.search.Progress.TheVariants.{New, Open, Done}
 use Rattle.c_calls.proofs.Ways.{IsChanged, done_stays}
 
 each_push : {A : Type 0} (P : ℕ → A → Type 0) (xs : List A) (y : A) → EachOf xs P → P (length xs) y → EachOf (xs ++ y ∷ []) P

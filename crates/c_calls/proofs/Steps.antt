@@ -1,20 +1,20 @@
 -- Steps of the search.
 use Rattle.std.proofs.Common.{◌≡◌, ℕ, zero, suc, ◌+◌, ◌<◌, ◌≤◌, inl, inr, List, [], ◌∷◌, ◌++◌, map, length, get_or, set, take, Some, refl, sym, subst, ap, ◌∙◌, arith, rules, length-set}
-use Rattle.std.specs.Prelude.{Option, All, IsSome, IsSomeAnd, slice_get}
+use Rattle.std.specs.Prelude.{Option, All, slice_get}
 use Rattle.std.specs.List.{AllByRecursion}
 use Rattle.std.proofs.lemmas.List.{get_or-set_same, take_all}
 use Rattle.c_layout.specs.Calls.{PlacedCall, chain_end}
 use Rattle.c_calls.specs.Placed.{placed}
 use Rattle.c_calls.specs.declared.call.Call.{Call}
 use Rattle.c_calls.specs.Graph.{calls_from, AreDefined, IsDefined}
-use Rattle.c_calls.specs.Search.{at, IsDone, AreOrdered, IsUnderWay, IsAtCall, functions_of, IsAmong, IsStep, IsLastStep, IsTurn, KeepsDone, all_left}
+use Rattle.c_calls.specs.Search.{at, IsDone, AreOrdered, IsUnderWay, IsAtCall, functions_of, IsAmong, IsTurn, KeepsDone, all_left}
 use Rattle.c_calls.specs.declared.search.Progress.{Progress}
 use Rattle.c_calls.specs.declared.search.Progress.TheVariants.{New, Open, Done}
 use Rattle.c_calls.specs.declared.search.Search.{Search}
 use Rattle.c_calls.specs.declared.search.Turn.{Turn}
 use Rattle.c_calls.specs.declared.search.Turn.TheVariants as turns
 use Rattle.std.proofs.lemmas.List.Elements.{All-contains}
-use Rattle.c_calls.proofs.Ways.{IsChanged, changed, changed_new, comes_to, done_stays, new_open, end_among, enters, ends, going_pop, passes}
+use Rattle.c_calls.proofs.Ways.{IsChanged, changed, changed_new, comes_to, done_stays, new_open, end_among, enters, going_pop, passes}
 use Rattle.c_calls.proofs.Orders.{order_grows, order_stays}
 use Rattle.c_calls.proofs.Left.{done_falls, next_falls, opening_falls}
 use Rattle.c_calls.proofs.Closed.{contains_got}

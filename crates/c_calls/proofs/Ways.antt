@@ -1,6 +1,6 @@
 -- A way through calls, as it grows and shrinks at its end, where the progress of other functions changes.
-use Rattle.std.proofs.Common.{◌≡◌, ◌≢◌, ◌⊎◌, inl, inr, ℕ, zero, suc, ◌+◌, ◌<◌, ◌≤◌, List, [], ◌∷◌, ◌++◌, ◌-◌, map, length, get_or, set, take, drop, Some, None, refl, sym, subst, ap, ◌∙◌, arith, rules}
-use Rattle.std.specs.Prelude.{Option, All, Contains, slice_get}
+use Rattle.std.proofs.Common.{◌≡◌, ◌≢◌, ◌⊎◌, inl, inr, ℕ, zero, suc, ◌<◌, ◌≤◌, List, [], ◌∷◌, ◌++◌, ◌-◌, map, length, get_or, set, take, drop, Some, None, refl, sym, subst, ap, ◌∙◌, arith, rules}
+use Rattle.std.specs.Prelude.{Option, All, slice_get}
 use Rattle.std.specs.List.{AllByRecursion}
 use Rattle.std.proofs.lemmas.List.{get_or-set_same, get_or-set_other}
 use Rattle.std.proofs.lemmas.List.Elements.{All-weaker, All-push, All-nil}
@@ -8,7 +8,7 @@ use Rattle.std.proofs.lemmas.Bool.{cases_eq}
 use Rattle.c_layout.specs.Calls.{PlacedCall, chain_end}
 use Rattle.c_calls.specs.Placed.{placed}
 use Rattle.c_calls.specs.declared.call.Call.{Call}
-use Rattle.c_calls.specs.Graph.{calls_from, IsDefined, IsWay}
+use Rattle.c_calls.specs.Graph.{calls_from, IsDefined}
 use Rattle.c_calls.specs.Search.{at, IsDone, HasGone, IsGoing, AreGoing, functions_of, IsAmong, AreApart, AreOnWay, IsUnderWay, IsAtCall}
 use Rattle.c_calls.specs.declared.search.Progress.{Progress}
 use Rattle.c_calls.specs.declared.search.Progress.TheVariants.{New, Open, Done}

@@ -1,5 +1,5 @@
 -- The calls of a program as a list of lists, and the ways through it.
-use Rattle.std.specs.Prelude.{◌≡◌, ◌≢◌, ◌<◌, ◌==◌, ℕ, Option, None, Some, option_map, IsSome, IsSomeAnd, List, [], ◌∷◌, map, length, take, All, AllPairs, Contains, count_by, slice_get}
+use Rattle.std.specs.Prelude.{◌≡◌, ◌≢◌, ◌<◌, ◌==◌, ℕ, Option, Some, option_map, IsSome, IsSomeAnd, List, [], ◌∷◌, map, length, take, All, AllPairs, Contains, count_by, slice_get}
 use Rattle.c_syntax.specs.Program.{TFunctionTree, TProgramTree}
 use Rattle.c_layout.specs.Calls.{PlacedCall, stmt_calls, chain_end}
 use Rattle.c_layout.specs.WellTyped.{EachOf}

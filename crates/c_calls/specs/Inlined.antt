@@ -1,5 +1,5 @@
 -- How many statements a function has with those of the functions that it calls, once for each call (this profile).
-use Rattle.std.specs.Prelude.{◌≡◌, ◌+◌, ◌-◌, ◌^◌, ℕ, min, Option, Some, None, option_map, unwrap_or, List, map, get_or}
+use Rattle.std.specs.Prelude.{◌≡◌, ◌+◌, ◌-◌, ◌^◌, ℕ, min, Option, option_map, unwrap_or, List, map, get_or}
 use Rattle.std.specs.List.{sum_by}
 use Rattle.c_syntax.specs.declared.statement.BlockKind.{BlockKind}
 use Rattle.c_syntax.specs.declared.statement.BlockKind.TheVariants as kinds

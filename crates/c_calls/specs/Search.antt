@@ -1,5 +1,5 @@
 -- What a search in depth keeps: the functions that stand in the order so far, and those on the way to the one that is looked at.
-use Rattle.std.specs.Prelude.{◌≡◌, ◌≢◌, ◌⊎◌, ◌≤◌, ◌+◌, ◌-◌, ◌==◌, ℕ, suc, Option, Some, List, [], ◌∷◌, ◌++◌, map, length, get_or, take, All, Contains, count_by, slice_get}
+use Rattle.std.specs.Prelude.{◌≡◌, ◌⊎◌, ◌≤◌, ◌+◌, ◌-◌, ◌==◌, ℕ, suc, Option, Some, List, [], ◌∷◌, ◌++◌, length, get_or, take, All, Contains, count_by, slice_get}
 use Rattle.std.specs.List.{AllByRecursion}
 use Rattle.c_layout.specs.Calls.{PlacedCall, chain_end}
 use Rattle.c_layout.specs.WellTyped.{EachOf}

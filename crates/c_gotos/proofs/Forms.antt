@@ -1,15 +1,13 @@
 -- The stray gotos of each form of statement, an equation a form, and the first of a list of places.
-use Rattle.std.proofs.Common.{◌≡◌, ℕ, ℤ, ◌+◌, ◌<◌, ◌≤◌, Bool, true, false, ◌||◌, List, [], ◌∷◌, ◌++◌, length, take, drop, get_or, Some, None, refl, sym, ap, ◌∙◌, arith}
-use Rattle.std.specs.Prelude.{Option, if◌then◌else◌, slice_get, ◌==◌}
-use Rattle.std.specs.List.{list_any}
+use Rattle.std.proofs.Common.{◌≡◌, ℕ, ℤ, Bool, List, [], ◌∷◌, ◌++◌, refl}
+use Rattle.std.specs.Prelude.{Option, if◌then◌else◌}
 use Rattle.c_written.specs.declared.place.Pos.{Pos}
 use Rattle.c_syntax.specs.declared.statement.BlockKind.{BlockKind}
-use Rattle.c_syntax.specs.declared.statement.TStmt.{TStmt}
 use Rattle.c_syntax.specs.TypedExpr.{TExprTree}
 use Rattle.c_syntax.specs.TypedStmt.{TInitTree, TStmtTree, TStmtTrees, tstmt_tree, tstmts_from}
 use Rattle.c_syntax.specs.TypedStmt as stmts
 use Rattle.c_layout.specs.Jumps.{labels_among}
-use Rattle.c_gotos.specs.Gotos.{around_of, has_label, strays, strays_among}
+use Rattle.c_gotos.specs.Gotos.{has_label, strays, strays_among}
 
 pub stray_empty : (around : List ℕ) (x0 : Pos) → strays around (stmts.Empty x0) ≡ []
 unfolding strays

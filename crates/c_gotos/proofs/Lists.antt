@@ -1,7 +1,6 @@
 -- The first of a list of places, and lists of statements item by item.
-use Rattle.std.proofs.Common.{◌≡◌, ℕ, zero, suc, ◌+◌, ◌<◌, ◌≤◌, Bool, true, false, ◌||◌, List, [], ◌∷◌, ◌++◌, length, take, drop, get_or, Some, None, refl, sym, subst, ap, ◌∙◌, arith, rules, append_assoc, append-nil}
-use Rattle.std.specs.Prelude.{Option, if◌then◌else◌, slice_get, fold, ◌==◌}
-use Rattle.std.specs.List.{list_any}
+use Rattle.std.proofs.Common.{◌≡◌, ℕ, ◌+◌, ◌<◌, Bool, true, false, ◌||◌, List, [], ◌∷◌, ◌++◌, length, take, drop, get_or, Some, None, refl, sym, subst, ap, ◌∙◌, rules, append_assoc, append-nil}
+use Rattle.std.specs.Prelude.{slice_get, fold}
 use Rattle.std.proofs.lemmas.List.{take_more, take-append-drop}
 use Rattle.c_written.specs.declared.place.Pos.{Pos}
 use Rattle.c_syntax.specs.declared.statement.TStmt.{TStmt}

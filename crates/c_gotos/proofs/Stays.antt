@@ -1,10 +1,9 @@
 -- A body without stray gotos is one whose gotos stay.
-use Rattle.std.proofs.Common.{◌≡◌, ℕ, Bool, true, false, ◌||◌, inl, inr, suc, List, [], ◌∷◌, ◌++◌, refl, sym, subst, ap, ◌∙◌, arith, rules}
-use Rattle.std.specs.Prelude.{if◌then◌else◌, Contains, ◌==◌}
+use Rattle.std.proofs.Common.{◌≡◌, ℕ, Bool, true, false, inl, inr, suc, List, [], ◌∷◌, ◌++◌, refl, arith, rules}
+use Rattle.std.specs.Prelude.{if◌then◌else◌, Contains}
 use Rattle.std.proofs.lemmas.Bool.{cases_eq}
-use Rattle.std.specs.List.{list_any}
 use Rattle.c_written.specs.declared.place.Pos.{Pos}
-use Rattle.c_syntax.specs.TypedStmt.{TStmtTree, Empty, Expr, Block, Declare, Static, If, While, DoWhile, For, Switch, Break, Continue, Goto, Return, Label, Case, Default, TStmtTrees, none, more}
+use Rattle.c_syntax.specs.TypedStmt.{TStmtTree, Block, If, While, DoWhile, For, Switch, Goto, TStmtTrees, none, more}
 use Rattle.c_layout.specs.Jumps.{labels_among, GotosStay, GotosStayIn}
 use Rattle.c_gotos.specs.Gotos.{has_label, strays, strays_among}
 

@@ -1,5 +1,5 @@
 -- What the place of each form is, an equation a form, for the proofs about code that goes through it.
-use Rattle.std.proofs.Common.{◌≡◌, ℕ, ℤ, Bool, List, [], ◌∷◌, ◌++◌, refl}
+use Rattle.std.proofs.Common.{◌≡◌, ℕ, Bool, [], refl}
 use Rattle.std.specs.Prelude.{if◌then◌else◌}
 use Rattle.std.specs.declared.boxed.Box.{Box}
 use Rattle.std.specs.declared.alloc.Global.{Global}
@@ -13,7 +13,6 @@ use Rattle.c_syntax.specs.Types.{CTypeTree}
 use Rattle.c_syntax.specs.TypedExpr.{TExprTree, TLvalueTree, texpr_tree}
 use Rattle.c_syntax.specs.TypedExpr as trees
 use Rattle.c_places.specs.declared.touch.Part.TheVariants as parts
-use Rattle.c_places.specs.declared.touch.Touch.{Touch}
 use Rattle.c_places.specs.declared.touch.Touch.TheVariants.{Mem, Object}
 use Rattle.c_places.specs.Places.{array_of, element_of, extended, is_index, moves_left, place_of}
 

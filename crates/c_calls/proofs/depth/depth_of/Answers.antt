@@ -1,4 +1,4 @@
-use Rattle.std.proofs.Common.{◌≡◌, ◌+◌, ◌++◌, ◌∷◌, [], map, get_or, take, refl, subst, sym, ap, ◌∙◌, arith}
+use Rattle.std.proofs.Common.{◌≡◌, ◌+◌, map, get_or, take, refl, subst, sym, ap, ◌∙◌}
 use Rattle.std.specs.Prelude.{min, max}
 use Rattle.std.proofs.lemmas.List.{map_more}
 use Rattle.c_calls.specs.Placed.{placed}

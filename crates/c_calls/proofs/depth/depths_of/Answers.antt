@@ -1,4 +1,4 @@
-use Rattle.std.proofs.Common.{◌≡◌, ◌<◌, length, set, get_or, take, sym, subst, ap, ◌∙◌, arith, length-set}
+use Rattle.std.proofs.Common.{length, get_or, sym, subst, ap, ◌∙◌, arith, length-set}
 use Rattle.std.specs.Prelude.{All}
 use Rattle.std.proofs.lemmas.List.{take_all}
 use Rattle.std.proofs.lemmas.List.Elements.{All-get_or}

@@ -1,4 +1,4 @@
-use Rattle.std.proofs.Common.{◌≡◌, arith}
+use Rattle.std.proofs.Common.{arith}
 use Rattle.c_calls.proofs.Counts.{more_among}
 use Rattle.c_calls.proofs.size.+sizes.Goals as goal
 

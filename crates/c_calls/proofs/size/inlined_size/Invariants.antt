@@ -1,5 +1,3 @@
-use Rattle.std.proofs.Common.{◌≡◌, ◌+◌, ℕ, map, length, take, get_or}
-use Rattle.std.specs.Prelude.{All}
 use Rattle.c_syntax.specs.Program.{tprogram_tree}
 use Rattle.c_calls.specs.Inlined.{sizes_of}
 use Rattle.c_calls.proofs.Inlining.{AreSo}

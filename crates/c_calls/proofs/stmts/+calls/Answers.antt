@@ -1,4 +1,4 @@
-use Rattle.std.proofs.Common.{◌≡◌, ◌+◌, ◌*◌, ◌<◌, ◌++◌, sym, ap, subst, ◌∙◌, arith}
+use Rattle.std.proofs.Common.{◌≡◌, ◌+◌, ◌*◌, ◌++◌, ap, subst, ◌∙◌, arith}
 use Rattle.std.specs.Prelude.{OnOk, option_map}
 use Rattle.c_syntax.specs.TypedExpr.{texpr_tree}
 use Rattle.c_syntax.specs.TypedStmt.{tstmt_tree, tstmts_tree}

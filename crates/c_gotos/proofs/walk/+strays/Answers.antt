@@ -1,4 +1,4 @@
-use Rattle.std.proofs.Common.{◌≡◌, [], None, Some, sym, subst, ap, ◌∙◌}
+use Rattle.std.proofs.Common.{◌≡◌, None, Some, sym, ap, ◌∙◌}
 use Rattle.std.specs.Prelude.{slice_get}
 use Rattle.c_syntax.specs.TypedStmt.{tstmt_tree}
 use Rattle.c_gotos.specs.Gotos.{around_of, strays, strays_among}

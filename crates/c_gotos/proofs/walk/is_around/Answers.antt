@@ -1,4 +1,4 @@
-use Rattle.std.proofs.Common.{◌≡◌, true, get_or, sym, ap, ◌∙◌}
+use Rattle.std.proofs.Common.{sym, ap, ◌∙◌}
 use Rattle.c_gotos.specs.Gotos.{has_label}
 use Rattle.c_gotos.proofs.Lists.{one_has}
 use Rattle.c_gotos.proofs.walk.is_around.Goals as goal

@@ -1,4 +1,4 @@
-use Rattle.std.proofs.Common.{◌≡◌, ◌-◌, length, map, Some, rules, sym, ap, ◌∙◌}
+use Rattle.std.proofs.Common.{◌≡◌, ◌-◌, length, map, Some, rules, ap, ◌∙◌}
 use Rattle.std.specs.Prelude.{slice_get}
 use Rattle.c_layout.specs.Calls.{chain_end}
 use Rattle.c_calls.specs.Placed.{placed}

@@ -1,4 +1,4 @@
-use Rattle.std.proofs.Common.{◌≡◌, ◌<◌, ◌++◌, ◌∷◌, [], length, set, refl, sym, subst, ap, ◌∙◌}
+use Rattle.std.proofs.Common.{◌≡◌, ◌<◌, length, set, refl, sym, subst, ap, ◌∙◌}
 use Rattle.c_layout.specs.Calls.{chain_end}
 use Rattle.c_calls.specs.Search.{AreOrdered, IsDone, IsUnderWay, NoneIsOpen}
 use Rattle.c_calls.proofs.Ways.{goes_back, ends_here, ends}

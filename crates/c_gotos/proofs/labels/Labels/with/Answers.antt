@@ -1,4 +1,4 @@
-use Rattle.std.proofs.Common.{◌≡◌, ◌++◌, ◌∷◌, [], map, sym, subst, ap, ◌∙◌}
+use Rattle.std.proofs.Common.{sym, subst}
 use Rattle.c_gotos.specs.Labels.{AreKnown}
 use Rattle.c_gotos.proofs.Known.{one_more, told_more}
 use Rattle.c_gotos.proofs.labels.Labels.with.Goals as goal
