@@ -1,4 +1,5 @@
--- Bounds of differences of signed variables (Miné's octagons). Variable k stands as two indices: V(2k) = v(k) and V(2k + 1) = - v(k). The bound of i and j is one of V(j) - V(i), and so also of V(bar i) - V(bar j): such a pair of mirrored bounds is kept once.
+-- Bounds of differences of signed variables (Miné's octagons). Variable k stands as two indices: V(2k) = v(k) and V(2k + 1) = - v(k). The bound of i and j is
+-- one of V(j) - V(i), and so also of V(bar i) - V(bar j): such a pair of mirrored bounds is kept once.
 use Rattle.std.specs.Prelude.{ℕ, zero, suc, pos, neg_ℤ, ◌≡◌, ◌≤◌, ◌+◌, ◌-◌, ◌*◌, ◌%◌, ◌^◌, ◌≤ℤ◌, ◌&&◌, if◌then◌else◌, List, length, slice_index_or, nat_lt, nat_eq}
 use Rattle.std.specs.Int.{int_max}
 use Rattle.std.specs.Int.RustNames.{int_le}

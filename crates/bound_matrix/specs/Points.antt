@@ -32,7 +32,8 @@ IsSmallNumber x = (x ≤ℤ pos (2 ^ 90)) × (neg_ℤ (pos (2 ^ 90)) ≤ℤ x)
 pub record IsSmall (m : ℕ → ℕ → Ext) : Type 0 where
   pub small : (i j : ℕ) (x : ℤ) → m i j ≡ Fin x → IsSmallNumber x
 
--- tightly closed over n indices: coherent, 0 from each index to itself, no bound above the sum of two on a way between its ends, each finite bound between the two signs of a variable even, and no bound above half of the sum of those of its two ends
+-- tightly closed over n indices: coherent, 0 from each index to itself, no bound above the sum of two on a way between its ends, each finite bound between
+-- the two signs of a variable even, and no bound above half of the sum of those of its two ends
 pub record IsTight (n : ℕ) (m : ℕ → ℕ → Ext) : Type 0 where
   pub coherent : (i j : ℕ) → m (bar j) (bar i) ≡ m i j
   pub zero : (i : ℕ) → i < n → m i i ≡ Fin (pos 0)

@@ -301,7 +301,8 @@ pub fn close_lowered(cells: &mut [Ext], n: usize, i: usize, j: usize) -> bool
     ensures lower { Lowered (cell n cells.old) (cell n cells.new) }
     ensures sound { (v : ℕ → ℤ) → IsSigned v → Meets v (cell n cells.old) → Meets v (cell n cells.new) }
     ensures dead { result ≡ false → (v : ℕ → ℤ) → IsSigned v → Meets v (cell n cells.old) → ⊥ }
-    ensures tight { result ≡ true → IsSmall (cell n cells.old) → IsMirrored n (cell n cells.old) → WasTightly n i j (cell n cells.old) → IsTightly n (cell n cells.new) }
+    ensures tight { result ≡ true → IsSmall (cell n cells.old) → IsMirrored n (cell n cells.old)
+        → WasTightly n i j (cell n cells.old) → IsTightly n (cell n cells.new) }
 {
     if !close_through(cells, n, &[i, j, partner(i), partner(j)]) {
         return false;

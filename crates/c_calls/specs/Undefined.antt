@@ -23,7 +23,8 @@ pub record IsFirstSeen (graph : List (Option (List PlacedCall))) (f i : ℕ) (ca
 
 -- what was found among the calls that were seen
 abbrev pub IsFound : List (Option (List PlacedCall)) → ℕ → ℕ → Option Call → Type 0
-IsFound graph f i found = MatchOption found ((call : PlacedCall) → IsSeen graph f i call → IsDefined graph call.callee) (λ call. IsFirstSeen graph f i (placed call))
+IsFound graph f i found = MatchOption found ((call : PlacedCall) → IsSeen graph f i call → IsDefined graph call.callee)
+    (λ call. IsFirstSeen graph f i (placed call))
 
 -- the second call, where it stands before the first, and else the first
 abbrev pub IsEarlier : Call → Call → Call → Type 0

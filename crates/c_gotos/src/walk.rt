@@ -63,7 +63,8 @@ fn stray_in_either(
     blocks: &mut Vec<Labels>,
 ) -> Result<Option<Pos>, NoMemory>
     ensures found { IfOk result
-        (λ place. place ≡ slice_get (strays (around_of blocks.old.items) (tstmt_tree then.now) ++ strays (around_of blocks.old.items) (tstmt_tree otherwise.now)) 0) }
+        (λ place. place ≡ slice_get
+        (strays (around_of blocks.old.items) (tstmt_tree then.now) ++ strays (around_of blocks.old.items) (tstmt_tree otherwise.now)) 0) }
     ensures back { OnOk result (blocks.new.items ≡ blocks.old.items) }
 {
     match stray_in(alloc, then, blocks)? {

@@ -14,4 +14,6 @@ use Rattle.c_parse_steps.specs.Answers.{Steps}
 
 -- The result is how the descent reads what may follow a declarator.
 abbrev pub Initialised : ℕ → Scene → List Placed → Result (Option (Box Init Global) × Bor (List Placed)) Fault → Type 0
-Initialised count scene tokens r = (s : SpecTrees) (before : List InitDeclaratorTree) (d : DeclaratorTree) → Steps (λ o. Goes count scene (ADecl (Initial s before d)) tokens o) (λ init rest o. Goes count scene (ADecl (Ending s (before ++ record { declarator = d; init = option_map (λ v. init_tree v.value) init } ∷ []))) rest o) r
+Initialised count scene tokens r = (s : SpecTrees) (before : List InitDeclaratorTree) (d : DeclaratorTree)
+    → Steps (λ o. Goes count scene (ADecl (Initial s before d)) tokens o)
+    (λ init rest o. Goes count scene (ADecl (Ending s (before ++ record { declarator = d; init = option_map (λ v. init_tree v.value) init } ∷ []))) rest o) r

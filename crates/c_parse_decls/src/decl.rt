@@ -68,7 +68,9 @@ pub fn initial<'a>(
     first: Box<Declarator>,
     tokens: &'a [Placed],
 ) -> Reading<'a, Decl>
-    ensures goes { Answers count (scene_of context.now) (part.ADecl (part.Initial (specs_tree specs) [] (boxed_declarator first))) tokens.now (λ d. decl_tree d) result }
+    ensures goes { Answers count (scene_of context.now)
+        (part.ADecl (part.Initial (specs_tree specs) [] (boxed_declarator first))) tokens.now (λ d. decl_tree d)
+        result }
     ensures shorter { IfOk result (λ x. length x.1.now < length tokens.now) }
 {
     let mut inits = Vec::new(context.alloc);
@@ -91,7 +93,8 @@ fn push_declared(
     declarator: Box<Declarator>,
     init: Option<Box<Init>>,
 ) -> Result<(), AllocError>
-    ensures { IfOk result (λ _. map initdeclarator_tree inits.new.items ≡ map initdeclarator_tree inits.old.items ++ initdeclarator_tree (record { declarator = declarator.value; init = init }) ∷ []) }
+    ensures { IfOk result (λ _. map initdeclarator_tree inits.new.items
+        ≡ map initdeclarator_tree inits.old.items ++ initdeclarator_tree (record { declarator = declarator.value; init = init }) ∷ []) }
 {
     let declarator = Box::into_inner(declarator);
     inits.push(InitDeclarator { declarator, init })?;
@@ -126,7 +129,9 @@ fn declaration_end<'a>(
     tokens: &'a [Placed],
 ) -> Reading<'a, Decl>
     requires { first_is is_semicolon tokens.now ≡ true }
-    ensures goes { Answers count (scene_of context.now) (part.ADecl (part.Ending (specs_tree specs) (map initdeclarator_tree inits.items))) tokens.now (λ d. decl_tree d) result }
+    ensures goes { Answers count (scene_of context.now) (part.ADecl (part.Ending (specs_tree specs) (map initdeclarator_tree inits.items))) tokens.now
+        (λ d. decl_tree d)
+        result }
     ensures shorter { IfOk result (λ x. length x.1.now < length tokens.now) }
 {
     let semicolon = Class::Sign(Punctuator::Semicolon);

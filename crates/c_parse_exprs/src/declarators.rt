@@ -152,7 +152,8 @@ fn tails<'a>(
     first: Box<Declarator>,
     tokens: &'a [Placed],
 ) -> Reading<'a, Box<Declarator>>
-    ensures goes { Answers count (scene_of context.now) (part.ADeclarator (part.Tails role plain (boxed_declarator first))) tokens.now (λ d. boxed_declarator d) result }
+    ensures goes { Answers count (scene_of context.now) (part.ADeclarator (part.Tails role plain (boxed_declarator first)))
+        tokens.now (λ d. boxed_declarator d) result }
     ensures shorter { IfOk result (λ x. length x.1.now ≤ length tokens.now) }
 {
     let mut is_plain = plain;
@@ -240,7 +241,8 @@ fn size<'a>(
     inner: Box<Declarator>,
     tokens: &'a [Placed],
 ) -> Reading<'a, Box<Declarator>>
-    ensures goes { Answers count (scene_of context.now) (part.ADeclarator (part.Size role at (boxed_declarator inner))) tokens.now (λ d. boxed_declarator d) result }
+    ensures goes { Answers count (scene_of context.now) (part.ADeclarator (part.Size role at (boxed_declarator inner)))
+        tokens.now (λ d. boxed_declarator d) result }
     ensures shorter { IfOk result (λ x. length x.1.now < length tokens.now) }
 {
     if comes(Lookahead::RightBracket, tokens) {
@@ -263,7 +265,8 @@ fn parameters<'a>(
     inner: Box<Declarator>,
     tokens: &'a [Placed],
 ) -> Reading<'a, Box<Declarator>>
-    ensures goes { Answers count (scene_of context.now) (part.ADeclarator (part.Parameters at (boxed_declarator inner))) tokens.now (λ d. boxed_declarator d) result }
+    ensures goes { Answers count (scene_of context.now) (part.ADeclarator (part.Parameters at (boxed_declarator inner)))
+        tokens.now (λ d. boxed_declarator d) result }
     ensures shorter { IfOk result (λ x. length x.1.now < length tokens.now) }
 {
     if comes(Lookahead::Close, tokens) {

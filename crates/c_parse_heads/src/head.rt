@@ -52,7 +52,8 @@ pub fn for_opening<'a>(
 
 /// A `for`, of its opening and its statement.
 pub fn for_stmt(opening: ForOpening, body: Box<Stmt>) -> Stmt
-    ensures { stmt_tree result ≡ For opening.pos (forstart_tree opening.head.value.start) (optional_tree opening.head.value.condition) (optional_tree opening.head.value.step) (boxed_tree body) }
+    ensures { stmt_tree result ≡ For opening.pos (forstart_tree opening.head.value.start) (optional_tree opening.head.value.condition)
+        (optional_tree opening.head.value.step) (boxed_tree body) }
 {
     Stmt::For {
         pos: opening.pos,

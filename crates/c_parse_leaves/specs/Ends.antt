@@ -15,6 +15,8 @@ pub data Hands {A : Type 0} (tokens : List Placed) : Result A AllocError → Res
   unmade : {e : AllocError} → Hands tokens (Err e) (Err faults.NoMemory)
 
 -- The result is how the descent takes the token that ends a form, and what was made of the form.
-pub data Closes {A : Type 0} (count : ℕ) (scene : Scene) (class : Class) (tokens : List Placed) (made : Result A AllocError) : Result (A × Bor (List Placed)) Fault → Type 0 where
-  closed : {x : Bor Placed × Bor (List Placed)} {r : Result (A × Bor (List Placed)) Fault} → Takes count scene 0 class tokens (Ok x) → Hands x.1.now made r → Closes count scene class tokens made r
+pub data Closes {A : Type 0} (count : ℕ) (scene : Scene) (class : Class) (tokens : List Placed) (made : Result A AllocError) : Result (A × Bor (List Placed))
+    Fault → Type 0 where
+  closed : {x : Bor Placed × Bor (List Placed)} {r : Result (A × Bor (List Placed)) Fault} → Takes count scene 0 class tokens (Ok x) → Hands x.1.now made r
+      → Closes count scene class tokens made r
   unclosed : {f : Fault} → Takes count scene 0 class tokens (Err f) → Closes count scene class tokens made (Err f)

@@ -25,15 +25,21 @@ use Rattle.c_parse_steps.specs.Answers.{Steps}
 
 -- a sign, and this part of an expression behind it
 abbrev pub ReadsBehind : ℕ → Scene → Punctuator → ExprPart → List Placed → Result ((Pos × Box Expr Global) × Bor (List Placed)) Fault → Type 0
-ReadsBehind count scene s x tokens r = (p : Part) (k : Pos → ExprTree → Process (Value p)) → Steps (λ o. Follows count scene p (token 1 (sign s) (λ t. part 1 scene (AnExpr x) (λ e. k t.pos e))) tokens o) (λ a rest o. Follows count scene p (k a.0 (boxed_expr a.1)) rest o) r
+ReadsBehind count scene s x tokens r = (p : Part) (k : Pos → ExprTree → Process (Value p))
+    → Steps (λ o. Follows count scene p (token 1 (sign s) (λ t. part 1 scene (AnExpr x) (λ e. k t.pos e))) tokens o)
+    (λ a rest o. Follows count scene p (k a.0 (boxed_expr a.1)) rest o) r
 
 -- a sign, and the name of a member behind it
 abbrev pub ReadsMember : ℕ → Scene → Punctuator → List Placed → Result ((Pos × List ℕ) × Bor (List Placed)) Fault → Type 0
-ReadsMember count scene s tokens r = (p : Part) (k : Pos → List ℕ → Process (Value p)) → Steps (λ o. Follows count scene p (token 1 (sign s) (λ t. part 1 scene MemberName (λ name. k t.pos name))) tokens o) (λ a rest o. Follows count scene p (k a.0 a.1) rest o) r
+ReadsMember count scene s tokens r = (p : Part) (k : Pos → List ℕ → Process (Value p))
+    → Steps (λ o. Follows count scene p (token 1 (sign s) (λ t. part 1 scene MemberName (λ name. k t.pos name))) tokens o)
+    (λ a rest o. Follows count scene p (k a.0 a.1) rest o) r
 
 -- the word that a declarator declares
 abbrev pub ReadsName : ℕ → Scene → List Placed → Result (Box Declarator Global × Bor (List Placed)) Fault → Type 0
-ReadsName count scene tokens r = (p : Part) (k : DeclaratorTree → Process (Value p)) → Steps (λ o. Follows count scene p (token 0 word (λ t. k (Name t.pos (name_of t.token)))) tokens o) (λ d rest o. Follows count scene p (k (boxed_declarator d)) rest o) r
+ReadsName count scene tokens r = (p : Part) (k : DeclaratorTree → Process (Value p))
+    → Steps (λ o. Follows count scene p (token 0 word (λ t. k (Name t.pos (name_of t.token)))) tokens o)
+    (λ d rest o. Follows count scene p (k (boxed_declarator d)) rest o) r
 
 -- what comes, if it is a primary expression, is none between parentheses
 abbrev pub IsNotEnclosed : Scene → List Placed → Type 0

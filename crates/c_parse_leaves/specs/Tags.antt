@@ -25,11 +25,13 @@ tagged of_enumeration at (Some tag) = EnumerationTagged at tag
 
 -- the tag, where there is one, of either
 abbrev pub ReadsTag : ℕ → Scene → List Placed → Result (Option Tag × Bor (List Placed)) Fault → Type 0
-ReadsTag count scene tokens r = (owner : Owner) (at : Pos) → Steps (λ o. Goes count scene (ASpec (tagged owner at None)) tokens o) (λ tag rest o. Goes count scene (ASpec (tagged owner at tag)) rest o) r
+ReadsTag count scene tokens r = (owner : Owner) (at : Pos)
+    → Steps (λ o. Goes count scene (ASpec (tagged owner at None)) tokens o) (λ tag rest o. Goes count scene (ASpec (tagged owner at tag)) rest o) r
 
 -- the word, and the tag where there is one
 abbrev pub ReadsHead : Owner → ℕ → Scene → List Placed → Result ((Pos × Option Tag) × Bor (List Placed)) Fault → Type 0
-ReadsHead owner count scene tokens r = Steps (λ o. Goes count scene (ASpec Spec) tokens o) (λ head rest o. Goes count scene (ASpec (tagged owner head.0 head.1)) rest o) r
+ReadsHead owner count scene tokens r = Steps (λ o. Goes count scene (ASpec Spec) tokens o)
+    (λ head rest o. Goes count scene (ASpec (tagged owner head.0 head.1)) rest o) r
 
 -- without a tag there are braces
 abbrev pub NamesOrBraces : Option Tag → List Placed → Type 0

@@ -25,7 +25,8 @@ pub fn members_end<'a>(
     tokens: &'a [Placed],
 ) -> Reading<'a, MemberDecl>
     requires { first_is is_semicolon tokens.now ≡ true }
-    ensures goes { Answers count (scene_of context.now) (part.MoreDeclarators (specs_tree specs) (declarators_from declarators.items)) tokens.now (λ m. memberdecl_tree m) result }
+    ensures goes { Answers count (scene_of context.now) (part.MoreDeclarators (specs_tree specs) (declarators_from declarators.items)) tokens.now
+        (λ m. memberdecl_tree m) result }
     ensures shorter { IfOk result (λ x. length x.1.now < length tokens.now) }
 {
     let semicolon = Class::Sign(Punctuator::Semicolon);

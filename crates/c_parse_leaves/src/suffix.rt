@@ -30,7 +30,8 @@ pub fn simple_suffix<'a>(
 ) -> Reading<'a, Box<Expr>>
     requires comes { SuffixComes tokens.now kind (boxed_expr base) }
     requires simple { IsSimpleSuffix kind }
-    ensures goes { Steps (λ o. Goes count (scene_of context.now) (part.AnExpr (part.Suffixes (boxed_expr base))) tokens.now o) (λ e rest o. Goes (count + 1) (scene_of context.now) (part.AnExpr (part.Suffixes (boxed_expr e))) rest o) result }
+    ensures goes { Steps (λ o. Goes count (scene_of context.now) (part.AnExpr (part.Suffixes (boxed_expr base))) tokens.now o)
+        (λ e rest o. Goes (count + 1) (scene_of context.now) (part.AnExpr (part.Suffixes (boxed_expr e))) rest o) result }
     ensures within { IfOk result (λ _. count + 1 ≤ 200) }
     ensures shorter { IfOk result (λ x. length x.1.now < length tokens.now) }
 {
@@ -52,7 +53,8 @@ fn dot<'a>(
     tokens: &'a [Placed],
 ) -> Reading<'a, Box<Expr>>
     requires { suffix_at tokens.now ≡ SuffixKind.Dot }
-    ensures goes { Steps (λ o. Goes count (scene_of context.now) (part.AnExpr (part.Suffixes (boxed_expr base))) tokens.now o) (λ e rest o. Goes (count + 1) (scene_of context.now) (part.AnExpr (part.Suffixes (boxed_expr e))) rest o) result }
+    ensures goes { Steps (λ o. Goes count (scene_of context.now) (part.AnExpr (part.Suffixes (boxed_expr base))) tokens.now o)
+        (λ e rest o. Goes (count + 1) (scene_of context.now) (part.AnExpr (part.Suffixes (boxed_expr e))) rest o) result }
     ensures within { IfOk result (λ _. count + 1 ≤ 200) }
     ensures shorter { IfOk result (λ x. length x.1.now < length tokens.now) }
 {
@@ -69,7 +71,8 @@ fn arrow<'a>(
     tokens: &'a [Placed],
 ) -> Reading<'a, Box<Expr>>
     requires { suffix_at tokens.now ≡ SuffixKind.Arrow }
-    ensures goes { Steps (λ o. Goes count (scene_of context.now) (part.AnExpr (part.Suffixes (boxed_expr base))) tokens.now o) (λ e rest o. Goes (count + 1) (scene_of context.now) (part.AnExpr (part.Suffixes (boxed_expr e))) rest o) result }
+    ensures goes { Steps (λ o. Goes count (scene_of context.now) (part.AnExpr (part.Suffixes (boxed_expr base))) tokens.now o)
+        (λ e rest o. Goes (count + 1) (scene_of context.now) (part.AnExpr (part.Suffixes (boxed_expr e))) rest o) result }
     ensures within { IfOk result (λ _. count + 1 ≤ 200) }
     ensures shorter { IfOk result (λ x. length x.1.now < length tokens.now) }
 {
@@ -104,7 +107,8 @@ fn post_step<'a>(
     tokens: &'a [Placed],
 ) -> Reading<'a, Box<Expr>>
     requires { suffix_at tokens.now ≡ SuffixKind.Step way }
-    ensures goes { Steps (λ o. Goes count (scene_of context.now) (part.AnExpr (part.Suffixes (boxed_expr base))) tokens.now o) (λ e rest o. Goes (count + 1) (scene_of context.now) (part.AnExpr (part.Suffixes (boxed_expr e))) rest o) result }
+    ensures goes { Steps (λ o. Goes count (scene_of context.now) (part.AnExpr (part.Suffixes (boxed_expr base))) tokens.now o)
+        (λ e rest o. Goes (count + 1) (scene_of context.now) (part.AnExpr (part.Suffixes (boxed_expr e))) rest o) result }
     ensures within { IfOk result (λ _. count + 1 ≤ 200) }
     ensures shorter { IfOk result (λ x. length x.1.now < length tokens.now) }
 {

@@ -68,7 +68,8 @@ pub fn no_size<'a>(
     tokens: &'a [Placed],
 ) -> Reading<'a, Box<Declarator>>
     requires { SizeIsMissing role tokens.now }
-    ensures goes { Answers count (scene_of context.now) (part.ADeclarator (part.Size role at (boxed_declarator inner))) tokens.now (λ d. boxed_declarator d) result }
+    ensures goes { Answers count (scene_of context.now) (part.ADeclarator (part.Size role at (boxed_declarator inner)))
+        tokens.now (λ d. boxed_declarator d) result }
     ensures shorter { IfOk result (λ x. length x.1.now < length tokens.now) }
 {
     let closes = Class::Sign(Punctuator::RightBracket);
@@ -86,7 +87,8 @@ pub fn no_parameters<'a>(
     tokens: &'a [Placed],
 ) -> Reading<'a, Box<Declarator>>
     requires { first_is is_close tokens.now ≡ true }
-    ensures goes { Answers count (scene_of context.now) (part.ADeclarator (part.Parameters at (boxed_declarator inner))) tokens.now (λ d. boxed_declarator d) result }
+    ensures goes { Answers count (scene_of context.now) (part.ADeclarator (part.Parameters at (boxed_declarator inner)))
+        tokens.now (λ d. boxed_declarator d) result }
     ensures shorter { IfOk result (λ x. length x.1.now < length tokens.now) }
 {
     let closes = Class::Sign(Punctuator::RightParenthesis);

@@ -54,9 +54,14 @@ StatementStarts scene tokens kind = (label_ahead scene tokens ≡ false) × (sta
 
 -- an expression between parentheses, and what follows it
 abbrev pub in_parentheses : {A : Type 0} → Scene → (ExprTree → Process A) → Process A
-in_parentheses scene k = token 1 (sign signs.LeftParenthesis) (λ opening. part 1 scene (AnExpr Expression) (λ value. part 1 scene (Close by_parenthesis) (λ close. k value)))
+in_parentheses scene k = token 1 (sign signs.LeftParenthesis)
+    (λ opening. part 1 scene (AnExpr Expression) (λ value. part 1 scene (Close by_parenthesis) (λ close. k value)))
 
 -- The result is how the descent reads an expression between parentheses.
 pub data Conditions (count : ℕ) (scene : Scene) (tokens : List Placed) : Result (Box Expr Global × Bor (List Placed)) Fault → Type 0 where
-  tested : {x : Box Expr Global × Bor (List Placed)} → ((p : Part) (k : ExprTree → Process (Value p)) (o : Outcome (Value p)) → Follows count scene p (k (boxed_expr x.0)) x.1.now o → Follows count scene p (in_parentheses scene k) tokens o) → Conditions count scene tokens (Ok x)
-  untested : {f : Fault} → Halts (λ why rest. (p : Part) (k : ExprTree → Process (Value p)) → Follows count scene p (in_parentheses scene k) tokens (Stop why rest)) f → Conditions count scene tokens (Err f)
+  tested : {x : Box Expr Global × Bor (List Placed)}
+      → ((p : Part) (k : ExprTree → Process (Value p)) (o : Outcome (Value p)) → Follows count scene p (k (boxed_expr x.0)) x.1.now o
+      → Follows count scene p (in_parentheses scene k) tokens o) → Conditions count scene tokens (Ok x)
+  untested : {f : Fault}
+      → Halts (λ why rest. (p : Part) (k : ExprTree → Process (Value p)) → Follows count scene p (in_parentheses scene k) tokens (Stop why rest)) f
+      → Conditions count scene tokens (Err f)

@@ -53,8 +53,12 @@ Reads count scene p q tokens view r = Gives (λ o. Follows count scene p q token
 
 -- The result is how the descent takes a token of a production.
 pub data Takes (count : ℕ) (scene : Scene) (forms : ℕ) (class : Class) (tokens : List Placed) : Result (Bor Placed × Bor (List Placed)) Fault → Type 0 where
-  taken : {x : Bor Placed × Bor (List Placed)} → ((p : Part) (k : Placed → Process (Value p)) (o : Outcome (Value p)) → Follows count scene p (k x.0.now) x.1.now o → Follows count scene p (token forms class k) tokens o) → Takes count scene forms class tokens (Ok x)
-  refused : {f : Fault} → Halts (λ why rest. (p : Part) (k : Placed → Process (Value p)) → Follows count scene p (token forms class k) tokens (Stop why rest)) f → Takes count scene forms class tokens (Err f)
+  taken : {x : Bor Placed × Bor (List Placed)}
+      → ((p : Part) (k : Placed → Process (Value p)) (o : Outcome (Value p)) → Follows count scene p (k x.0.now) x.1.now o
+      → Follows count scene p (token forms class k) tokens o) → Takes count scene forms class tokens (Ok x)
+  refused : {f : Fault}
+      → Halts (λ why rest. (p : Part) (k : Placed → Process (Value p)) → Follows count scene p (token forms class k) tokens (Stop why rest)) f
+      → Takes count scene forms class tokens (Err f)
 
 -- The result is one step of the descent: where it goes on from what was read, it goes on from the start.
 pub data Steps {A V : Type 0} (goes : Outcome V → Type 0) (next : A → List Placed → Outcome V → Type 0) : Result (A × Bor (List Placed)) Fault → Type 0 where
@@ -63,7 +67,8 @@ pub data Steps {A V : Type 0} (goes : Outcome V → Type 0) (next : A → List P
 
 -- the words `const` behind a `*`
 abbrev pub Consts : ℕ → Scene → Role → Pos → List Placed → Result (Bool × Bor (List Placed)) Fault → Type 0
-Consts count scene role at tokens r = Steps (λ o. Goes count scene (ADeclarator (Pointed role at false)) tokens o) (λ is_const rest o. Goes count scene (ADeclarator (Pointed role at is_const)) rest o) r
+Consts count scene role at tokens r = Steps (λ o. Goes count scene (ADeclarator (Pointed role at false)) tokens o)
+    (λ is_const rest o. Goes count scene (ADeclarator (Pointed role at is_const)) rest o) r
 
 -- a postfix form of this kind comes, and may follow the expression
 abbrev pub CallComes : List Placed → ExprTree → Type 0
@@ -93,7 +98,9 @@ TailStarts tokens tails.Nothing = ⊥
 
 -- the declarator goes on with brackets or parameters, where they bear no construct
 abbrev pub Extends : ℕ → Scene → Role → DeclaratorTree → List Placed → Result (Box Declarator Global × Bor (List Placed)) Fault → Type 0
-Extends count scene role inner tokens r = (plain : Bool) → part_construct scene (ADeclarator (Tails role plain inner)) tokens ≡ None → Steps (λ o. Goes count scene (ADeclarator (Tails role plain inner)) tokens o) (λ longer rest o. Goes count scene (ADeclarator (Tails role false (boxed_declarator longer))) rest o) r
+Extends count scene role inner tokens r = (plain : Bool) → part_construct scene (ADeclarator (Tails role plain inner)) tokens ≡ None
+    → Steps (λ o. Goes count scene (ADeclarator (Tails role plain inner)) tokens o)
+    (λ longer rest o. Goes count scene (ADeclarator (Tails role false (boxed_declarator longer))) rest o) r
 
 -- brackets without a size, and not of a member
 abbrev pub SizeIsMissing : Role → List Placed → Type 0

@@ -80,7 +80,8 @@ pub fn refused<'a>(context: &Context<'_>, count: u32, tokens: &'a [Placed]) -> F
 
 /// Why the parenthesis of a call is refused that follows no plain word.
 pub fn barred_call(count: u32, tokens: &[Placed]) -> Fault<'_>
-    ensures { (base : ExprTree) → first_is is_open tokens.now ≡ true → IsStop (barred (part.AnExpr (part.Suffixes base)) count Construct.FunctionPointer tokens.now) tokens.now result }
+    ensures { (base : ExprTree) → first_is is_open tokens.now ≡ true
+        → IsStop (barred (part.AnExpr (part.Suffixes base)) count Construct.FunctionPointer tokens.now) tokens.now result }
 {
     if count > NESTING_LIMIT - 2 {
         Fault::TooDeep(tokens)

@@ -174,7 +174,8 @@ fn else_part<'a>(
     then: Box<Stmt>,
     tokens: &'a [Placed],
 ) -> Reading<'a, Stmt>
-    ensures goes { Answers count (scene_of context.now) (part.AStmt (part.Else at (boxed_expr condition) (boxed_tree then))) tokens.now (λ s. stmt_tree s) result }
+    ensures goes { Answers count (scene_of context.now) (part.AStmt (part.Else at (boxed_expr condition) (boxed_tree then)))
+        tokens.now (λ s. stmt_tree s) result }
     ensures shorter { IfOk result (λ x. length x.1.now ≤ length tokens.now) }
 {
     if else_comes(&then, tokens) {
@@ -201,7 +202,8 @@ fn else_form<'a>(
     tokens: &'a [Placed],
 ) -> Reading<'a, Stmt>
     requires { (first_is is_else_word tokens.now && not (ends_open (boxed_tree then))) ≡ true }
-    ensures goes { Answers count (scene_of context.now) (part.AStmt (part.Else at (boxed_expr condition) (boxed_tree then))) tokens.now (λ s. stmt_tree s) result }
+    ensures goes { Answers count (scene_of context.now) (part.AStmt (part.Else at (boxed_expr condition) (boxed_tree then)))
+        tokens.now (λ s. stmt_tree s) result }
     ensures shorter { IfOk result (λ x. length x.1.now < length tokens.now) }
 {
     let (_word, behind) = taken(context, count, 0, Class::Keyword(Keyword::Else), tokens)?;

@@ -61,7 +61,9 @@ fn outer_initial<'a>(
     first: Box<Declarator>,
     tokens: &'a [Placed],
 ) -> Reading<'a, Outer>
-    ensures goes { Answers count (scene_of context.now) (part.AnOuter (part.OuterInitial (specs_tree specs) (boxed_declarator first))) tokens.now (λ o. outer_tree o) result }
+    ensures goes { Answers count (scene_of context.now) (part.AnOuter (part.OuterInitial (specs_tree specs) (boxed_declarator first))) tokens.now
+        (λ o. outer_tree o)
+        result }
     ensures shorter { IfOk result (λ x. length x.1.now < length tokens.now) }
 {
     if comes(Lookahead::Brace, tokens) {
@@ -80,7 +82,8 @@ fn function<'a>(
     tokens: &'a [Placed],
 ) -> Reading<'a, Outer>
     requires { first_is is_brace tokens.now ≡ true }
-    ensures goes { Answers count (scene_of context.now) (part.AnOuter (part.OuterInitial (specs_tree specs) (boxed_declarator declarator))) tokens.now (λ o. outer_tree o) result }
+    ensures goes { Answers count (scene_of context.now) (part.AnOuter (part.OuterInitial (specs_tree specs) (boxed_declarator declarator))) tokens.now
+        (λ o. outer_tree o) result }
     ensures shorter { IfOk result (λ x. length x.1.now < length tokens.now) }
 {
     let brace = Class::Sign(Punctuator::LeftBrace);

@@ -46,7 +46,8 @@ pub fn parse(alloc: Global, tokens: &Tokens) -> Result<File, ParseError>
     // What is refused is refused for this reason at this place.
     ensures refused { IfErr result (λ e. TellsRefused tokens.now e) }
     // Tokens that are refused are answered so, unless memory runs out.
-    ensures stops { (rest : List Placed) (why : Why) → IsRefused tokens.now.list rest why → MatchResult result (λ _. ⊥) (λ e. IsError tokens.now rest why e ⊎ (e ≡ NoMemory)) }
+    ensures stops { (rest : List Placed) (why : Why) → IsRefused tokens.now.list rest why
+        → MatchResult result (λ _. ⊥) (λ e. IsError tokens.now rest why e ⊎ (e ≡ NoMemory)) }
 {
     match outers(alloc, tokens.list.as_slice()) {
         Ok(outers) => Ok(File {
@@ -58,7 +59,8 @@ pub fn parse(alloc: Global, tokens: &Tokens) -> Result<File, ParseError>
 
 // The declarations of a file.
 fn outers(alloc: Global, tokens: &[Placed]) -> Result<Vec<Outer>, Fault<'_>>
-    ensures { MatchResult result (λ v. Goes 0 at_start (part.Outers []) tokens.now (Done (map (λ o. outer_tree o) v.items) [])) (λ f. Halts (λ why rest. Goes 0 at_start (part.Outers []) tokens.now (Stop why rest)) f) }
+    ensures { MatchResult result (λ v. Goes 0 at_start (part.Outers []) tokens.now (Done (map (λ o. outer_tree o) v.items) []))
+        (λ f. Halts (λ why rest. Goes 0 at_start (part.Outers []) tokens.now (Stop why rest)) f) }
 {
     let mut outers: Vec<Outer> = Vec::new(alloc);
     let mut types = TypeNames::new(alloc);

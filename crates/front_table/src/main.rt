@@ -7,7 +7,8 @@
 //! | `lex` | the kinds and places of the tokens and the place of the end, as in `k1:1 w1:5 1:9`, or the refusal |
 //! | `parse` | the tree in a short notation, as in `Int (fn f void){return (Plus a b);}`, or the refusal |
 //! | `accepts` | `a file`, or the refusal |
-//! | `layout` | what each line of the text is answered, joined by `; `: `struct char, int` adds a struct and tells its offsets, `size array 3 struct 0` its size and alignment, and `promote`, `balance`, `wrap` and `literal` what these calls answer |
+//! | `layout` | what each line of the text is answered, joined by `; `: `struct char, int` adds a struct and tells its offsets, `size array 3 struct 0` its
+//! size and alignment, and `promote`, `balance`, `wrap` and `literal` what these calls answer |
 //! | `fronts` | the lengths of the fronts of the text that are files |
 //! | `alarms` | what may go wrong, as `Overflow 1:36 2147483648`, or `no alarm`, or `not built`, or the refusal |
 #![tactic(auto)]

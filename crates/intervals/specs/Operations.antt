@@ -23,7 +23,8 @@ pub record CarriesOne (op : NOp) (a r : Interval) : Type 0 where
 pub record Carries (op : NOp) (a b r : Interval) : Type 0 where
   pub holds : (x y n : ℤ) → Admits a x → Admits b y → binary_value op x y ≡ Some n → Admits r n
   pub point : (x y n : ℤ) → IsPoint a x → IsPoint b y → binary_value op x y ≡ Some n → FitsSigned w128 n → IsPoint r n
-  pub plain : (s t u : Span) → IsNotByZero op (ends_of b) → FitsSpan s → IsWithin s a → FitsSpan t → IsWithin t b → binary_span op s t ≡ Some u → FitsSpan u → IsWithin u r
+  pub plain : (s t u : Span) → IsNotByZero op (ends_of b) → FitsSpan s → IsWithin s a → FitsSpan t → IsWithin t b → binary_span op s t ≡ Some u → FitsSpan u
+      → IsWithin u r
 
 -- the operators on bits
 abbrev pub IsBitwise : NOp → Type 0

@@ -135,7 +135,8 @@ fn one(minus_a: bool, a: Interval, minus_b: bool, b: Interval) -> Interval
 
 // What an operator makes of a number of the one sign and one of the other.
 fn of_signs(op: NOp, minus_a: bool, a: Interval, minus_b: bool, b: Interval) -> Interval
-    ensures holds { (x y : ℕ) (n : ℤ) → IsLogical op → Admits a (pos x) → Admits b (pos y) → binary_value op (of_sign minus_a x) (of_sign minus_b y) ≡ Some n → Admits result n }
+    ensures holds { (x y : ℕ) (n : ℤ) → IsLogical op → Admits a (pos x) → Admits b (pos y) → binary_value op (of_sign minus_a x) (of_sign minus_b y) ≡ Some n
+        → Admits result n }
 {
     match op {
         NOp::And => both(minus_a, a, minus_b, b),

@@ -77,8 +77,10 @@ impl ValueDomain for Interval {
     /// Comparisons are 0, 1 or both just as the two ranges decide them.
     fn binary(op: NOp, a: &Self, b: &Self) -> Self
         ensures holds { (x y n : ℤ) → Admits a.now x → Admits b.now y → binary_value op x y ≡ Some n → Admits result n }
-        ensures point { (x y n : ℤ) → IsTrue true → IsPoint (ends_of a.now) x → IsPoint (ends_of b.now) y → binary_value op x y ≡ Some n → FitsSigned w128 n → IsPoint (ends_of result) n }
-        ensures plain { (s t r : Span) → IsTrue true → IsNotByZero op (ends_of b.now) → NoWider (ends_of a.now) (range_of s) → FitsSpan s → NoWider (ends_of b.now) (range_of t) → FitsSpan t → binary_span op s t ≡ Some r → FitsSpan r → NoWider (ends_of result) (range_of r) }
+        ensures point { (x y n : ℤ) → IsTrue true → IsPoint (ends_of a.now) x → IsPoint (ends_of b.now) y → binary_value op x y ≡ Some n → FitsSigned w128 n
+            → IsPoint (ends_of result) n }
+        ensures plain { (s t r : Span) → IsTrue true → IsNotByZero op (ends_of b.now) → NoWider (ends_of a.now) (range_of s) → FitsSpan s
+            → NoWider (ends_of b.now) (range_of t) → FitsSpan t → binary_span op s t ≡ Some r → FitsSpan r → NoWider (ends_of result) (range_of r) }
         ensures decides { Decides op a.now b.now result }
     {
         binary(op, a, b)

@@ -76,9 +76,12 @@ impl Interval {
     pub fn add(&self, other: &Interval) -> Interval
         ensures keeps { (x y : ℤ) → Admits self.now x → Admits other.now y → Admits result (x +ℤ y) }
         ensures point { (x y : ℤ) → IsPoint self.now x → IsPoint other.now y → FitsSigned w128 (x +ℤ y) → IsPoint result (x +ℤ y) }
-        ensures least { (l h : ℤ) → FitsSigned w128 l → FitsSigned w128 h → IsFinite self.now → IsFinite other.now → ((x y : ℤ) → Admits self.now x → Admits other.now y → IsBetween l h (x +ℤ y)) → LiesBetween l h result }
-        ensures low { (p q : ℤ) → least_end self.now ≡ Ext.Fin p → least_end other.now ≡ Ext.Fin q → FitsSigned w128 (p +ℤ q) → least_end result ≡ Ext.Fin (p +ℤ q) }
-        ensures high { (p q : ℤ) → greatest_end self.now ≡ Ext.Fin p → greatest_end other.now ≡ Ext.Fin q → FitsSigned w128 (p +ℤ q) → greatest_end result ≡ Ext.Fin (p +ℤ q) }
+        ensures least { (l h : ℤ) → FitsSigned w128 l → FitsSigned w128 h → IsFinite self.now → IsFinite other.now
+            → ((x y : ℤ) → Admits self.now x → Admits other.now y → IsBetween l h (x +ℤ y)) → LiesBetween l h result }
+        ensures low { (p q : ℤ) → least_end self.now ≡ Ext.Fin p → least_end other.now ≡ Ext.Fin q → FitsSigned w128 (p +ℤ q)
+            → least_end result ≡ Ext.Fin (p +ℤ q) }
+        ensures high { (p q : ℤ) → greatest_end self.now ≡ Ext.Fin p → greatest_end other.now ≡ Ext.Fin q → FitsSigned w128 (p +ℤ q) → greatest_end result
+            ≡ Ext.Fin (p +ℤ q) }
     {
         Interval {
             lo: add_low(self.lo, other.lo),
@@ -90,9 +93,12 @@ impl Interval {
     pub fn sub(&self, other: &Interval) -> Interval
         ensures keeps { (x y : ℤ) → Admits self.now x → Admits other.now y → Admits result (x -ℤ y) }
         ensures point { (x y : ℤ) → IsPoint self.now x → IsPoint other.now y → FitsSigned w128 (x -ℤ y) → IsPoint result (x -ℤ y) }
-        ensures least { (l h : ℤ) → FitsSigned w128 l → FitsSigned w128 h → IsFinite self.now → IsFinite other.now → ((x y : ℤ) → Admits self.now x → Admits other.now y → IsBetween l h (x -ℤ y)) → LiesBetween l h result }
-        ensures low { (p q : ℤ) → least_end self.now ≡ Ext.Fin p → greatest_end other.now ≡ Ext.Fin q → FitsSigned w128 (p -ℤ q) → least_end result ≡ Ext.Fin (p -ℤ q) }
-        ensures high { (p q : ℤ) → greatest_end self.now ≡ Ext.Fin p → least_end other.now ≡ Ext.Fin q → FitsSigned w128 (p -ℤ q) → greatest_end result ≡ Ext.Fin (p -ℤ q) }
+        ensures least { (l h : ℤ) → FitsSigned w128 l → FitsSigned w128 h → IsFinite self.now → IsFinite other.now
+            → ((x y : ℤ) → Admits self.now x → Admits other.now y → IsBetween l h (x -ℤ y)) → LiesBetween l h result }
+        ensures low { (p q : ℤ) → least_end self.now ≡ Ext.Fin p → greatest_end other.now ≡ Ext.Fin q → FitsSigned w128 (p -ℤ q)
+            → least_end result ≡ Ext.Fin (p -ℤ q) }
+        ensures high { (p q : ℤ) → greatest_end self.now ≡ Ext.Fin p → least_end other.now ≡ Ext.Fin q → FitsSigned w128 (p -ℤ q) → greatest_end result
+            ≡ Ext.Fin (p -ℤ q) }
     {
         Interval {
             lo: sub_low(self.lo, other.hi),
@@ -104,7 +110,8 @@ impl Interval {
     pub fn mul(&self, other: &Interval) -> Interval
         ensures keeps { (x y : ℤ) → Admits self.now x → Admits other.now y → Admits result (x *ℤ y) }
         ensures point { (x y : ℤ) → IsPoint self.now x → IsPoint other.now y → FitsSigned w128 (x *ℤ y) → IsPoint result (x *ℤ y) }
-        ensures least { (l h : ℤ) → FitsSigned w128 l → FitsSigned w128 h → IsFinite self.now → IsFinite other.now → ((x y : ℤ) → Admits self.now x → Admits other.now y → IsBetween l h (x *ℤ y)) → LiesBetween l h result }
+        ensures least { (l h : ℤ) → FitsSigned w128 l → FitsSigned w128 h → IsFinite self.now → IsFinite other.now
+            → ((x y : ℤ) → Admits self.now x → Admits other.now y → IsBetween l h (x *ℤ y)) → LiesBetween l h result }
     {
         let (a, b, c, d) = (self.lo, self.hi, other.lo, other.hi);
         Interval {
@@ -118,7 +125,8 @@ impl Interval {
     pub fn quot(&self, other: &Interval) -> Interval
         ensures keeps { (x y : ℤ) → Admits self.now x → Admits other.now y → y ≢ pos 0 → Admits result (int_div x y) }
         ensures point { (x y : ℤ) → IsPoint self.now x → IsPoint other.now y → y ≢ pos 0 → FitsSigned w128 (int_div x y) → IsPoint result (int_div x y) }
-        ensures least { (l h d : ℤ) → FitsSigned w128 l → FitsSigned w128 h → IsFinite self.now → IsFinite other.now → Admits other.now d → d ≢ pos 0 → ((x y : ℤ) → Admits self.now x → Admits other.now y → y ≢ pos 0 → IsBetween l h (int_div x y)) → LiesBetween l h result }
+        ensures least { (l h d : ℤ) → FitsSigned w128 l → FitsSigned w128 h → IsFinite self.now → IsFinite other.now → Admits other.now d → d ≢ pos 0
+            → ((x y : ℤ) → Admits self.now x → Admits other.now y → y ≢ pos 0 → IsBetween l h (int_div x y)) → LiesBetween l h result }
     {
         let negative = other.part(Ext::Low, Ext::Fin(-1));
         let positive = other.part(Ext::Fin(1), Ext::High);
@@ -137,7 +145,8 @@ impl Interval {
     pub fn neg(&self) -> Interval
         ensures keeps { (x : ℤ) → Admits self.now x → Admits result (neg_ℤ x) }
         ensures point { (x : ℤ) → IsPoint self.now x → FitsSigned w128 (neg_ℤ x) → IsPoint result (neg_ℤ x) }
-        ensures least { (l h : ℤ) → FitsSigned w128 l → FitsSigned w128 h → IsFinite self.now → ((x : ℤ) → Admits self.now x → IsBetween l h (neg_ℤ x)) → LiesBetween l h result }
+        ensures least { (l h : ℤ) → FitsSigned w128 l → FitsSigned w128 h → IsFinite self.now → ((x : ℤ) → Admits self.now x → IsBetween l h (neg_ℤ x))
+            → LiesBetween l h result }
         ensures low { (p : ℤ) → greatest_end self.now ≡ Ext.Fin p → FitsSigned w128 (neg_ℤ p) → least_end result ≡ Ext.Fin (neg_ℤ p) }
         ensures high { (p : ℤ) → least_end self.now ≡ Ext.Fin p → FitsSigned w128 (neg_ℤ p) → greatest_end result ≡ Ext.Fin (neg_ℤ p) }
     {
@@ -175,7 +184,8 @@ impl Interval {
     fn quot_by(self, divisors: Interval) -> Interval
         requires { IsOneSided divisors }
         ensures keeps { (x y : ℤ) → Admits self x → Admits divisors y → Admits result (int_div x y) }
-        ensures least { (l h : ℤ) → FitsSigned w128 l → FitsSigned w128 h → IsFinite self → IsFinite divisors → ((x y : ℤ) → Admits self x → Admits divisors y → IsBetween l h (int_div x y)) → LiesBetween l h result }
+        ensures least { (l h : ℤ) → FitsSigned w128 l → FitsSigned w128 h → IsFinite self → IsFinite divisors
+            → ((x y : ℤ) → Admits self x → Admits divisors y → IsBetween l h (int_div x y)) → LiesBetween l h result }
     {
         let (a, b, c, d) = (self.lo, self.hi, divisors.lo, divisors.hi);
         Interval {
@@ -189,7 +199,8 @@ impl Interval {
         ensures left { (n : ℤ) → Admits self n → Admits result n }
         ensures right { (n : ℤ) → Admits other n → Admits result n }
         ensures least { (l h : ℤ) → LiesBetween l h self → LiesBetween l h other → LiesBetween l h result }
-        ensures ends { (least_end result ≡ lesser (least_end self) (least_end other)) × (greatest_end result ≡ greater (greatest_end self) (greatest_end other)) }
+        ensures ends { (least_end result ≡ lesser (least_end self) (least_end other))
+            × (greatest_end result ≡ greater (greatest_end self) (greatest_end other)) }
     {
         Interval {
             lo: min(self.lo, other.lo),

@@ -9,7 +9,9 @@ use Rattle.num_api.specs.Exprs.{NExprTree, Const, Read, Unary, Binary}
 use Rattle.num_api.specs.Reading.{op_number}
 
 unfoldable pub op_of : ℕ → NOp
-op_of n = if nat_eq n 0 then Neg else if nat_eq n 1 then Not else if nat_eq n 2 then Add else if nat_eq n 3 then Sub else if nat_eq n 4 then Mul else if nat_eq n 5 then Quot else if nat_eq n 6 then Rem else if nat_eq n 7 then Shl else if nat_eq n 8 then Shr else if nat_eq n 9 then And else if nat_eq n 10 then Or else if nat_eq n 11 then Xor else if nat_eq n 12 then Eq else if nat_eq n 13 then Ne else if nat_eq n 14 then Lt else Le
+op_of n = if nat_eq n 0 then Neg else if nat_eq n 1 then Not else if nat_eq n 2 then Add else if nat_eq n 3 then Sub else if nat_eq n 4 then Mul else if
+    nat_eq n 5 then Quot else if nat_eq n 6 then Rem else if nat_eq n 7 then Shl else if nat_eq n 8 then Shr else if nat_eq n 9 then And else if nat_eq n 10
+    then Or else if nat_eq n 11 then Xor else if nat_eq n 12 then Eq else if nat_eq n 13 then Ne else if nat_eq n 14 then Lt else Le
 
 pub op_back : (op : NOp) → op_of (op_number op) ≡ op
 unfolding op_of

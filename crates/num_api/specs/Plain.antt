@@ -28,7 +28,8 @@ IsPlain given (Binary op a b) = IsSomeAnd (plain given (Binary op a b)) FitsSpan
 
 -- the rule leaves no 0 for the divisor, or it is a variable that is not known to be 0
 abbrev pub IsNonzero : (ℕ → Range) → (ℕ → Range) → NExprTree → Type 0
-IsNonzero known given b = ((s : Span) → plain given b ≡ Some s → may_equal s (point (pos 0)) ≡ false) ⊎ ((t : ℕ) × (b ≡ Read t) × (IsPoint (known t) (pos 0) → ⊥))
+IsNonzero known given b = ((s : Span) → plain given b ≡ Some s → may_equal s (point (pos 0)) ≡ false)
+    ⊎ ((t : ℕ) × (b ≡ Read t) × (IsPoint (known t) (pos 0) → ⊥))
 
 -- each quotient's divisor is, by the rule, never 0, or a variable that is not known to be 0
 abbrev pub MayDivide : (ℕ → Range) → (ℕ → Range) → NExprTree → Type 0

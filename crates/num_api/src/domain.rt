@@ -53,9 +53,12 @@ pub trait Oracle {
     fn range(&self, e: &NExpr) -> Range
         ensures answer { may_range self.now (nexpr_tree e.now) result }
         ensures holds { (v : List ℤ) (n : ℤ) → admits self.now v → value_of v (nexpr_tree e.now) ≡ Some n → InRange result n }
-        ensures point { (v : List ℤ) (n : ℤ) → IsTrue exact → admits self.now v → IsSharpOn (known self.now) v (nexpr_tree e.now) → AllFit v (nexpr_tree e.now) → value_of v (nexpr_tree e.now) ≡ Some n → IsPoint result n }
+        ensures point { (v : List ℤ) (n : ℤ) → IsTrue exact → admits self.now v → IsSharpOn (known self.now) v (nexpr_tree e.now) → AllFit v (nexpr_tree e.now)
+            → value_of v (nexpr_tree e.now) ≡ Some n → IsPoint result n }
         ensures known { (x : ℕ) → IsTrue exact → nexpr_tree e.now ≡ Read x → NoWider result (known self.now x) }
-        ensures plain { (given : ℕ → Range) (s : Span) → IsTrue exact → IsUnder (known self.now) given → IsPlain given (nexpr_tree e.now) → plain given (nexpr_tree e.now) ≡ Some s → NoWider result (range_of s) };
+        ensures plain { (given : ℕ → Range) (s : Span) → IsTrue exact → IsUnder (known self.now) given → IsPlain given (nexpr_tree e.now)
+            → plain given (nexpr_tree e.now)
+            ≡ Some s → NoWider result (range_of s) };
 
     /// A class that holds the expression's value.
     fn residue(&self, e: &NExpr) -> Residue
@@ -97,27 +100,43 @@ pub trait NumDomain: Oracle + Sized + Drop {
         ask: &O,
         out: &mut Messages,
     ) -> Result<(), NoMemory>
-        ensures after { OnOk result ((v w : List ℤ) (n : ℤ) → Self.admits self.old v → O.admits ask.now v → value_of v (nexpr_tree e.now) ≡ Some n → SetTo x.0 n v w → Self.admits self.new w) }
+        ensures after { OnOk result
+            ((v w : List ℤ) (n : ℤ) → Self.admits self.old v → O.admits ask.now v → value_of v (nexpr_tree e.now) ≡ Some n → SetTo x.0 n v w
+            → Self.admits self.new w) }
         ensures kept { OnOk result (Adds out.old out.new) }
-        ensures told { OnOk result ((v w : List ℤ) (n : ℤ) → Self.admits self.old v → O.admits ask.now v → value_of v (nexpr_tree e.now) ≡ Some n → SetTo x.0 n v w → TellsOf w out.old out.new) }
-        ensures sharp_here { OnOk result ((v : List ℤ) (n : ℤ) → IsTrue Self.exact → Self.admits self.old v → O.admits ask.now v → IsSharpOn (Self.known self.old) v (nexpr_tree e.now) → AllFit v (nexpr_tree e.now) → value_of v (nexpr_tree e.now) ≡ Some n → IsPoint (Self.known self.new x.0) n) }
-        ensures sharp_others { OnOk result ((v : List ℤ) (n : ℤ) (y : ℕ) → IsTrue Self.exact → Self.admits self.old v → O.admits ask.now v → IsSharpOn (Self.known self.old) v (nexpr_tree e.now) → AllFit v (nexpr_tree e.now) → value_of v (nexpr_tree e.now) ≡ Some n → y ≢ x.0 → IsSharp (Self.known self.old) v y → IsSharp (Self.known self.new) v y) }
-        ensures plain { OnOk result ((given : ℕ → Range) (s : Span) → IsTrue Self.exact → IsUnder (Self.known self.old) given → IsPlain given (nexpr_tree e.now) → MayDivide (Self.known self.old) given (nexpr_tree e.now) → plain given (nexpr_tree e.now) ≡ Some s → IsUnder (Self.known self.new) (with_range given x.0 (range_of s))) }
-        ensures others { OnOk result ((given : ℕ → Range) → IsTrue Self.exact → IsUnder (Self.known self.old) given → IsUnder (Self.known self.new) (with_range given x.0 all_numbers)) };
+        ensures told { OnOk result
+            ((v w : List ℤ) (n : ℤ) → Self.admits self.old v → O.admits ask.now v → value_of v (nexpr_tree e.now) ≡ Some n → SetTo x.0 n v w
+            → TellsOf w out.old out.new) }
+        ensures sharp_here { OnOk result ((v : List ℤ) (n : ℤ) → IsTrue Self.exact → Self.admits self.old v → O.admits ask.now v
+            → IsSharpOn (Self.known self.old) v (nexpr_tree e.now) → AllFit v (nexpr_tree e.now) → value_of v (nexpr_tree e.now) ≡ Some n
+            → IsPoint (Self.known self.new x.0) n) }
+        ensures sharp_others { OnOk result ((v : List ℤ) (n : ℤ) (y : ℕ) → IsTrue Self.exact → Self.admits self.old v → O.admits ask.now v
+            → IsSharpOn (Self.known self.old) v (nexpr_tree e.now) → AllFit v (nexpr_tree e.now) → value_of v (nexpr_tree e.now) ≡ Some n → y ≢ x.0
+            → IsSharp (Self.known self.old) v y → IsSharp (Self.known self.new) v y) }
+        ensures plain { OnOk result ((given : ℕ → Range) (s : Span) → IsTrue Self.exact → IsUnder (Self.known self.old) given → IsPlain given (nexpr_tree e.now)
+            → MayDivide (Self.known self.old) given (nexpr_tree e.now) → plain given (nexpr_tree e.now) ≡ Some s
+            → IsUnder (Self.known self.new) (with_range given x.0 (range_of s))) }
+        ensures others { OnOk result ((given : ℕ → Range) → IsTrue Self.exact → IsUnder (Self.known self.old) given
+            → IsUnder (Self.known self.new) (with_range given x.0 all_numbers)) };
 
     /// Gives the variable any number of a range that holds one.
     fn havoc(&mut self, x: Var, r: Range) -> Result<(), NoMemory>
         requires { IsTrue (holds_some r) }
         ensures after { OnOk result ((v w : List ℤ) (n : ℤ) → Self.admits self.old v → InRange r n → SetTo x.0 n v w → Self.admits self.new w) }
-        ensures sharp_here { OnOk result ((v : List ℤ) (n : ℤ) → IsTrue Self.exact → Self.admits self.old v → IsPoint r n → IsPoint (Self.known self.new x.0) n) }
-        ensures sharp_others { OnOk result ((v : List ℤ) (y : ℕ) → IsTrue Self.exact → Self.admits self.old v → y ≢ x.0 → IsSharp (Self.known self.old) v y → IsSharp (Self.known self.new) v y) }
-        ensures plain { OnOk result ((given : ℕ → Range) → IsTrue Self.exact → IsUnder (Self.known self.old) given → IsUnder (Self.known self.new) (with_range given x.0 r)) };
+        ensures sharp_here { OnOk result ((v : List ℤ) (n : ℤ) → IsTrue Self.exact → Self.admits self.old v → IsPoint r n
+            → IsPoint (Self.known self.new x.0) n) }
+        ensures sharp_others { OnOk result ((v : List ℤ) (y : ℕ) → IsTrue Self.exact → Self.admits self.old v → y ≢ x.0 → IsSharp (Self.known self.old) v y
+            → IsSharp (Self.known self.new) v y) }
+        ensures plain { OnOk result ((given : ℕ → Range) → IsTrue Self.exact → IsUnder (Self.known self.old) given
+            → IsUnder (Self.known self.new) (with_range given x.0 r)) };
 
     /// Gives the variable any number.
     fn forget(&mut self, x: Var) -> Result<(), NoMemory>
         ensures after { OnOk result ((v w : List ℤ) (n : ℤ) → Self.admits self.old v → SetTo x.0 n v w → Self.admits self.new w) }
-        ensures sharp_others { OnOk result ((v : List ℤ) (y : ℕ) → IsTrue Self.exact → Self.admits self.old v → y ≢ x.0 → IsSharp (Self.known self.old) v y → IsSharp (Self.known self.new) v y) }
-        ensures plain { OnOk result ((given : ℕ → Range) → IsTrue Self.exact → IsUnder (Self.known self.old) given → IsUnder (Self.known self.new) (with_range given x.0 all_numbers)) };
+        ensures sharp_others { OnOk result ((v : List ℤ) (y : ℕ) → IsTrue Self.exact → Self.admits self.old v → y ≢ x.0 → IsSharp (Self.known self.old) v y
+            → IsSharp (Self.known self.new) v y) }
+        ensures plain { OnOk result ((given : ℕ → Range) → IsTrue Self.exact → IsUnder (Self.known self.old) given
+            → IsUnder (Self.known self.new) (with_range given x.0 all_numbers)) };
 
     /// Keeps the valuations in which the expression has this truth; `Dead` only where there is none.
     fn assume<O: Oracle>(
@@ -127,28 +146,43 @@ pub trait NumDomain: Oracle + Sized + Drop {
         ask: &O,
         out: &mut Messages,
     ) -> Result<Live, NoMemory>
-        ensures after { IfOk result (λ live. (v : List ℤ) (n : ℤ) → Self.admits self.old v → O.admits ask.now v → value_of v (nexpr_tree e.now) ≡ Some n → IsTrue (has_truth truth n) → IsTrue (is_live live) × Self.admits self.new v) }
+        ensures after { IfOk result (λ live. (v : List ℤ) (n : ℤ) → Self.admits self.old v → O.admits ask.now v → value_of v (nexpr_tree e.now) ≡ Some n
+            → IsTrue (has_truth truth n) → IsTrue (is_live live) × Self.admits self.new v) }
         ensures kept { OnOk result (Adds out.old out.new) }
-        ensures told { OnOk result ((v : List ℤ) (n : ℤ) → Self.admits self.old v → O.admits ask.now v → value_of v (nexpr_tree e.now) ≡ Some n → IsTrue (has_truth truth n) → TellsOf v out.old out.new) }
-        ensures sharp_dead { IfOk result (λ live. (v : List ℤ) (n : ℤ) → IsTrue Self.exact → Self.admits self.old v → O.admits ask.now v → IsSharpOn (Self.known self.old) v (nexpr_tree e.now) → AllFit v (nexpr_tree e.now) → value_of v (nexpr_tree e.now) ≡ Some n → has_truth truth n ≡ false → is_live live ≡ false) }
-        ensures sharp_live { IfOk result (λ live. (v : List ℤ) (n : ℤ) (y : ℕ) → IsTrue Self.exact → Self.admits self.old v → O.admits ask.now v → IsSharpOn (Self.known self.old) v (nexpr_tree e.now) → AllFit v (nexpr_tree e.now) → value_of v (nexpr_tree e.now) ≡ Some n → IsTrue (is_live live) → IsSharp (Self.known self.old) v y → IsSharp (Self.known self.new) v y) }
-        ensures plain_dead { IfOk result (λ live. (given : ℕ → Range) (s : Span) → IsTrue Self.exact → IsUnder (Self.known self.old) given → IsPlain given (nexpr_tree e.now) → plain given (nexpr_tree e.now) ≡ Some s → IsTrue (excludes truth s) → is_live live ≡ false) }
-        ensures plain_live { IfOk result (λ live. (given : ℕ → Range) → IsTrue Self.exact → IsUnder (Self.known self.old) given → IsPlain given (nexpr_tree e.now) → IsTrue (is_live live) → IsUnder (Self.known self.new) (tested given (nexpr_tree e.now) truth)) }
-        ensures narrows { IfOk result (λ live. (given : ℕ → Range) → IsTrue Self.exact → IsUnder (Self.known self.old) given → IsTrue (is_live live) → IsUnder (Self.known self.new) given) };
+        ensures told { OnOk result ((v : List ℤ) (n : ℤ) → Self.admits self.old v → O.admits ask.now v → value_of v (nexpr_tree e.now) ≡ Some n
+            → IsTrue (has_truth truth n) → TellsOf v out.old out.new) }
+        ensures sharp_dead { IfOk result (λ live. (v : List ℤ) (n : ℤ) → IsTrue Self.exact → Self.admits self.old v → O.admits ask.now v
+            → IsSharpOn (Self.known self.old) v (nexpr_tree e.now) → AllFit v (nexpr_tree e.now) → value_of v (nexpr_tree e.now) ≡ Some n
+            → has_truth truth n ≡ false → is_live live ≡ false) }
+        ensures sharp_live { IfOk result (λ live. (v : List ℤ) (n : ℤ) (y : ℕ) → IsTrue Self.exact → Self.admits self.old v → O.admits ask.now v
+            → IsSharpOn (Self.known self.old) v (nexpr_tree e.now) → AllFit v (nexpr_tree e.now) → value_of v (nexpr_tree e.now) ≡ Some n
+            → IsTrue (is_live live) → IsSharp (Self.known self.old) v y → IsSharp (Self.known self.new) v y) }
+        ensures plain_dead { IfOk result
+            (λ live. (given : ℕ → Range) (s : Span) → IsTrue Self.exact → IsUnder (Self.known self.old) given → IsPlain given (nexpr_tree e.now)
+            → plain given (nexpr_tree e.now) ≡ Some s → IsTrue (excludes truth s) → is_live live ≡ false) }
+        ensures plain_live { IfOk result
+            (λ live. (given : ℕ → Range) → IsTrue Self.exact → IsUnder (Self.known self.old) given → IsPlain given (nexpr_tree e.now)
+            → IsTrue (is_live live) → IsUnder (Self.known self.new) (tested given (nexpr_tree e.now) truth)) }
+        ensures narrows { IfOk result (λ live. (given : ℕ → Range) → IsTrue Self.exact → IsUnder (Self.known self.old) given → IsTrue (is_live live)
+            → IsUnder (Self.known self.new) given) };
 
     /// Keeps the valuations in which the message holds; `Dead` only where there is none.
     fn accept(&mut self, m: &Message) -> Result<Live, NoMemory>
         requires { IsProper m.now }
         ensures after { IfOk result (λ live. (v : List ℤ) → Self.admits self.old v → Holds v m.now → IsTrue (is_live live) × Self.admits self.new v) }
-        ensures sharp { IfOk result (λ live. (v : List ℤ) (y : ℕ) → IsTrue Self.exact → Self.admits self.old v → Holds v m.now → IsSharp (Self.known self.old) v y → IsSharp (Self.known self.new) v y) }
+        ensures sharp { IfOk result
+            (λ live. (v : List ℤ) (y : ℕ) → IsTrue Self.exact → Self.admits self.old v → Holds v m.now → IsSharp (Self.known self.old) v y
+            → IsSharp (Self.known self.new) v y) }
         ensures plain { OnOk result ((given : ℕ → Range) → IsTrue Self.exact → IsUnder (Self.known self.old) given → IsUnder (Self.known self.new) given) }
-        ensures cut { IfOk result (λ live. (x : Variable) (r : Range) → IsTrue Self.exact → m.now ≡ Between x r → IsTrue (is_live live) → NoWider (Self.known self.new x.0) r) };
+        ensures cut { IfOk result (λ live. (x : Variable) (r : Range) → IsTrue Self.exact → m.now ≡ Between x r → IsTrue (is_live live)
+            → NoWider (Self.known self.new x.0) r) };
 
     /// Admits what either state admits.
     fn join(&mut self, other: &Self) -> Result<(), NoMemory>
         ensures left { OnOk result ((v : List ℤ) → Self.admits self.old v → Self.admits self.new v) }
         ensures right { OnOk result ((v : List ℤ) → Self.admits other.now v → Self.admits self.new v) }
-        ensures plain { OnOk result ((given found : ℕ → Range) → IsTrue Self.exact → IsUnder (Self.known self.old) given → IsUnder (Self.known other.now) found → IsUnder (Self.known self.new) (λ x. hull (given x) (found x))) };
+        ensures plain { OnOk result ((given found : ℕ → Range) → IsTrue Self.exact → IsUnder (Self.known self.old) given → IsUnder (Self.known other.now) found
+            → IsUnder (Self.known self.new) (λ x. hull (given x) (found x))) };
 
     /// Admits what either state admits, so that widening comes to an end.
     fn widen<U: Fn(i128) -> Option<i128>, S: Steps>(

@@ -40,7 +40,13 @@ impl ValueDomain for Zero {
 
     ghost class_holds = { λ s n a. (n, Prim.omega (arith, ints)) };
 
-    ghost class_proper = { λ s. record { not_negative = Prim.omega (arith, ints); bounded = Prim.omega (arith, ints); rem_low = λ h. Prim.omega (arith, ints); rem_high = λ h. Prim.omega (arith, ints) } };
+    ghost class_proper = { λ s. record {
+      not_negative = Prim.omega (arith, ints);
+      bounded = Prim.omega (arith, ints);
+      rem_low = λ h. Prim.omega (arith, ints);
+      rem_high = λ h. Prim.omega
+          (arith, ints);
+    } };
 
     ghost class = { λ s. record { rem = pos 0; modulus = pos 1 } };
 

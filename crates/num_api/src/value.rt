@@ -77,16 +77,22 @@ pub trait ValueDomain: Copy {
     fn unary(op: NOp, a: &Self) -> Self
         ensures holds { (x n : ℤ) → admits a.now x → unary_value op x ≡ Some n → admits result n }
         ensures point { (x n : ℤ) → IsTrue exact → IsPoint (known a.now) x → unary_value op x ≡ Some n → FitsSigned w128 n → IsPoint (known result) n }
-        ensures plain { (s r : Span) → IsTrue exact → NoWider (known a.now) (range_of s) → FitsSpan s → unary_span op s ≡ Some r → FitsSpan r → NoWider (known result) (range_of r) };
+        ensures plain { (s r : Span) → IsTrue exact → NoWider (known a.now) (range_of s) → FitsSpan s → unary_span op s ≡ Some r → FitsSpan r
+            → NoWider (known result) (range_of r) };
 
     /// What the operator makes of a number of the first value and one of the second.
     fn binary(op: NOp, a: &Self, b: &Self) -> Self
         ensures holds { (x y n : ℤ) → admits a.now x → admits b.now y → binary_value op x y ≡ Some n → admits result n }
-        ensures point { (x y n : ℤ) → IsTrue exact → IsPoint (known a.now) x → IsPoint (known b.now) y → binary_value op x y ≡ Some n → FitsSigned w128 n → IsPoint (known result) n }
-        ensures plain { (s t r : Span) → IsTrue exact → IsNotByZero op (known b.now) → NoWider (known a.now) (range_of s) → FitsSpan s → NoWider (known b.now) (range_of t) → FitsSpan t → binary_span op s t ≡ Some r → FitsSpan r → NoWider (known result) (range_of r) }
-        ensures fold_sum { (c : ℤ) → IsTrue folds → IsAlignment c → op ≡ Add → IsFoldResidue c (class a.now) → IsFoldResidue c (class b.now) → IsFoldResidue c (class result) }
-        ensures fold_left { (c n : ℤ) → IsTrue folds → IsAlignment c → op ≡ Mul → IsMultiple c n → class a.now ≡ record { rem = n; modulus = pos 0 } → IsFoldResidue c (class result) }
-        ensures fold_right { (c n : ℤ) → IsTrue folds → IsAlignment c → op ≡ Mul → IsMultiple c n → class b.now ≡ record { rem = n; modulus = pos 0 } → IsFoldResidue c (class result) };
+        ensures point { (x y n : ℤ) → IsTrue exact → IsPoint (known a.now) x → IsPoint (known b.now) y → binary_value op x y ≡ Some n → FitsSigned w128 n
+            → IsPoint (known result) n }
+        ensures plain { (s t r : Span) → IsTrue exact → IsNotByZero op (known b.now) → NoWider (known a.now) (range_of s) → FitsSpan s
+            → NoWider (known b.now) (range_of t) → FitsSpan t → binary_span op s t ≡ Some r → FitsSpan r → NoWider (known result) (range_of r) }
+        ensures fold_sum { (c : ℤ) → IsTrue folds → IsAlignment c → op ≡ Add → IsFoldResidue c (class a.now)
+            → IsFoldResidue c (class b.now) → IsFoldResidue c (class result) }
+        ensures fold_left { (c n : ℤ) → IsTrue folds → IsAlignment c → op ≡ Mul → IsMultiple c n → class a.now ≡ record { rem = n; modulus = pos 0 }
+            → IsFoldResidue c (class result) }
+        ensures fold_right { (c n : ℤ) → IsTrue folds → IsAlignment c → op ≡ Mul → IsMultiple c n → class b.now ≡ record { rem = n; modulus = pos 0 }
+            → IsFoldResidue c (class result) };
 
     /// The numbers that are in both; `None` only where there is none.
     fn meet(&self, other: &Self) -> Option<Self>

@@ -56,7 +56,9 @@ module _ (c : Residue) (one : pos 1 ≤ℤ c.modulus) where
   next_is_member n =
       let r = int_rem_euclid (c.rem -ℤ n) c.modulus in
       let off = off_from_in r c.modulus (c.rem -ℤ n) (rem_same (c.rem -ℤ n) c.modulus one) in
-      in_from_off c.rem c.modulus (n +ℤ r) (multiple_along c.modulus (pos 0 -ℤ ((c.rem -ℤ n) -ℤ r)) _ (turned c.rem n r) (multiple_sub c.modulus (pos 0) ((c.rem -ℤ n) -ℤ r) (zero_multiple c.modulus) off))
+      in_from_off c.rem c.modulus (n +ℤ r)
+      (multiple_along c.modulus (pos 0 -ℤ ((c.rem -ℤ n) -ℤ r)) _ (turned c.rem n r)
+      (multiple_sub c.modulus (pos 0) ((c.rem -ℤ n) -ℤ r) (zero_multiple c.modulus) off))
     where
       turned : (a n r : ℤ) → pos 0 -ℤ ((a -ℤ n) -ℤ r) ≡ (n +ℤ r) -ℤ a
       turned a n r = omega (arith, ints)
@@ -87,8 +89,12 @@ module _ (c : Residue) (one : pos 1 ≤ℤ c.modulus) where
   next_least n m h k =
       let r = int_rem_euclid (m -ℤ n) c.modulus in
       let same : InResidue (class_of r c.modulus) (c.rem -ℤ n) =
-      in_from_off r c.modulus (c.rem -ℤ n) (multiple_along c.modulus (((m -ℤ n) -ℤ r) -ℤ (m -ℤ c.rem)) _ (turned m n r c.rem) (multiple_sub c.modulus ((m -ℤ n) -ℤ r) (m -ℤ c.rem) (off_from_in r c.modulus (m -ℤ n) (rem_same (m -ℤ n) c.modulus one)) (off_from_in c.rem c.modulus m k))) in
-      let e : int_rem_euclid (c.rem -ℤ n) c.modulus ≡ r = rem_unique (c.rem -ℤ n) c.modulus r one same (rem_low (m -ℤ n) c.modulus one) (rem_high (m -ℤ n) c.modulus one) in
+      in_from_off r c.modulus (c.rem -ℤ n)
+      (multiple_along c.modulus (((m -ℤ n) -ℤ r) -ℤ (m -ℤ c.rem)) _ (turned m n r c.rem)
+      (multiple_sub c.modulus ((m -ℤ n) -ℤ r) (m -ℤ c.rem) (off_from_in r c.modulus (m -ℤ n) (rem_same (m -ℤ n) c.modulus one))
+      (off_from_in c.rem c.modulus m k))) in
+      let e : int_rem_euclid (c.rem -ℤ n) c.modulus
+      ≡ r = rem_unique (c.rem -ℤ n) c.modulus r one same (rem_low (m -ℤ n) c.modulus one) (rem_high (m -ℤ n) c.modulus one) in
       let f = rem_at_most (m -ℤ n) c.modulus (omega (arith, ints)) one in
       subst (λ (t : ℤ). (n +ℤ t) ≤ℤ m) (sym e) (within n m r f)
     where
@@ -102,8 +108,12 @@ module _ (c : Residue) (one : pos 1 ≤ℤ c.modulus) where
   last_greatest n m h k =
       let r = int_rem_euclid (n -ℤ m) c.modulus in
       let same : InResidue (class_of r c.modulus) (n -ℤ c.rem) =
-      in_from_off r c.modulus (n -ℤ c.rem) (multiple_along c.modulus (((n -ℤ m) -ℤ r) +ℤ (m -ℤ c.rem)) _ (turned n m r c.rem) (multiple_add c.modulus ((n -ℤ m) -ℤ r) (m -ℤ c.rem) (off_from_in r c.modulus (n -ℤ m) (rem_same (n -ℤ m) c.modulus one)) (off_from_in c.rem c.modulus m k))) in
-      let e : int_rem_euclid (n -ℤ c.rem) c.modulus ≡ r = rem_unique (n -ℤ c.rem) c.modulus r one same (rem_low (n -ℤ m) c.modulus one) (rem_high (n -ℤ m) c.modulus one) in
+      in_from_off r c.modulus (n -ℤ c.rem)
+      (multiple_along c.modulus (((n -ℤ m) -ℤ r) +ℤ (m -ℤ c.rem)) _ (turned n m r c.rem)
+      (multiple_add c.modulus ((n -ℤ m) -ℤ r) (m -ℤ c.rem) (off_from_in r c.modulus (n -ℤ m) (rem_same (n -ℤ m) c.modulus one))
+      (off_from_in c.rem c.modulus m k))) in
+      let e : int_rem_euclid (n -ℤ c.rem) c.modulus
+      ≡ r = rem_unique (n -ℤ c.rem) c.modulus r one same (rem_low (n -ℤ m) c.modulus one) (rem_high (n -ℤ m) c.modulus one) in
       let f = rem_at_most (n -ℤ m) c.modulus (omega (arith, ints)) one in
       subst (λ (t : ℤ). m ≤ℤ (n -ℤ t)) (sym e) (within n m r f)
     where
@@ -126,23 +136,35 @@ gt-from : (x y : ℤ) → int_le x y ≡ false → y <ℤ x
 gt-from x y e = by_lt_z y x (λ less. less) (λ more. absurd (true≢false (sym (int_le-true x y more) ∙ e)))
 
 -- a fact of the moved end: for one number, and for a modulus above 0
-pub low_by : (P : Ext → Type 0) (c : Residue) (n : ℤ) → pos 0 ≤ℤ c.modulus → (c.modulus ≡ pos 0 → P (Fin (int_max n c.rem))) → (pos 1 ≤ℤ c.modulus → next_member c n ≤ℤ pos (2 ^ 127 - 1) → P (Fin (next_member c n))) → (pos 1 ≤ℤ c.modulus → pos (2 ^ 127 - 1) <ℤ next_member c n → P (Fin n)) → P (inward_low c (Fin n))
+pub low_by : (P : Ext → Type 0) (c : Residue) (n : ℤ) → pos 0 ≤ℤ c.modulus → (c.modulus ≡ pos 0 → P (Fin (int_max n c.rem)))
+    → (pos 1 ≤ℤ c.modulus → next_member c n ≤ℤ pos (2 ^ 127 - 1) → P (Fin (next_member c n)))
+    → (pos 1 ≤ℤ c.modulus → pos (2 ^ 127 - 1) <ℤ next_member c n → P (Fin n)) → P (inward_low c (Fin n))
 low_by P c n h point member stays =
     by_zero c.modulus h
-    (λ i. subst P (sym (test_positive c.modulus _ _ i)) (by_bool P (int_le (next_member c n) (pos (2 ^ 127 - 1))) _ _ (λ e. member i (le-from (next_member c n) (pos (2 ^ 127 - 1)) e)) (λ e. stays i (gt-from (next_member c n) (pos (2 ^ 127 - 1)) e))))
+    (λ i. subst P (sym (test_positive c.modulus _ _ i))
+    (by_bool P (int_le (next_member c n) (pos (2 ^ 127 - 1))) _ _ (λ e. member i (le-from (next_member c n) (pos (2 ^ 127 - 1)) e))
+    (λ e. stays i (gt-from (next_member c n) (pos (2 ^ 127 - 1)) e))))
     (λ i. subst P (sym (test_zero c.modulus _ _ i)) (point i))
 
-pub high_by : (P : Ext → Type 0) (c : Residue) (n : ℤ) → pos 0 ≤ℤ c.modulus → (c.modulus ≡ pos 0 → P (Fin (int_min n c.rem))) → (pos 1 ≤ℤ c.modulus → negsuc (2 ^ 127 - 1) ≤ℤ last_member c n → P (Fin (last_member c n))) → (pos 1 ≤ℤ c.modulus → last_member c n <ℤ negsuc (2 ^ 127 - 1) → P (Fin n)) → P (inward_high c (Fin n))
+pub high_by : (P : Ext → Type 0) (c : Residue) (n : ℤ) → pos 0 ≤ℤ c.modulus → (c.modulus ≡ pos 0 → P (Fin (int_min n c.rem)))
+    → (pos 1 ≤ℤ c.modulus → negsuc (2 ^ 127 - 1) ≤ℤ last_member c n → P (Fin (last_member c n)))
+    → (pos 1 ≤ℤ c.modulus → last_member c n <ℤ negsuc (2 ^ 127 - 1) → P (Fin n)) → P (inward_high c (Fin n))
 high_by P c n h point member stays =
     by_zero c.modulus h
-    (λ i. subst P (sym (test_positive c.modulus _ _ i)) (by_bool P (int_le (negsuc (2 ^ 127 - 1)) (last_member c n)) _ _ (λ e. member i (le-from (negsuc (2 ^ 127 - 1)) (last_member c n) e)) (λ e. stays i (gt-from (negsuc (2 ^ 127 - 1)) (last_member c n) e))))
+    (λ i. subst P (sym (test_positive c.modulus _ _ i))
+    (by_bool P (int_le (negsuc (2 ^ 127 - 1)) (last_member c n)) _ _ (λ e. member i (le-from (negsuc (2 ^ 127 - 1)) (last_member c n) e))
+    (λ e. stays i (gt-from (negsuc (2 ^ 127 - 1)) (last_member c n) e))))
     (λ i. subst P (sym (test_zero c.modulus _ _ i)) (point i))
 
-pub no_low_by : (P : Ext → Type 0) (c : Residue) → pos 0 ≤ℤ c.modulus → (c.modulus ≡ pos 0 → P (Fin c.rem)) → (pos 1 ≤ℤ c.modulus → P Low) → P (inward_low c Low)
-no_low_by P c h point none = by_zero c.modulus h (λ i. subst P (sym (test_positive c.modulus _ _ i)) (none i)) (λ i. subst P (sym (test_zero c.modulus _ _ i)) (point i))
+pub no_low_by : (P : Ext → Type 0) (c : Residue) → pos 0 ≤ℤ c.modulus → (c.modulus ≡ pos 0 → P (Fin c.rem)) → (pos 1 ≤ℤ c.modulus → P Low)
+    → P (inward_low c Low)
+no_low_by P c h point none = by_zero c.modulus h (λ i. subst P (sym (test_positive c.modulus _ _ i)) (none i))
+    (λ i. subst P (sym (test_zero c.modulus _ _ i)) (point i))
 
-pub no_high_by : (P : Ext → Type 0) (c : Residue) → pos 0 ≤ℤ c.modulus → (c.modulus ≡ pos 0 → P (Fin c.rem)) → (pos 1 ≤ℤ c.modulus → P High) → P (inward_high c High)
-no_high_by P c h point none = by_zero c.modulus h (λ i. subst P (sym (test_positive c.modulus _ _ i)) (none i)) (λ i. subst P (sym (test_zero c.modulus _ _ i)) (point i))
+pub no_high_by : (P : Ext → Type 0) (c : Residue) → pos 0 ≤ℤ c.modulus → (c.modulus ≡ pos 0 → P (Fin c.rem)) → (pos 1 ≤ℤ c.modulus → P High)
+    → P (inward_high c High)
+no_high_by P c h point none = by_zero c.modulus h (λ i. subst P (sym (test_positive c.modulus _ _ i)) (none i))
+    (λ i. subst P (sym (test_zero c.modulus _ _ i)) (point i))
 
 -- a fact of the greater and of the lesser of two numbers
 max_by : (P : ℤ → Type 0) (x y : ℤ) → (y <ℤ x → P x) → (x ≤ℤ y → P y) → P (int_max x y)
@@ -194,12 +216,14 @@ high_inward c High h = no_high_by (λ e. AtMost e High) c h (λ i. tt) (λ i. tt
 
 pub low_sound : (c : Residue) (a : Ext) (n : ℤ) → pos 0 ≤ℤ c.modulus → Below a n → InResidue c n → Below (inward_low c a) n
 low_sound c Low n h k m = no_low_by (λ e. Below e n) c h (λ i. same_le c.rem n (sym (one_number c n i m))) (λ i. tt)
-low_sound c (Fin a) n h k m = low_by (λ e. Below e n) c a h (λ i. max_least a c.rem n k (same_le c.rem n (sym (one_number c n i m)))) (λ i j. next_least c i a n k m) (λ i j. k)
+low_sound c (Fin a) n h k m = low_by (λ e. Below e n) c a h (λ i. max_least a c.rem n k (same_le c.rem n (sym (one_number c n i m))))
+    (λ i j. next_least c i a n k m) (λ i j. k)
 low_sound c High n h k m = absurd k
 
 pub high_sound : (c : Residue) (a : Ext) (n : ℤ) → pos 0 ≤ℤ c.modulus → Above a n → InResidue c n → Above (inward_high c a) n
 high_sound c Low n h k m = absurd k
-high_sound c (Fin a) n h k m = high_by (λ e. Above e n) c a h (λ i. min_greatest a c.rem n k (same_le n c.rem (one_number c n i m))) (λ i j. last_greatest c i a n k m) (λ i j. k)
+high_sound c (Fin a) n h k m = high_by (λ e. Above e n) c a h (λ i. min_greatest a c.rem n k (same_le n c.rem (one_number c n i m)))
+    (λ i j. last_greatest c i a n k m) (λ i j. k)
 high_sound c High n h k m = no_high_by (λ e. Above e n) c h (λ i. same_le n c.rem (one_number c n i m)) (λ i. tt)
 
 pub moved_sound : (c : Residue) (r : Range) (n : ℤ) → pos 0 ≤ℤ c.modulus → InRange r n → InResidue c n → InRange (moved_range c r) n
@@ -209,7 +233,8 @@ pub moved_holds : (c : Residue) (r : Range) (n : ℤ) → pos 0 ≤ℤ c.modulus
 moved_holds c r n h k m = let s = moved_sound c r n h k m in holds_number_from _ _ n s.low s.high
 
 -- a fact of the range that is moved where it leaves a number
-pub inward_by : (P : Range → Type 0) (c : Residue) (r : Range) → (holds_some (moved_range c r) ≡ true → P (moved_range c r)) → (holds_some (moved_range c r) ≡ false → P r) → P (inward_range c r)
+pub inward_by : (P : Range → Type 0) (c : Residue) (r : Range) → (holds_some (moved_range c r) ≡ true → P (moved_range c r))
+    → (holds_some (moved_range c r) ≡ false → P r) → P (inward_range c r)
 inward_by P c r f g = by_bool P (holds_some (moved_range c r)) (moved_range c r) r f g
 
 pub inward_sound : (c : Residue) (r : Range) (n : ℤ) → pos 0 ≤ℤ c.modulus → InRange r n → InResidue c n → InRange (inward_range c r) n
@@ -228,7 +253,8 @@ pub in_range_of_class : (r : Residue) (n : ℤ) → IsResidue r → InResidue r 
 in_range_of_class r n p h =
     by_zero r.modulus p.not_negative
     (λ i. subst (λ s. InRange s n) (sym (test_positive r.modulus _ _ i)) (record { low = tt; high = tt }))
-    (λ i. let e = one_number r n i h in subst (λ s. InRange s n) (sym (test_zero r.modulus _ _ i)) (record { low = same_le r.rem n (sym e); high = same_le n r.rem e }))
+    (λ i. let e = one_number r n i h in subst (λ s. InRange s n) (sym (test_zero r.modulus _ _ i))
+    (record { low = same_le r.rem n (sym e); high = same_le n r.rem e }))
 
 -- the numbers of a range that are in a class stay where its ends are moved inward
 pub in_inward_range : (c : Residue) (r : Range) (n : ℤ) → IsResidue c → InRange r n → InResidue c n → InRange (inward_range c r) n

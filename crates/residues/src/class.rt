@@ -137,11 +137,17 @@ impl ValueDomain for Class {
 
     /// At two numbers the class of the value, where that is an `i128`.
     fn binary(op: NOp, a: &Self, b: &Self) -> Self
-        ensures holds { (x y n : ℤ) → InResidue (residue_of a.now) x → InResidue (residue_of b.now) y → binary_value op x y ≡ Some n → InResidue (residue_of result) n }
-        ensures fold_sum { (c : ℤ) → IsTrue true → IsAlignment c → op ≡ Add → IsFoldResidue c (residue_of a.now) → IsFoldResidue c (residue_of b.now) → IsFoldResidue c (residue_of result) }
-        ensures fold_left { (c n : ℤ) → IsTrue true → IsAlignment c → op ≡ Mul → IsMultiple c n → residue_of a.now ≡ record { rem = n; modulus = pos 0 } → IsFoldResidue c (residue_of result) }
-        ensures fold_right { (c n : ℤ) → IsTrue true → IsAlignment c → op ≡ Mul → IsMultiple c n → residue_of b.now ≡ record { rem = n; modulus = pos 0 } → IsFoldResidue c (residue_of result) }
-        ensures numbers { (x y n : ℤ) → residue_of a.now ≡ class_of x (pos 0) → residue_of b.now ≡ class_of y (pos 0) → binary_value op x y ≡ Some n → FitsSigned w128 n → residue_of result ≡ class_of n (pos 0) }
+        ensures holds { (x y n : ℤ) → InResidue (residue_of a.now) x → InResidue (residue_of b.now) y → binary_value op x y
+            ≡ Some n → InResidue (residue_of result) n }
+        ensures fold_sum { (c : ℤ) → IsTrue true → IsAlignment c → op ≡ Add → IsFoldResidue c (residue_of a.now) → IsFoldResidue c (residue_of b.now)
+            → IsFoldResidue c (residue_of result) }
+        ensures fold_left { (c n : ℤ) → IsTrue true → IsAlignment c → op ≡ Mul → IsMultiple c n → residue_of a.now ≡ record { rem = n; modulus = pos 0 }
+            → IsFoldResidue c (residue_of result) }
+        ensures fold_right { (c n : ℤ) → IsTrue true → IsAlignment c → op ≡ Mul → IsMultiple c n → residue_of b.now ≡ record { rem = n; modulus = pos 0 }
+            → IsFoldResidue c (residue_of result) }
+        ensures numbers { (x y n : ℤ) → residue_of a.now ≡ class_of x (pos 0) → residue_of b.now ≡ class_of y (pos 0) → binary_value op x y ≡ Some n
+            → FitsSigned w128 n
+            → residue_of result ≡ class_of n (pos 0) }
     {
         binary(op, *a, *b)
     }
@@ -171,7 +177,8 @@ impl ValueDomain for Class {
         ensures left { (n : ℤ) → InResidue (residue_of self.now) n → InResidue (residue_of result) n }
         ensures right { (n : ℤ) → InResidue (residue_of next.now) n → InResidue (residue_of result) n }
         ensures no_rise { class_weight (residue_of result) ≤ class_weight (residue_of self.now) }
-        ensures falls { holds_class (residue_of self.now) (residue_of next.now) ≡ false → class_weight (residue_of result) < class_weight (residue_of self.now) }
+        ensures falls { holds_class (residue_of self.now) (residue_of next.now) ≡ false
+            → class_weight (residue_of result) < class_weight (residue_of self.now) }
         ensures least { (s : Residue) → IsJoin (residue_of self.now) (residue_of next.now) s → LiesIn (residue_of result) s }
     {
         joined(*self, *next)

@@ -116,7 +116,8 @@ impl<V: ValueDomain, W: ValueDomain> Pair<V, W> {
         ensures holds { (n : ℤ) → IsInBoth V.admits W.admits self.now n → IsInBoth V.admits W.admits result n }
         ensures bounds { bounds_part result ≡ bounds_part self.now }
         ensures proper { IsResidue (W.class (class_part result)) }
-        ensures class { (class_part result ≡ class_part self.now) ⊎ ((n : ℤ) × IsPoint (range_of_pair V.known W.class self.now) n × (IsTrue W.folds → W.class (class_part result) ≡ class_of n (pos 0))) }
+        ensures class { (class_part result ≡ class_part self.now)
+            ⊎ ((n : ℤ) × IsPoint (range_of_pair V.known W.class self.now) n × (IsTrue W.folds → W.class (class_part result) ≡ class_of n (pos 0))) }
     {
         let Some(n) = number(self.ends()) else {
             return *self;
@@ -181,7 +182,8 @@ impl<V: ValueDomain, W: ValueDomain> ValueDomain for Pair<V, W> {
 
     ghost class = { λ p. W.class (class_part p) };
 
-    ghost known_holds = { λ p n h. in_inward_range (W.class (class_part p)) (V.known (bounds_part p)) n (W.class_proper (class_part p)) (V.known_holds (bounds_part p) n h.0) (W.class_holds (class_part p) n h.1) };
+    ghost known_holds = { λ p n h. in_inward_range (W.class (class_part p)) (V.known (bounds_part p)) n (W.class_proper (class_part p))
+        (V.known_holds (bounds_part p) n h.0) (W.class_holds (class_part p) n h.1) };
 
     ghost class_holds = { λ p n h. W.class_holds (class_part p) n h.1 };
 
@@ -250,9 +252,11 @@ impl<V: ValueDomain, W: ValueDomain> ValueDomain for Pair<V, W> {
 
     /// Of a value that is there, some number of the range is in the class.
     fn meet(&self, other: &Self) -> Option<Self>
-        ensures some { IfSome result (λ p. (n : ℤ) → IsInBoth V.admits W.admits self.now n → IsInBoth V.admits W.admits other.now n → IsInBoth V.admits W.admits p n) }
+        ensures some { IfSome result (λ p. (n : ℤ) → IsInBoth V.admits W.admits self.now n
+            → IsInBoth V.admits W.admits other.now n → IsInBoth V.admits W.admits p n) }
         ensures none { IfNone result ((n : ℤ) → IsInBoth V.admits W.admits self.now n → IsInBoth V.admits W.admits other.now n → ⊥) }
-        ensures plain { IfSome result (λ p. IsTrue V.exact → NoWider (range_of_pair V.known W.class p) (range_of_pair V.known W.class self.now) × NoWider (range_of_pair V.known W.class p) (range_of_pair V.known W.class other.now)) }
+        ensures plain { IfSome result (λ p. IsTrue V.exact → NoWider (range_of_pair V.known W.class p) (range_of_pair V.known W.class self.now)
+            × NoWider (range_of_pair V.known W.class p) (range_of_pair V.known W.class other.now)) }
         ensures shares { IfSome result (λ p. HasSome (range_of_pair V.known W.class p) (W.class (class_part p))) }
     {
         match (

@@ -36,7 +36,8 @@ impl ValueDomain for Stretch {
 
     ghost class = { λ b. record { rem = pos 0; modulus = pos 1 } };
 
-    ghost known_holds = { λ b n h. elim b.any as (λ t. (t ≡ false → InRange b.range n) → InRange (if t then all_numbers else b.range) n) [ true ↦ λ k. record { low = tt; high = tt } | false ↦ λ k. k refl ] h };
+    ghost known_holds = { λ b n h. elim b.any as (λ t. (t ≡ false → InRange b.range n) → InRange (if t then all_numbers else b.range) n)
+        [ true ↦ λ k. record { low = tt; high = tt } | false ↦ λ k. k refl ] h };
 
     ghost class_holds = { λ b n h. in_any n };
 

@@ -40,7 +40,8 @@ fn common_factor(a: Class) -> i128
 // The low bits that the remainders give.
 fn known_bits(op: NOp, a: Class, b: Class, step: i128) -> Class
     requires { IsCommonPower (residue_of a).modulus (residue_of b).modulus step }
-    ensures { (x y n : ℤ) → IsLogical op → InResidue (residue_of a) x → InResidue (residue_of b) y → binary_value op x y ≡ Some n → InResidue (residue_of result) n }
+    ensures { (x y n : ℤ) → IsLogical op → InResidue (residue_of a) x → InResidue (residue_of b) y → binary_value op x y
+        ≡ Some n → InResidue (residue_of result) n }
 {
     sum(
         at_numbers(op, a.residue.rem, b.residue.rem),
@@ -50,7 +51,8 @@ fn known_bits(op: NOp, a: Class, b: Class, step: i128) -> Class
 
 // What an operator on bits makes of the numbers of two classes.
 pub(super) fn logical(op: NOp, a: Class, b: Class) -> Class
-    ensures { (x y n : ℤ) → IsLogical op → InResidue (residue_of a) x → InResidue (residue_of b) y → binary_value op x y ≡ Some n → InResidue (residue_of result) n }
+    ensures { (x y n : ℤ) → IsLogical op → InResidue (residue_of a) x → InResidue (residue_of b) y → binary_value op x y
+        ≡ Some n → InResidue (residue_of result) n }
 {
     let step = common_power(a.residue.modulus, b.residue.modulus);
     match op {

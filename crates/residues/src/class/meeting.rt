@@ -53,7 +53,8 @@ fn shared(a: Class, b: Class, common: i128) -> Class
 // The least common multiple of the moduli, where it may be a modulus.
 fn least_multiple(a: Class, b: Class, common: i128) -> Option<i128>
     requires { SharesBy (residue_of a) (residue_of b) common }
-    ensures some { IfSome result (λ m. (pos 0 ≤ℤ m) × (m ≤ℤ pos (2 ^ 100)) × ((q : ℤ) → (q *ℤ common) ≡ (residue_of a).modulus → m ≡ (q *ℤ (residue_of b).modulus))) }
+    ensures some { IfSome result (λ m. (pos 0 ≤ℤ m) × (m ≤ℤ pos (2 ^ 100))
+        × ((q : ℤ) → (q *ℤ common) ≡ (residue_of a).modulus → m ≡ (q *ℤ (residue_of b).modulus))) }
     ensures none { IfNone result ((q : ℤ) → (q *ℤ common) ≡ (residue_of a).modulus → pos (2 ^ 100) <ℤ (q *ℤ (residue_of b).modulus)) }
 {
     match quotient(a.residue.modulus, common).checked_mul(b.residue.modulus) {

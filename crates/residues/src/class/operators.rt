@@ -33,11 +33,13 @@ pub(super) fn unary(op: NOp, a: Class) -> Class
 // What an operator of two operands makes of the numbers of two classes: at two numbers the class of its
 // value, where that is an `i128`.
 pub(super) fn binary(op: NOp, a: Class, b: Class) -> Class
-    ensures fold_sum { (c : ℤ) → IsAlignment c → op ≡ Add → IsFoldResidue c (residue_of a) → IsFoldResidue c (residue_of b) → IsFoldResidue c (residue_of result) }
+    ensures fold_sum { (c : ℤ) → IsAlignment c → op ≡ Add → IsFoldResidue c (residue_of a) → IsFoldResidue c (residue_of b)
+        → IsFoldResidue c (residue_of result) }
     ensures fold_left { (c : ℤ) → IsAlignment c → op ≡ Mul → IsFoldResidue c (residue_of a) → IsFoldResidue c (residue_of result) }
     ensures fold_right { (c : ℤ) → IsAlignment c → op ≡ Mul → IsFoldResidue c (residue_of b) → IsFoldResidue c (residue_of result) }
     ensures holds { (x y n : ℤ) → InResidue (residue_of a) x → InResidue (residue_of b) y → binary_value op x y ≡ Some n → InResidue (residue_of result) n }
-    ensures point { (x y n : ℤ) → residue_of a ≡ class_of x (pos 0) → residue_of b ≡ class_of y (pos 0) → binary_value op x y ≡ Some n → FitsSigned w128 n → residue_of result ≡ class_of n (pos 0) }
+    ensures point { (x y n : ℤ) → residue_of a ≡ class_of x (pos 0) → residue_of b ≡ class_of y (pos 0) → binary_value op x y ≡ Some n → FitsSigned w128 n
+        → residue_of result ≡ class_of n (pos 0) }
 {
     match at_two_numbers(op, a, b) {
         Some(n) => Class::point(n),
@@ -47,8 +49,11 @@ pub(super) fn binary(op: NOp, a: Class, b: Class) -> Class
 
 // The operator's value at two numbers, where it is an `i128`.
 fn at_two_numbers(op: NOp, a: Class, b: Class) -> Option<i128>
-    ensures some { IfSome result (λ n. ((residue_of a).modulus ≡ pos 0) × ((residue_of b).modulus ≡ pos 0) × ((m : ℤ) → binary_value op (residue_of a).rem (residue_of b).rem ≡ Some m → m ≡ n)) }
-    ensures none { IfNone result ((x y m : ℤ) → residue_of a ≡ class_of x (pos 0) → residue_of b ≡ class_of y (pos 0) → binary_value op x y ≡ Some m → FitsSigned w128 m → ⊥) }
+    ensures some { IfSome result (λ n. ((residue_of a).modulus ≡ pos 0) × ((residue_of b).modulus ≡ pos 0)
+        × ((m : ℤ) → binary_value op (residue_of a).rem (residue_of b).rem ≡ Some m → m ≡ n)) }
+    ensures none { IfNone result
+        ((x y m : ℤ) → residue_of a ≡ class_of x (pos 0) → residue_of b ≡ class_of y (pos 0) → binary_value op x y ≡ Some m → FitsSigned w128 m
+        → ⊥) }
 {
     if a.residue.modulus == 0 && b.residue.modulus == 0 {
         number_at(op, a.residue.rem, b.residue.rem)
@@ -67,7 +72,8 @@ fn number_at(op: NOp, x: i128, y: i128) -> Option<i128>
 
 // What an operator makes of the numbers of two classes by their steps.
 fn by_steps(op: NOp, a: Class, b: Class) -> Class
-    ensures fold_sum { (c : ℤ) → IsAlignment c → op ≡ Add → IsFoldResidue c (residue_of a) → IsFoldResidue c (residue_of b) → IsFoldResidue c (residue_of result) }
+    ensures fold_sum { (c : ℤ) → IsAlignment c → op ≡ Add → IsFoldResidue c (residue_of a) → IsFoldResidue c (residue_of b)
+        → IsFoldResidue c (residue_of result) }
     ensures fold_left { (c : ℤ) → IsAlignment c → op ≡ Mul → IsFoldResidue c (residue_of a) → IsFoldResidue c (residue_of result) }
     ensures fold_right { (c : ℤ) → IsAlignment c → op ≡ Mul → IsFoldResidue c (residue_of b) → IsFoldResidue c (residue_of result) }
     ensures holds { (x y n : ℤ) → InResidue (residue_of a) x → InResidue (residue_of b) y → binary_value op x y ≡ Some n → InResidue (residue_of result) n }
