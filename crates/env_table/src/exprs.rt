@@ -1,10 +1,14 @@
 // Expressions with each operator behind its operands.
 
+ghost use Rattle.std.specs.Prelude.{◌<◌, IfSome};
+
 use num_api::{NExpr, NOp, Var};
 use std::alloc::{AllocError as NoMemory, Global};
 
-/// The variable of a letter.
-pub fn variable(word: &str) -> Option<Var> {
+/// The variable of a letter: `a` is the first of 26.
+pub fn variable(word: &str) -> Option<Var>
+    ensures { IfSome result (λ x. x.0 < 26) }
+{
     match word.as_bytes() {
         [letter @ b'a'..=b'z'] => Some(Var(u64::from(*letter - b'a'))),
         _ => None,

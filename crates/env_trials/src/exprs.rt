@@ -1,5 +1,7 @@
 // Random expressions, and their values by trying.
 
+ghost use Rattle.std.specs.Prelude.{◌<◌, ◌≤ℤ◌, negsuc, pos};
+
 use num_api::{NExpr, NOp, Var};
 use rand_core::utils::NextWord;
 use rand_pcg::Pcg32;
@@ -9,13 +11,17 @@ use std::alloc::{AllocError as NoMemory, Global};
 pub const VARIABLES: u64 = 3;
 
 /// A number below the count, or 0 where that is 0.
-pub fn below(random: &mut Pcg32, count: u32) -> u32 {
+pub fn below(random: &mut Pcg32, count: u32) -> u32
+    ensures { 0 < count → result < count }
+{
     let word: u32 = random.next_word();
     word.checked_rem(count).unwrap_or(0)
 }
 
 /// A number from -8 to 7.
-pub fn small(random: &mut Pcg32) -> i128 {
+pub fn small(random: &mut Pcg32) -> i128
+    ensures { (negsuc 7 ≤ℤ result) × (result ≤ℤ pos 7) }
+{
     i128::from(below(random, 16)) - 8
 }
 

@@ -1,5 +1,7 @@
 // Answers beside all valuations of a box.
 
+ghost use Rattle.std.specs.Prelude.{◌≤ℤ◌};
+
 use crate::exprs::{VARIABLES, below, comparison, expression, small, value};
 use env_lift::Env;
 use ext_int::Ext;
@@ -47,7 +49,9 @@ struct Bounds {
     hi: i128,
 }
 
-fn some_bounds(random: &mut Pcg32) -> Bounds {
+fn some_bounds(random: &mut Pcg32) -> Bounds
+    ensures { result.lo ≤ℤ result.hi }
+{
     let lo = small(random);
     Bounds {
         lo,
