@@ -1,5 +1,6 @@
 pub mod Forms
 mod Closed
+mod Falling
 mod Firsts
 mod Inlining
 mod Left

@@ -46,3 +46,8 @@ pub record IsOrderOf (graph : List (Option (List PlacedCall))) (order : List ℕ
   pub defined : All (IsDefined graph) order
   pub once : (f : ℕ) → IsDefined graph f → count_by (λ x. x == f) order ≡ 1
   pub callees_first : EachOf order (λ k f. All (λ call. Contains (take k order) call.callee) (calls_from graph f))
+
+-- where there is an order, no list of calls is closed
+abbrev pub OrdersExcludeClosedLists : Type 0
+OrdersExcludeClosedLists = (graph : List (Option (List PlacedCall))) (order : List ℕ) (calls : List PlacedCall)
+    → IsOrderOf graph order → IsClosedList graph calls → ⊥

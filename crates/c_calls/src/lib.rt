@@ -12,7 +12,7 @@
 //! | What | Stated in `specs/` | Promised by |
 //! |---|---|---|
 //! | the calls of a function | `Calls` of c_layout; `Graph` | `CallGraph::of` |
-//! | closed lists of calls, orders | `Graph` | `order_of` |
+//! | closed lists of calls, orders | `Graph` | `order_of`, `orders_exclude_closed_lists` |
 //! | calls of functions without a body | `Undefined` | `undefined_call` |
 //! | chains of more than 64 calls | `Graph`, `Depths` | `check_depth` |
 //! | inlined sizes | `Inlined` | `inlined_size` |
@@ -22,6 +22,7 @@ mod call;
 mod depth;
 mod exprs;
 mod graph;
+mod laws;
 mod search;
 mod size;
 mod stmts;
@@ -32,6 +33,7 @@ mod undefined;
 pub use call::{Call, Calls};
 pub use depth::{DepthError, check_depth};
 pub use graph::CallGraph;
+pub use laws::orders_exclude_closed_lists;
 pub use search::{OrderError, order_of};
 pub use size::inlined_size;
 pub use undefined::undefined_call;
