@@ -19,7 +19,8 @@ use Rattle.c_typing.specs.Operands.{OperandTree, Value}
 use Rattle.c_typing.specs.Rows.{is_scalar, store_row}
 use Rattle.c_typing.specs.Nodes.{count_of, Passed, Passes, Fails, with_passed, passed_one, passed, call_node, result_of, params_of, call_named, input_read, told, called_or_read}
 use Rattle.c_typing.proofs.FormsGo.{found_each, mapped}
-use Rattle.c_typing_laws.specs.TypedValues.{IsTypedValue, IsTypedOperand, AreTypedValues}
+use Rattle.c_typing.specs.Settled.{settled_expr, settled_place, settled_exprs}
+use Rattle.c_typing_laws.specs.TypedValues.{IsTypedValue, IsTypedOperand, AreTypedValues, last_expr}
 use Rattle.c_typing_laws.specs.RowLaws.{IsStored}
 use Rattle.c_typing_laws.specs.NodeLaws.{IsCallable, CallsAreTyped}
 use Rattle.c_typing_laws.proofs.Stores.{values_are_stored}
@@ -30,8 +31,8 @@ use Rattle.c_typing_laws.proofs.Places.{typed_is, not_typed}
 
 -- arguments that are passed as parameters of these types
 record ArePassed (scope : Scope) (params : List CTypeTree) (args : TExprTrees) : Type 0 where
-  typed : AreTyped scope args
-  row : ArgumentsRow params (types_of args)
+  typed : AreTyped scope (settled_exprs scope.program.objects args)
+  row : ArgumentsRow params (types_of (settled_exprs scope.program.objects args))
 
 passes_is : (a b : TExprTrees) → Passes a ≡ Passes b → a ≡ b
 passes_is a b e = cc
@@ -40,13 +41,13 @@ fails_not : {P : Type 0} (r : Refusal) (a : TExprTrees) → Fails r ≡ Passes a
 fails_not r a e = absurd cc
 
 none_passed : (scope : Scope) → ArePassed scope [] none
-unfolding IsTypedExpr IsTypedPlace AreTyped types_of
+unfolding IsTypedExpr IsTypedPlace AreTyped settled_expr settled_place settled_exprs types_of
 none_passed scope = record { typed = tt; row = tt }
 
 one_passed :
     (scope : Scope) (param : CTypeTree) (params : List CTypeTree) (e : TExprTree) (rest : TExprTrees) → IsStored scope param e → ArePassed scope params rest
     → ArePassed scope (param ∷ params) (more e rest)
-unfolding IsTypedExpr IsTypedPlace AreTyped types_of
+unfolding IsTypedExpr IsTypedPlace AreTyped settled_expr settled_place settled_exprs types_of
 one_passed scope param params e rest s a = record { typed = (s.typed.typed, a.typed); row = (s.row, a.row) }
 
 -- the rest, behind an argument that is stored
@@ -79,15 +80,16 @@ all_passed w scope at (param ∷ params) (more a rest) xs proper typed e r =
 
 call_typed :
     (w : World) (scope : Scope) (at : Pos) (n : ℕ) (args : TExprTrees) → IsCallable w scope n → ArePassed scope (params_of w n) args → IsTypedValue scope (Call at n (result_of w n) true args)
-unfolding IsTypedExpr IsTypedPlace AreTyped
+unfolding IsTypedExpr IsTypedPlace AreTyped settled_expr settled_place settled_exprs
 call_typed w scope at n args is a = record {
   typed = (
     refl,
     a.typed,
-    subst (λ o. IsSomeAnd o (λ f. CallRow scope.program f (result_of w n) (types_of args))) (sym is.there)
-        (is.result, subst (λ params. ArgumentsRow params (types_of args)) is.params a.row),
+    subst (λ o. IsSomeAnd o (λ f. CallRow scope.program f (result_of w n) (types_of (settled_exprs scope.program.objects args)))) (sym is.there)
+        (is.result, subst (λ params. ArgumentsRow params (types_of (settled_exprs scope.program.objects args))) is.params a.row),
   );
   proper = is.result_proper;
+  kept = refl;
 }
 
 node_typed :
@@ -125,31 +127,31 @@ input_is name t e =
     (λ input r. found_each (λ i. IsInputType i.1) (λ i. bytes_eq i.0 name) inputs input inputs_typed r) e
 
 any_node : (scope : Scope) (at : Pos) (t : IntType) → IsInputType t → IsTypedValue scope (Any at t)
-unfolding IsTypedExpr IsTypedPlace AreTyped
-any_node scope at t h = record { typed = h; proper = tt }
+unfolding IsTypedExpr IsTypedPlace AreTyped settled_expr settled_place settled_exprs
+any_node scope at t h = record { typed = h; proper = tt; kept = refl }
 
 input_typed : (w v : World) (scope : Scope) (at : Pos) (t : IntType) (args : TExprTrees) (y : OperandTree) → IsInputType t → input_read w at t args ≡ Typed y v → IsTypedOperand scope y
 input_typed w v scope at t none y h p = subst (IsTypedOperand scope) (typed_is _ y w v p) (any_node scope at t h)
 input_typed w v scope at t (more a rest) y h p = not_typed _ y v p
 
-assume_node : (scope : Scope) (at : Pos) (e : TExprTree) → IsTypedValue scope e → IsScalar (given_type e) → IsTypedValue scope (Assume at e)
-unfolding IsTypedExpr IsTypedPlace AreTyped
-assume_node scope at e v scalar = record { typed = (v.typed, scalar); proper = tt }
+assume_node : (scope : Scope) (at : Pos) (e : TExprTree) → IsTypedValue scope e → IsScalar (given_type (last_expr scope e)) → IsTypedValue scope (Assume at e)
+unfolding IsTypedExpr IsTypedPlace AreTyped settled_expr settled_place settled_exprs
+assume_node scope at e v scalar = record { typed = (v.typed, scalar); proper = tt; kept = refl }
 
-assert_node : (scope : Scope) (at : Pos) (e : TExprTree) → IsTypedValue scope e → IsScalar (given_type e) → IsTypedValue scope (Assert at e)
-unfolding IsTypedExpr IsTypedPlace AreTyped
-assert_node scope at e v scalar = record { typed = (v.typed, scalar); proper = tt }
+assert_node : (scope : Scope) (at : Pos) (e : TExprTree) → IsTypedValue scope e → IsScalar (given_type (last_expr scope e)) → IsTypedValue scope (Assert at e)
+unfolding IsTypedExpr IsTypedPlace AreTyped settled_expr settled_place settled_exprs
+assert_node scope at e v scalar = record { typed = (v.typed, scalar); proper = tt; kept = refl }
 
 one_told :
     (w v : World) (scope : Scope) (node : TExprTree → TExprTree) (e : TExprTree) (y : OperandTree) (q : Refusal) (scalar : Bool)
-    → ((IsScalar (given_type e)) → IsTypedValue scope (node e)) → IsTypedValue scope e → is_scalar (texpr_type e) ≡ scalar
+    → ((IsScalar (given_type (last_expr scope e))) → IsTypedValue scope (node e)) → IsTypedValue scope e → is_scalar (texpr_type e) ≡ scalar
     → (if scalar then Typed (Value (node e)) w else Refused q) ≡ Typed y v → IsTypedOperand scope y
 one_told w v scope node e y q true f x s p = subst (IsTypedOperand scope) (typed_is (Value (node e)) y w v p) (f (scalar_value scope e x s))
 one_told w v scope node e y q false f x s p = not_typed q y v p
 
 told_typed :
     (w v : World) (scope : Scope) (at : Pos) (node : TExprTree → TExprTree) (args : TExprTrees) (y : OperandTree)
-    → ((e : TExprTree) → IsTypedValue scope e → IsScalar (given_type e) → IsTypedValue scope (node e))
+    → ((e : TExprTree) → IsTypedValue scope e → IsScalar (given_type (last_expr scope e)) → IsTypedValue scope (node e))
     → AreTypedValues scope args → told w at node args ≡ Typed y v → IsTypedOperand scope y
 unfolding AreTypedValues
 told_typed w v scope at node none y f typed p = not_typed _ y v p

@@ -27,7 +27,8 @@ use Rattle.c_typing.specs.Rows.{is_scalar, cond_type, cond_part, cond_row, cast_
 use Rattle.c_typing.specs.Nodes.{given}
 use Rattle.c_typing.proofs.MadeMembers.{complete_is_told}
 use Rattle.c_typing.proofs.FormsGo.{no_some}
-use Rattle.c_typing_laws.specs.TypedValues.{IsTypedValue, IsTypedOperand}
+use Rattle.c_typing.specs.Settled.{settled_expr, settled_place, settled_exprs}
+use Rattle.c_typing_laws.specs.TypedValues.{IsTypedValue, IsTypedOperand, last_expr}
 use Rattle.c_typing_laws.specs.NodeLaws.{ConditionalsAreTyped, CommasAreTyped, SizesAreTyped, CastsAreTyped, NumbersAreTyped, CharactersAreTyped}
 use Rattle.c_typing.proofs.Same.{one_but_const}
 use Rattle.c_typing_laws.proofs.Wide.{balanced_same}
@@ -38,8 +39,8 @@ use Rattle.c_typing_laws.proofs.Places.{typed_is, not_typed, given_typed}
 -- ---- values that are not used
 
 -- a call that is not used is typed where its value is not wanted, as is any other value
-pub dropped : (scope : Scope) (e : TExprTree) → IsTypedExpr scope true e → IsTypedExpr scope false (not_used e)
-unfolding IsTypedExpr IsTypedPlace AreTyped
+pub dropped : (scope : Scope) (e : TExprTree) → IsTypedExpr scope true (last_expr scope e) → IsTypedExpr scope false (last_expr scope (not_used e))
+unfolding IsTypedExpr IsTypedPlace AreTyped settled_expr settled_place settled_exprs
 dropped scope (Const at ty value) t = t
 dropped scope (Null at ty) t = t
 dropped scope (Load at place) t = t
@@ -63,8 +64,8 @@ dropped scope (Assume at operand) t = t
 dropped scope (Assert at operand) t = t
 
 comma_node : (scope : Scope) (at : Pos) (a b : TExprTree) → IsTypedValue scope a → IsTypedValue scope b → IsTypedValue scope (Comma at (not_used a) b)
-unfolding IsTypedExpr IsTypedPlace AreTyped
-comma_node scope at a b v w = record { typed = (dropped scope a v.typed, w.typed); proper = w.proper }
+unfolding IsTypedExpr IsTypedPlace AreTyped settled_expr settled_place settled_exprs
+comma_node scope at a b v w = record { typed = (dropped scope a v.typed, w.typed); proper = w.proper; kept = w.kept }
 
 pub commas_are_typed : CommasAreTyped
 commas_are_typed w v scope at a b y x z p = subst (IsTypedOperand scope) (typed_is _ y w v p) (comma_node scope at a b x z)
@@ -72,8 +73,8 @@ commas_are_typed w v scope at a b y x z p = subst (IsTypedOperand scope) (typed_
 -- ---- casts
 
 void_node : (scope : Scope) (at : Pos) (e : TExprTree) → IsTypedValue scope e → IsTypedValue scope (Convert at Void (not_used e))
-unfolding IsTypedExpr IsTypedPlace AreTyped
-void_node scope at e v = record { typed = (dropped scope e v.typed, tt, tt); proper = tt }
+unfolding IsTypedExpr IsTypedPlace AreTyped settled_expr settled_place settled_exprs
+void_node scope at e v = record { typed = (dropped scope e v.typed, tt, tt); proper = tt; kept = refl }
 
 cast_same : (scope : Scope) (at : Pos) (target : CTypeTree) (e : TExprTree) → IsTypedValue scope e → IsTypedValue scope (Convert at target e) → IsTypedValue scope (cast_node at target e)
 cast_same scope at target e v c = by (is_same target (texpr_type e))
@@ -210,7 +211,7 @@ cond_by scope s t a b ty v w p q r = no_type ty r
 cond_node :
     (scope : Scope) (at : Pos) (test a b : TExprTree) (ty : CTypeTree) → IsTypedValue scope test → is_scalar (texpr_type test) ≡ true → HasType scope ty a b
     → IsTypedValue scope (Cond at ty test (cond_part ty a) (cond_part ty b))
-unfolding IsTypedExpr IsTypedPlace AreTyped
+unfolding IsTypedExpr IsTypedPlace AreTyped settled_expr settled_place settled_exprs
 cond_node scope at test a b ty t s h =
     let first = value_given scope _ h.first.value ty h.first.is in
     let second = value_given scope _ h.second.value ty h.second.is in record {
@@ -229,6 +230,7 @@ cond_node scope at test a b ty t s h =
         },
       );
       proper = h.proper;
+      kept = refl;
     }
 
 with_type :
@@ -250,8 +252,8 @@ conditionals_are_typed w v scope at test a b y t x z p = conditional_by w v scop
 -- ---- constants
 
 pub const_node : (scope : Scope) (at : Pos) (t : IntType) (n : ℤ) → HasNumber t n → IsTypedValue scope (Const at t n)
-unfolding IsTypedExpr IsTypedPlace AreTyped
-const_node scope at t n h = record { typed = h; proper = tt }
+unfolding IsTypedExpr IsTypedPlace AreTyped settled_expr settled_place settled_exprs
+const_node scope at t n h = record { typed = h; proper = tt; kept = refl }
 
 pub number_fits : (t : IntType) (n : ℕ) → n ≤ greatest t → HasNumber t (pos n)
 number_fits ints.Char n h = fits_signed_from_abs w8 (pos n) (omega arith)

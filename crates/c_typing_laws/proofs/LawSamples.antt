@@ -44,7 +44,7 @@ ends_k = record {
 }
 
 usable_k : AreUsable world_k scope_k
-usable_k = All-cons (λ b. IsUsable world_k scope_k b.meaning) _ [] (refl, inl refl) (All-nil (λ b. IsUsable world_k scope_k b.meaning))
+usable_k = All-cons (λ b. IsUsable world_k scope_k b.meaning) _ [] (inl refl) (All-nil (λ b. IsUsable world_k scope_k b.meaning))
 
 pub samples_are_typed : SamplesAreTyped
 unfolding Types

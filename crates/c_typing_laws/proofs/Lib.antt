@@ -1,3 +1,4 @@
+pub mod Lasts
 pub mod Wide
 pub mod Values
 pub mod Operators

@@ -1,5 +1,5 @@
 -- Operators between two typed values make typed values.
-use Rattle.std.proofs.Common.{◌≡◌, ℕ, true, false, List, refl, ap, subst, inl, inr}
+use Rattle.std.proofs.Common.{◌≡◌, ℕ, true, false, List, refl, ap, subst, ◌∙◌, inl, inr}
 use Rattle.std.specs.Prelude.{Bool, ◌||◌, ◌&&◌, if◌then◌else◌, Option, None, Some, option_map}
 use Rattle.std.proofs.lemmas.Bool.{false≢true, and_parts}
 use Rattle.std.proofs.lemmas.Option.{same_Some}
@@ -29,7 +29,8 @@ use Rattle.c_typing.specs.Constants.{is_null_constant}
 use Rattle.c_typing.specs.Rows.{is_scalar, balanced_row, shift_row, moved_row, plus_row, minus_row, order_row, equality_row}
 use Rattle.c_typing.specs.Later.{IsLater}
 use Rattle.c_typing.proofs.FormsGo.{no_some}
-use Rattle.c_typing_laws.specs.TypedValues.{IsTypedValue}
+use Rattle.c_typing.specs.Settled.{settled_expr, settled_place, settled_exprs}
+use Rattle.c_typing_laws.specs.TypedValues.{IsTypedValue, last_expr}
 use Rattle.c_typing_laws.specs.RowLaws.{OperatorsAreTyped}
 use Rattle.c_typing.proofs.Later.{size_later}
 use Rattle.c_typing.proofs.Same.{one_but_const}
@@ -43,10 +44,14 @@ made {scope} x e p v = subst (IsTypedValue scope) (same_Some x e p) v
 -- an operator on two typed values whose row they have
 node :
     (scope : Scope) (at : Pos) (op : TBinaryOp) (a b : TExprTree) → IsTypedValue scope a → IsTypedValue scope b
-    → BinaryRow scope.program.structs op (given_type a) (given_type b) → IsProperType scope.program.structs (binary_type op (texpr_type a) (texpr_type b))
+    → BinaryRow scope.program.structs op (given_type (last_expr scope a)) (given_type (last_expr scope b)) → IsProperType scope.program.structs (binary_type op (texpr_type a) (texpr_type b))
     → IsTypedValue scope (Binary at op a b)
-unfolding IsTypedExpr IsTypedPlace AreTyped
-node scope at op a b v w row proper = record { typed = (v.typed, w.typed, row); proper = proper }
+unfolding IsTypedExpr IsTypedPlace AreTyped settled_expr settled_place settled_exprs
+node scope at op a b v w row proper = record {
+  typed = (v.typed, w.typed, row);
+  proper = proper;
+  kept = ap (λ t. binary_type op t (texpr_type (last_expr scope b))) v.kept ∙ ap (binary_type op (texpr_type a)) w.kept;
+}
 
 -- ---- integers
 
@@ -98,7 +103,7 @@ sized structs scope to c n later e = size_later structs scope.program.structs la
 move_row :
     (structs : List StructDefTree) (scope : Scope) (to : CTypeTree) (c : Bool) (u : IntType) (n : ℕ) (a b : TExprTree) → IsLater structs scope.program.structs
     → IsTypedValue scope a → IsTypedValue scope b → texpr_type a ≡ Pointer to c → texpr_type b ≡ Int u → complete_size structs to ≡ Some n
-    → MoveRow scope.program.structs n (given_type a) (given_type b)
+    → MoveRow scope.program.structs n (given_type (last_expr scope a)) (given_type (last_expr scope b))
 move_row structs scope to c u n a b later v w p q e =
     (fits scope a v (λ ty. PointsToSize scope.program.structs ty n) (Pointer to c) p (sized structs scope to c n later e), fits scope b w IsInteger (Int u) q tt)
 
@@ -129,7 +134,7 @@ minus_pointers :
 minus_pointers structs scope at s t c d true a b e later v w p q same r =
     told (complete_size structs s) _ e r (λ n size is. subst (IsTypedValue scope) is
     (node scope at (binaries.PointerMinusPointer n) a b v w
-    (fits scope a v (λ x. DifferenceRow scope.program.structs n x (given_type b)) (Pointer s c) p
+    (fits scope a v (λ x. DifferenceRow scope.program.structs n x (given_type (last_expr scope b))) (Pointer s c) p
     (fits scope b w (λ y. DifferenceRow scope.program.structs n (Pointer s c) y) (Pointer t d) q
     ((tt, ap (λ x. Pointer x false) (one_but_const s t same)), sized structs scope s c n later size))) tt))
 minus_pointers structs scope at s t c d false a b e later v w p q same r = no_some e r
@@ -152,7 +157,7 @@ compared :
     → PointersRow op s t → IsTypedValue scope (Binary at (binaries.ComparePointers op) a b)
 compared scope at op s t a b v w p q row =
     node scope at (binaries.ComparePointers op) a b v w
-    (fits scope a v (λ x. PointersRow op x (given_type b)) s p (fits scope b w (λ y. PointersRow op s y) t q row)) tt
+    (fits scope a v (λ x. PointersRow op x (given_type (last_expr scope b))) s p (fits scope b w (λ y. PointersRow op s y) t q row)) tt
 
 -- an order, which asks for pointers to one target, or an equality
 one_target : (op : Comparison) (s t : CTypeTree) (c d : Bool) → SameType s t → PointersRow op (Pointer s c) (Pointer t d)
@@ -268,19 +273,19 @@ scalar_is (Int t) e = tt
 scalar_is (Pointer to c) e = tt
 scalar_is ty e = absurd (false≢true e)
 
-pub scalar_value : (scope : Scope) (a : TExprTree) → IsTypedValue scope a → is_scalar (texpr_type a) ≡ true → IsScalar (given_type a)
+pub scalar_value : (scope : Scope) (a : TExprTree) → IsTypedValue scope a → is_scalar (texpr_type a) ≡ true → IsScalar (given_type (last_expr scope a))
 scalar_value scope a v e = fits scope a v IsScalar (texpr_type a) refl (scalar_is (texpr_type a) e)
 
-and_node : (scope : Scope) (at : Pos) (a b : TExprTree) → IsTypedValue scope a → IsTypedValue scope b → LogicalRow (given_type a) (given_type b) → IsTypedValue scope (And at a b)
-unfolding IsTypedExpr IsTypedPlace AreTyped
-and_node scope at a b v w row = record { typed = (v.typed, w.typed, row); proper = tt }
+and_node : (scope : Scope) (at : Pos) (a b : TExprTree) → IsTypedValue scope a → IsTypedValue scope b → LogicalRow (given_type (last_expr scope a)) (given_type (last_expr scope b)) → IsTypedValue scope (And at a b)
+unfolding IsTypedExpr IsTypedPlace AreTyped settled_expr settled_place settled_exprs
+and_node scope at a b v w row = record { typed = (v.typed, w.typed, row); proper = tt; kept = refl }
 
-or_node : (scope : Scope) (at : Pos) (a b : TExprTree) → IsTypedValue scope a → IsTypedValue scope b → LogicalRow (given_type a) (given_type b) → IsTypedValue scope (Or at a b)
-unfolding IsTypedExpr IsTypedPlace AreTyped
-or_node scope at a b v w row = record { typed = (v.typed, w.typed, row); proper = tt }
+or_node : (scope : Scope) (at : Pos) (a b : TExprTree) → IsTypedValue scope a → IsTypedValue scope b → LogicalRow (given_type (last_expr scope a)) (given_type (last_expr scope b)) → IsTypedValue scope (Or at a b)
+unfolding IsTypedExpr IsTypedPlace AreTyped settled_expr settled_place settled_exprs
+or_node scope at a b v w row = record { typed = (v.typed, w.typed, row); proper = tt; kept = refl }
 
 logical_by :
-    (scope : Scope) (node : TExprTree → TExprTree → TExprTree) (both : Bool) (a b e : TExprTree) → ((LogicalRow (given_type a) (given_type b)) → IsTypedValue scope (node a b))
+    (scope : Scope) (node : TExprTree → TExprTree → TExprTree) (both : Bool) (a b e : TExprTree) → ((LogicalRow (given_type (last_expr scope a)) (given_type (last_expr scope b))) → IsTypedValue scope (node a b))
     → IsTypedValue scope a → IsTypedValue scope b → (is_scalar (texpr_type a) && is_scalar (texpr_type b)) ≡ both → (if both then Some (node a b) else None) ≡ Some e → IsTypedValue scope e
 logical_by scope node true a b e f v w h r =
     let p = and_parts (is_scalar (texpr_type a)) (is_scalar (texpr_type b)) h in made _ e r (f (scalar_value scope a v p.0, scalar_value scope b w p.1))

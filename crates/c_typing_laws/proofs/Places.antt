@@ -1,6 +1,6 @@
 -- Places that typed nodes name, and what is read there.
 use Rattle.std.proofs.Common.{◌≡◌, ℕ, zero, suc, true, false, List, [], ◌∷◌, refl, ap, sym, subst, ◌∙◌}
-use Rattle.std.specs.Prelude.{◌<◌, Bool, if◌then◌else◌, IsTrue, Option, None, Some, option_map, IsSomeAnd, All, position, slice_get, bytes_eq}
+use Rattle.std.specs.Prelude.{◌<◌, Bool, ◌&&◌, ◌||◌, not, unwrap_or, if◌then◌else◌, IsTrue, Option, None, Some, option_map, IsSomeAnd, All, position, slice_get, bytes_eq}
 use Rattle.std.proofs.lemmas.Option.{same_Some, option_and_then_some}
 use Rattle.std.proofs.lemmas.List.Elements.{All-head, All-tail}
 use Rattle.c_written.specs.declared.place.Pos.{Pos}
@@ -10,7 +10,7 @@ use Rattle.c_syntax.specs.declared.operator.DerefKind.{DerefKind}
 use Rattle.c_syntax.specs.declared.operator.DerefKind.TheVariants as derefs
 use Rattle.c_syntax.specs.declared.operator.TUnaryOp.{TUnaryOp}
 use Rattle.c_syntax.specs.declared.operator.TUnaryOp.TheVariants as unaries
-use Rattle.c_syntax.specs.Types.{CTypeTree, Void, Int, Pointer, Array, Struct, Function}
+use Rattle.c_syntax.specs.Types.{CTypeTree, Void, Int, Pointer, Array, Struct, Function, ObjectTree}
 use Rattle.c_syntax.specs.TypedExpr.{TExprTree, Load, AddressOf, Decay, Whole, Unary, TLvalueTree, Deref}
 use Rattle.c_syntax.specs.TypedParts.{texpr_type, tlvalue_pos, tlvalue_type, tlvalue_is_const, decayed, unary_type}
 use Rattle.c_syntax.specs.GivenType.{given_type}
@@ -19,7 +19,8 @@ use Rattle.c_layout.specs.Conversion.{promoted}
 use Rattle.c_layout.specs.Layout.{members_of, size_in}
 use Rattle.c_layout.specs.Tables.{IsTypedTable, IsTypedMember}
 use Rattle.c_layout.specs.ProperTypes.{IsProperType, IsTold}
-use Rattle.c_layout.specs.RowTypes.{IsScalar, UnaryRow, is_declared_const}
+use Rattle.c_layout.specs.RowTypes.{IsScalar, UnaryRow, is_declared_const, is_plain_text}
+use Rattle.c_layout.specs.WellTyped.{is_array}
 use Rattle.c_layout.specs.TypedNodes.{Scope, IsArray, IsStruct, IsTypedExpr, IsTypedPlace, AreTyped, VarRow}
 use Rattle.c_layout.proofs.ScalarMembers.{members_typed}
 use Rattle.c_typing.specs.World.{World, Refusal, Typed, Refused, unless}
@@ -29,9 +30,12 @@ use Rattle.c_typing.specs.Nodes.{given, given_place}
 use Rattle.c_typing.specs.Later.{has_members}
 use Rattle.c_typing.specs.Later.{IsLater}
 use Rattle.c_typing.proofs.FormsGo.{no_some}
-use Rattle.c_typing_laws.specs.TypedValues.{IsTypedValue, IsObjectType, IsTypedLvalue, IsTypedOperand}
+use Rattle.c_typing.specs.Settled.{settled_expr, settled_place, settled_exprs}
+use Rattle.c_typing.specs.Laws.{IsLastType, same}
+use Rattle.c_typing_laws.specs.TypedValues.{IsTypedValue, IsObjectType, IsTypedLvalue, IsTypedOperand, last_expr, last_place}
 use Rattle.c_typing_laws.specs.NodeLaws.{ReadsAreTyped, PrefixesAreTyped, BinariesAreTyped, IndexesAreTyped, MembersAreTyped, ArrowsAreTyped, ObjectsAreTyped}
 use Rattle.c_typing.proofs.Later.{members_later}
+use Rattle.c_typing_laws.proofs.Lasts.{last_same, last_array, last_complete, last_object, last_text, last_proper, const_kept}
 use Rattle.c_typing_laws.proofs.Wide.{promoted_same}
 use Rattle.c_typing_laws.proofs.Values.{value_given, as_int_value, as_int_type}
 use Rattle.c_typing_laws.proofs.Operators.{made, proper_of, plus_typed, scalar_value, operators_are_typed}
@@ -60,27 +64,32 @@ place_typed scope r (Some place) w v y f p = subst (IsTypedOperand scope) (typed
 
 -- ---- what is read
 
-load : (scope : Scope) (at : Pos) (place : TLvalueTree) → IsTypedLvalue scope place → IsScalar (tlvalue_type place) → IsTypedValue scope (Load at place)
-unfolding IsTypedExpr IsTypedPlace AreTyped
-load scope at place t scalar = record { typed = (t.typed, scalar); proper = t.proper }
+load : (scope : Scope) (at : Pos) (place : TLvalueTree) → IsTypedLvalue scope place → is_array (tlvalue_type place) ≡ false → IsScalar (tlvalue_type place) → IsTypedValue scope (Load at place)
+unfolding IsTypedExpr IsTypedPlace AreTyped settled_expr settled_place settled_exprs
+load scope at place t e scalar =
+    let q = last_same t.last e in record { typed = (t.typed, subst IsScalar (sym q) scalar); proper = last_proper scope place q t.proper; kept = q }
 
 whole : (scope : Scope) (at : Pos) (place : TLvalueTree) (n : ℕ) → IsTypedLvalue scope place → tlvalue_type place ≡ Struct n → IsTypedValue scope (Whole at place)
-unfolding IsTypedExpr IsTypedPlace AreTyped
-whole scope at place n t p = record { typed = (t.typed, subst IsStruct (sym p) tt); proper = t.proper }
+unfolding IsTypedExpr IsTypedPlace AreTyped settled_expr settled_place settled_exprs
+whole scope at place n t p =
+    let q = last_same t.last (ap is_array p) in record { typed = (t.typed, subst IsStruct (sym (q ∙ p)) tt); proper = last_proper scope place q t.proper; kept = q }
 
 decay :
     (scope : Scope) (at : Pos) (place : TLvalueTree) (of : CTypeTree) (c : Bool) (n : ℕ) → IsTypedLvalue scope place → tlvalue_type place ≡ Array of c n
     → IsTypedValue scope (Decay at place)
-unfolding IsTypedExpr IsTypedPlace AreTyped
-decay scope at place of c n t p = record {
-  typed = (t.typed, subst IsArray (sym p) tt);
-  proper = subst (λ ty. IsProperType scope.program.structs (decayed ty (tlvalue_is_const place))) (sym p) (subst (λ ty. IsProperType scope.program.structs ty) p t.proper).0;
-}
+unfolding IsTypedExpr IsTypedPlace AreTyped settled_expr settled_place settled_exprs
+decay scope at place of c n t p =
+    let l = last_array t.last of c n p in record {
+      typed = (t.typed, subst IsArray (sym l.1) tt);
+      proper = subst (λ ty. IsProperType scope.program.structs (decayed ty (tlvalue_is_const place))) (sym p) (subst (λ ty. IsProperType scope.program.structs ty) l.1 t.proper).0;
+      kept = ap (λ ty. decayed ty (tlvalue_is_const (last_place scope place))) l.1 ∙ ap (λ b. Pointer of (c || b)) (const_kept scope.program.objects place)
+          ∙ ap (λ ty. decayed ty (tlvalue_is_const place)) (sym p);
+    }
 
 pub read_typed : (scope : Scope) (place : TLvalueTree) (ty : CTypeTree) → IsTypedLvalue scope place → tlvalue_type place ≡ ty → IsTypedValue scope (read_by ty place)
 read_typed scope place Void t p = absurd (subst IsObjectType p t.object)
-read_typed scope place (Int n) t p = load scope (tlvalue_pos place) place t (subst IsScalar (sym p) tt)
-read_typed scope place (Pointer to c) t p = load scope (tlvalue_pos place) place t (subst IsScalar (sym p) tt)
+read_typed scope place (Int n) t p = load scope (tlvalue_pos place) place t (ap is_array p) (subst IsScalar (sym p) tt)
+read_typed scope place (Pointer to c) t p = load scope (tlvalue_pos place) place t (ap is_array p) (subst IsScalar (sym p) tt)
 read_typed scope place (Array of c n) t p = decay scope (tlvalue_pos place) place of c n t p
 read_typed scope place (Struct n) t p = whole scope (tlvalue_pos place) place n t p
 read_typed scope place (Function n) t p = absurd (subst IsObjectType p t.object)
@@ -100,12 +109,18 @@ sized_object structs (Array of c n) size e = tt
 sized_object structs (Struct n) size e = tt
 sized_object structs (Function n) size e = no_some size e
 
+-- the type of an object that may be there
+abbrev type_in : Option ObjectTree → CTypeTree → CTypeTree
+type_in o ty = unwrap_or (option_map (λ x. x.ty) o) ty
+
 pub objects_are_typed : ObjectsAreTyped
-unfolding IsTypedExpr IsTypedPlace AreTyped
-objects_are_typed scope at n object e typed lives = record {
-  typed = subst (λ o. IsSomeAnd o (λ x. VarRow scope x n object.ty (is_declared_const object))) (sym e) (record { type_of = refl; qualified = refl; lives = lives });
-  proper = typed.ty;
-  object = sized_object scope.program.structs object.ty object.size typed.size;
+unfolding IsTypedExpr IsTypedPlace AreTyped settled_expr settled_place settled_exprs
+objects_are_typed scope at n x object e typed last const lives = record {
+  typed = subst (λ o. IsSomeAnd o (λ y. VarRow scope y n (type_in o x.ty) (is_declared_const x))) (sym e)
+      (record { type_of = refl; qualified = sym (ap (λ b. b && not (is_plain_text object.ty)) const ∙ ap (λ b. x.read_only && not b) (last_text last)); lives = lives });
+  proper = subst (λ o. IsProperType scope.program.structs (type_in o x.ty)) (sym e) typed.ty;
+  object = last_object last (sized_object scope.program.structs object.ty object.size typed.size);
+  last = subst (λ o. IsLastType x.ty (type_in o x.ty)) (sym e) last;
 }
 
 -- ---- `*`, and what stands at it
@@ -113,11 +128,12 @@ objects_are_typed scope at n object e typed lives = record {
 deref :
     (scope : Scope) (kind : DerefKind) (at : Pos) (to : CTypeTree) (c : Bool) (e : TExprTree) → IsTypedValue scope e → texpr_type e ≡ Pointer to c
     → (to ≡ Void → ⊥) → IsObjectType to → IsTypedLvalue scope (Deref at kind to c e)
-unfolding IsTypedExpr IsTypedPlace AreTyped
+unfolding IsTypedExpr IsTypedPlace AreTyped settled_expr settled_place settled_exprs
 deref scope kind at to c e v p some object = record {
   typed = (v.typed, record { target = value_given scope e v (Pointer to c) p; some = some });
   proper = proper_of scope e v (Pointer to c) p;
   object = object;
+  last = same to;
 }
 
 no_function : (structs : List StructDefTree) (n : ℕ) → IsProperType structs (Function n) → ⊥
@@ -149,10 +165,10 @@ star_typed scope kind at e place v r = star_by scope kind at (texpr_type e) e pl
 -- ---- prefixes
 
 unary_node :
-    (scope : Scope) (at : Pos) (op : TUnaryOp) (e : TExprTree) → IsTypedValue scope e → UnaryRow op (given_type e) → IsProperType scope.program.structs (unary_type op)
+    (scope : Scope) (at : Pos) (op : TUnaryOp) (e : TExprTree) → IsTypedValue scope e → UnaryRow op (given_type (last_expr scope e)) → IsProperType scope.program.structs (unary_type op)
     → IsTypedValue scope (Unary at op e)
-unfolding IsTypedExpr IsTypedPlace AreTyped
-unary_node scope at op e v row proper = record { typed = (v.typed, row); proper = proper }
+unfolding IsTypedExpr IsTypedPlace AreTyped settled_expr settled_place settled_exprs
+unary_node scope at op e v row proper = record { typed = (v.typed, row); proper = proper; kept = refl }
 
 -- an operator at an integer type, which asks for an integer of that type
 record AtInteger (scope : Scope) (op : IntType → TUnaryOp) : Type 0 where
@@ -173,19 +189,24 @@ not_by :
 not_by scope at true e x v p r = made _ x r (unary_node scope at unaries.Not e v (scalar_value scope e v p) tt)
 not_by scope at false e x v p r = no_some x r
 
-address_node : (scope : Scope) (at : Pos) (place : TLvalueTree) → IsTypedLvalue scope place → IsTypedValue scope (AddressOf at place)
-unfolding IsTypedExpr IsTypedPlace AreTyped
-address_node scope at place t = record { typed = t.typed; proper = t.proper }
+address_node : (scope : Scope) (at : Pos) (place : TLvalueTree) → IsTypedLvalue scope place → is_unsized (tlvalue_type place) ≡ false → IsTypedValue scope (AddressOf at place)
+unfolding IsTypedExpr IsTypedPlace AreTyped settled_expr settled_place settled_exprs
+address_node scope at place t e =
+    let q = last_complete t.last e in record {
+      typed = t.typed;
+      proper = last_proper scope place q t.proper;
+      kept = ap (λ ty. Pointer ty (tlvalue_is_const (last_place scope place))) q ∙ ap (Pointer (tlvalue_type place)) (const_kept scope.program.objects place);
+    }
 
 address_by :
-    (scope : Scope) (at : Pos) (place : TLvalueTree) (r : Refusal) (unsized : Bool) (w v : World) (y : OperandTree) → IsTypedLvalue scope place
+    (scope : Scope) (at : Pos) (place : TLvalueTree) (r : Refusal) (unsized : Bool) (w v : World) (y : OperandTree) → IsTypedLvalue scope place → is_unsized (tlvalue_type place) ≡ unsized
     → unless unsized r (Typed (Value (AddressOf at place)) w) ≡ Typed y v → IsTypedOperand scope y
-address_by scope at place r true w v y t p = not_typed r y v p
-address_by scope at place r false w v y t p = subst (IsTypedOperand scope) (typed_is _ y w v p) (address_node scope at place t)
+address_by scope at place r true w v y t e p = not_typed r y v p
+address_by scope at place r false w v y t e p = subst (IsTypedOperand scope) (typed_is _ y w v p) (address_node scope at place t e)
 
 pub prefixes_are_typed : PrefixesAreTyped
 prefixes_are_typed w v scope at prefixes.AddressOf (Value e) y t p = not_typed _ y v p
-prefixes_are_typed w v scope at prefixes.AddressOf (Place place) y t p = address_by scope at place _ (is_unsized (tlvalue_type place)) w v y t p
+prefixes_are_typed w v scope at prefixes.AddressOf (Place place) y t p = address_by scope at place _ (is_unsized (tlvalue_type place)) w v y t refl p
 prefixes_are_typed w v scope at prefixes.Deref x y t p = place_typed scope _ _ w v y (λ place r. star_typed scope derefs.Star at (value_of x) place (reads_are_typed scope x t) r) p
 prefixes_are_typed w v scope at prefixes.Plus x y t p =
     given_typed scope _ _ w v y (λ e r. sign_by scope at unaries.Plus _ (value_of x) e (record { row = λ t ty q. q; proper = λ t. tt }) (reads_are_typed scope x t) refl r) p
@@ -225,21 +246,22 @@ member_sized structs m (Some size) e h = sized_object structs m.ty size e
 member_place :
     (scope : Scope) (at : Pos) (place : TLvalueTree) (n k : ℕ) (m : MemberTree) → IsTypedTable scope.program.structs → IsTypedLvalue scope place
     → tlvalue_type place ≡ Struct n → slice_get (members_of scope.program.structs n) k ≡ Some m → IsTypedLvalue scope (member_node at place k m)
-unfolding IsTypedExpr IsTypedPlace AreTyped
+unfolding IsTypedExpr IsTypedPlace AreTyped settled_expr settled_place settled_exprs
 member_place scope at place n k m table t p e =
     let typed = each_member scope.program.structs (members_of scope.program.structs n) k m (members_typed scope.program.structs scope.program.structs n table.members) e in record {
       typed = (
         t.typed,
         record {
           number = n;
-          is_struct = p;
+          is_struct = last_same t.last (ap is_array p) ∙ p;
           type_of = subst (λ o. IsSomeAnd o (λ x. x.ty ≡ m.ty)) (sym e) refl;
           place = sym (table.laid_out.offsets n k) ∙ ap (option_map (λ x. x.offset)) e;
-          qualified = refl;
+          qualified = sym (const_kept scope.program.objects place);
         },
       );
       proper = typed.ty;
       object = member_sized scope.program.structs m (size_in scope.program.structs m.ty) refl typed.size;
+      last = same m.ty;
     }
 
 -- a member of a struct that is complete where it is asked for

@@ -12,7 +12,8 @@ use Rattle.c_layout.specs.RowTypes.{ConvertRow}
 use Rattle.c_layout.specs.TypedNodes.{Scope, IsTypedExpr, IsTypedPlace, AreTyped}
 use Rattle.c_typing.specs.SameTypes.{is_same_int, is_same}
 use Rattle.c_typing.specs.Operands.{as_int, as_type}
-use Rattle.c_typing_laws.specs.TypedValues.{IsTypedValue}
+use Rattle.c_typing.specs.Settled.{settled_expr, settled_place, settled_exprs}
+use Rattle.c_typing_laws.specs.TypedValues.{IsTypedValue, last_expr}
 use Rattle.c_typing.proofs.Same.{one_int, one_type}
 
 -- a value that is wanted is given
@@ -40,30 +41,30 @@ given_is scope (Any at ty) t = refl
 given_is scope (Assume at operand) t = refl
 given_is scope (Assert at operand) t = refl
 
-pub value_given : (scope : Scope) (e : TExprTree) → IsTypedValue scope e → (ty : CTypeTree) → texpr_type e ≡ ty → given_type e ≡ ty
-value_given scope e v ty p = given_is scope e v.typed ∙ p
+pub value_given : (scope : Scope) (e : TExprTree) → IsTypedValue scope e → (ty : CTypeTree) → texpr_type e ≡ ty → given_type (last_expr scope e) ≡ ty
+value_given scope e v ty p = given_is scope (last_expr scope e) v.typed ∙ v.kept ∙ p
 
 -- what is given of a value fits where its type does
-pub fits : (scope : Scope) (e : TExprTree) → IsTypedValue scope e → (P : CTypeTree → Type 0) (ty : CTypeTree) → texpr_type e ≡ ty → P ty → P (given_type e)
+pub fits : (scope : Scope) (e : TExprTree) → IsTypedValue scope e → (P : CTypeTree → Type 0) (ty : CTypeTree) → texpr_type e ≡ ty → P ty → P (given_type (last_expr scope e))
 fits scope e v P ty p h = subst P (sym (value_given scope e v ty p)) h
 
 -- ---- conversions
 
 -- to an integer type
 pub int_value : (scope : Scope) (at : Pos) (t u : IntType) (e : TExprTree) → IsTypedValue scope e → texpr_type e ≡ Int t → IsTypedValue scope (Convert at (Int u) e)
-unfolding IsTypedExpr IsTypedPlace AreTyped
-int_value scope at t u e v p = record { typed = (v.typed, tt, fits scope e v (ConvertRow (Int u)) (Int t) p tt); proper = tt }
+unfolding IsTypedExpr IsTypedPlace AreTyped settled_expr settled_place settled_exprs
+int_value scope at t u e v p = record { typed = (v.typed, tt, fits scope e v (ConvertRow (Int u)) (Int t) p tt); proper = tt; kept = refl }
 
 -- to a pointer type
 pub pointer_value :
     (scope : Scope) (at : Pos) (to from : CTypeTree) (c d : Bool) (e : TExprTree) → IsTypedValue scope e → texpr_type e ≡ Pointer from d → IsProperType scope.program.structs to
     → IsTypedValue scope (Convert at (Pointer to c) e)
-unfolding IsTypedExpr IsTypedPlace AreTyped
-pointer_value scope at to from c d e v p proper = record { typed = (v.typed, proper, fits scope e v (ConvertRow (Pointer to c)) (Pointer from d) p tt); proper = proper }
+unfolding IsTypedExpr IsTypedPlace AreTyped settled_expr settled_place settled_exprs
+pointer_value scope at to from c d e v p proper = record { typed = (v.typed, proper, fits scope e v (ConvertRow (Pointer to c)) (Pointer from d) p tt); proper = proper; kept = refl }
 
 pub null_value : (scope : Scope) (at : Pos) (to : CTypeTree) (c : Bool) → IsProperType scope.program.structs to → IsTypedValue scope (Null at (Pointer to c))
-unfolding IsTypedExpr IsTypedPlace AreTyped
-null_value scope at to c proper = record { typed = (tt, proper); proper = proper }
+unfolding IsTypedExpr IsTypedPlace AreTyped settled_expr settled_place settled_exprs
+null_value scope at to c proper = record { typed = (tt, proper); proper = proper; kept = refl }
 
 -- an integer at a type, which is a node only where it has another
 pub as_int_value : (scope : Scope) (u t : IntType) (e : TExprTree) → IsTypedValue scope e → texpr_type e ≡ Int t → IsTypedValue scope (as_int u t e)

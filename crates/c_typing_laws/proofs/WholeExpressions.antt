@@ -1,6 +1,6 @@
 -- Expressions are typed, part by part.
-use Rattle.std.proofs.Common.{◌≡◌, ℕ, suc, ◌+◌, true, false, List, [], length, reverse, refl, ap, sym, subst, ◌∙◌, inl, inr, ⊎_elim, arith}
-use Rattle.std.specs.Prelude.{◌⊎◌, nat_lt, nat_le, Bool, not, ◌&&◌, if◌then◌else◌, IsTrue, is_some, IsSomeAnd, Option, None, Some, option_map, unwrap_or, All, Contains, slice_get, bytes_eq, find}
+use Rattle.std.proofs.Common.{◌≡◌, ℕ, ◌+◌, true, false, List, [], length, reverse, refl, ap, sym, subst, ◌∙◌, inl, inr, ⊎_elim, arith}
+use Rattle.std.specs.Prelude.{◌⊎◌, nat_lt, nat_le, Bool, if◌then◌else◌, IsTrue, is_some, IsSomeAnd, Option, None, Some, option_map, unwrap_or, All, Contains, slice_get, bytes_eq, find}
 use Rattle.std.proofs.lemmas.Bool.{false≢true}
 use Rattle.std.proofs.lemmas.Option.{same_Some}
 use Rattle.std.proofs.lemmas.List.Elements.{All-append, All-weaker}
@@ -8,10 +8,9 @@ use Rattle.c_written.specs.declared.place.Pos.{Pos}
 use Rattle.c_written.specs.declared.int_type.IntType.TheVariants as ints
 use Rattle.c_written.specs.Written as written
 use Rattle.c_syntax.specs.declared.operator.StepTime.TheVariants as times
-use Rattle.c_syntax.specs.Types.{CTypeTree, Void, ObjectTree}
+use Rattle.c_syntax.specs.Types.{Void, ObjectTree}
 use Rattle.c_syntax.specs.TypedExpr.{TExprTree, TLvalueTree, Var, TExprTrees, none, more, texprs_then}
 use Rattle.c_syntax.specs.Program.{TFunctionTree}
-use Rattle.c_layout.specs.RowTypes.{is_declared_const, is_plain_text}
 use Rattle.c_layout.specs.ProperTypes.{IsProperType}
 use Rattle.c_layout.specs.TypedNodes.{Scope}
 use Rattle.c_typing.specs.World.{World, Form, Plain, Unsized, Callable, Meaning, Object, Missing, Parameter, TypeName, Enumeration, Binding, Refusal, ObjectTooLarge, TotalTooLarge, Outcome, Typed, Refused, Then, Is, unless}
@@ -19,10 +18,9 @@ use Rattle.c_typing.specs.World as world
 use Rattle.c_typing.specs.Names.{is_reserved, meaning_of, with_literal, literal_object, literal_type, object_limit, total_limit}
 use Rattle.c_typing.specs.Later.{IsLater}
 use Rattle.c_typing.specs.Formed.{IsFormedForm, IsFormedMeaning}
-use Rattle.c_typing.specs.Operands.{OperandTree, Place, operand_type, is_unsized}
+use Rattle.c_typing.specs.Operands.{OperandTree, Place, operand_type}
 use Rattle.c_typing.specs.Nodes as nodes
 use Rattle.c_typing.specs.Typing.{Types, TypesArgs, TypesSpecs, TypesSpec, TypesMembers, TypesMemberNames, TypesEnumerators, TypesDeclarator, TypesParams, Valued}
-use Rattle.c_typing.specs.Laws.{IsLastType, same, sized}
 use Rattle.c_typing.proofs.Changes.{Constants, MayName}
 use Rattle.c_typing.proofs.MadeTables.{complete_kept, get_last}
 use Rattle.c_typing.proofs.Later.{formed_later}
@@ -85,10 +83,10 @@ ends_before u v scope good r ends =
 usable_moved : {P : Meaning → Type 0} (w v : World) (scope : Scope) → IsStill P w v → (m : Meaning) → IsUsable w scope m → IsUsable v scope m
 usable_moved w v scope still (Object n) u = by (slice_get w.objects n) refl u
   where
-    by : (o : Option ObjectTree) → slice_get w.objects n ≡ o → IsSomeAnd o (λ x. (is_unsized x.ty ≡ false) × (IsTrue x.is_static ⊎ Contains scope.live n))
-        → IsSomeAnd (slice_get v.objects n) (λ x. (is_unsized x.ty ≡ false) × (IsTrue x.is_static ⊎ Contains scope.live n))
+    by : (o : Option ObjectTree) → slice_get w.objects n ≡ o → IsSomeAnd o (λ x. IsTrue x.is_static ⊎ Contains scope.live n)
+        → IsSomeAnd (slice_get v.objects n) (λ x. IsTrue x.is_static ⊎ Contains scope.live n)
     by None e h = absurd h
-    by (Some x) e h = subst (λ o. IsSomeAnd o (λ y. (is_unsized y.ty ≡ false) × (IsTrue y.is_static ⊎ Contains scope.live n))) (sym (still.objects n x e)) h
+    by (Some x) e h = subst (λ o. IsSomeAnd o (λ y. IsTrue y.is_static ⊎ Contains scope.live n)) (sym (still.objects n x e)) h
 usable_moved w v scope still (Missing ty c) u = u
 usable_moved w v scope still (Parameter k ty c) u = u
 usable_moved w v scope still (world.Function n) u = ap (λ functions. is_some (slice_get functions n)) still.functions ∙ u
@@ -159,31 +157,17 @@ value scope f = so_with f (λ x v r p k. is_with (λ good. typed_so (reaches.sta
 
 -- ---- names
 
-last_complete : {s t : CTypeTree} → IsLastType s t → is_unsized s ≡ false → t ≡ s
-last_complete (same ty) e = refl
-last_complete (sized of c n) e = absurd (false≢true (sym e))
-
 object_typed :
-    (w : World) (scope : Scope) (at : Pos) (n : ℕ) (x : ObjectTree) → EndsAs scope n x → (is_unsized x.ty ≡ false) × (IsTrue x.is_static ⊎ Contains scope.live n)
+    (scope : Scope) (at : Pos) (n : ℕ) (x : ObjectTree) → EndsAs scope n x → IsTrue x.is_static ⊎ Contains scope.live n
     → IsTypedLvalue scope (nodes.object_place at n x)
-object_typed w scope at n x ends h =
-    subst (IsTypedLvalue scope) place
-    (objects_are_typed scope at n ends.object ends.there ends.typed (⊎_elim (λ s. inl (ends.is_static ∙ s)) (λ l. inr l) h.1))
-  where
-    ty : ends.object.ty ≡ x.ty
-    ty = last_complete ends.ty h.0
-
-    const : is_declared_const ends.object ≡ is_declared_const x
-    const = ap (λ b. b && not (is_plain_text ends.object.ty)) ends.read_only ∙ ap (λ t. x.read_only && not (is_plain_text t)) ty
-
-    place : nodes.object_place at n ends.object ≡ nodes.object_place at n x
-    place = ap (λ t. Var at n t (is_declared_const ends.object)) ty ∙ ap (λ c. Var at n x.ty c) const
+object_typed scope at n x ends h =
+    objects_are_typed scope at n x ends.object ends.there ends.typed ends.ty ends.read_only (⊎_elim (λ s. inl (ends.is_static ∙ s)) (λ l. inr l) h)
 
 object_found :
     (w : World) (scope : Scope) (at : Pos) (n : ℕ) (o : Option ObjectTree) (place : TLvalueTree) → EndsFrom w scope → slice_get w.objects n ≡ o
-    → IsSomeAnd o (λ x. (is_unsized x.ty ≡ false) × (IsTrue x.is_static ⊎ Contains scope.live n)) → option_map (nodes.object_place at n) o ≡ Some place → IsTypedLvalue scope place
+    → IsSomeAnd o (λ x. IsTrue x.is_static ⊎ Contains scope.live n) → option_map (nodes.object_place at n) o ≡ Some place → IsTypedLvalue scope place
 object_found w scope at n None place ends e h r = absurd h
-object_found w scope at n (Some x) place ends e h r = subst (IsTypedLvalue scope) (same_Some (nodes.object_place at n x) place r) (object_typed w scope at n x (ends.objects n x e) h)
+object_found w scope at n (Some x) place ends e h r = subst (IsTypedLvalue scope) (same_Some (nodes.object_place at n x) place r) (object_typed scope at n x (ends.objects n x e) h)
 
 named_typed :
     (w v : World) (scope : Scope) (at : Pos) (m : Option Meaning) (y : OperandTree) → EndsFrom w scope
@@ -207,12 +191,6 @@ word_typed w v scope at name false r y good u ends p =
 
 -- ---- literals
 
-one_more : (n : ℕ) → suc n ≡ n + 1
-one_more n = omega arith
-
-sized_literal : (n : ℕ) → is_unsized (literal_type (n + 1)) ≡ false
-sized_literal n = subst (λ k. is_unsized (literal_type k) ≡ false) (one_more n) refl
-
 literal_last :
     (w v : World) (scope : Scope) (at : Pos) (bytes : List ℕ) (y : OperandTree) → EndsFrom v scope
     → Typed (Place (Var at (length w.objects) (literal_type (length bytes + 1)) false)) (with_literal w at bytes) ≡ Typed y v → IsTypedOperand scope y
@@ -221,7 +199,7 @@ literal_last w v scope at bytes y ends p =
     let world_is : with_literal w at bytes ≡ v = cc in
     let there : slice_get v.objects (length w.objects) ≡ Some (literal_object at (length bytes + 1)) = ap (λ x. slice_get x.objects (length w.objects)) (sym world_is) ∙ get_last w.objects (literal_object at (length bytes + 1)) in
     subst (IsTypedOperand scope) place
-    (object_typed v scope at (length w.objects) (literal_object at (length bytes + 1)) (ends.objects (length w.objects) _ there) (sized_literal (length bytes), inl refl))
+    (object_typed scope at (length w.objects) (literal_object at (length bytes + 1)) (ends.objects (length w.objects) _ there) (inl refl))
 
 literal_by :
     (w v : World) (scope : Scope) (at : Pos) (bytes : List ℕ) (large total : Bool) (r q : Refusal) (y : OperandTree) → EndsFrom v scope

@@ -1,5 +1,5 @@
 -- What expressions come to is typed, in the program at the end of the file.
-use Rattle.std.specs.Prelude.{◌≡◌, ◌⊎◌, ℕ, false, IsTrue, IsSome, IsSomeAnd, Some, List, All, Contains, slice_get}
+use Rattle.std.specs.Prelude.{◌≡◌, ◌⊎◌, ℕ, IsTrue, IsSome, IsSomeAnd, Some, List, All, Contains, slice_get}
 use Rattle.c_written.specs.Written.{ExprTree}
 use Rattle.c_written.specs.WrittenFile.{OuterTree}
 use Rattle.c_syntax.specs.Types.{ObjectTree}
@@ -10,7 +10,7 @@ use Rattle.c_layout.specs.WellTyped.{IsTypedObject}
 use Rattle.c_typing.specs.World.{World, Meaning, Object, Missing, Parameter, TypeName, Enumeration, Typed}
 use Rattle.c_typing.specs.World as world
 use Rattle.c_typing.specs.Later.{IsLater}
-use Rattle.c_typing.specs.Operands.{OperandTree, is_unsized}
+use Rattle.c_typing.specs.Operands.{OperandTree}
 use Rattle.c_typing.specs.Typing.{Types}
 use Rattle.c_typing.specs.Context.{Context}
 use Rattle.c_typing.specs.File.{TypesOuters, nothing_yet}
@@ -18,10 +18,10 @@ use Rattle.c_typing.specs.Laws.{IsLastType}
 use Rattle.c_typing_laws.specs.TypedValues.{IsTypedOperand}
 use Rattle.c_typing_laws.specs.NodeLaws.{IsCallable}
 
--- what a name stands for may be used where these objects live: an object that has its size and is static or lives, or a function that is there;
+-- what a name stands for may be used where these objects live: an object that is static or lives, or a function that is there;
 -- a parameter of a prototype may not
 abbrev pub IsUsable : World → Scope → Meaning → Type 0
-IsUsable w scope (Object n) = IsSomeAnd (slice_get w.objects n) (λ x. (is_unsized x.ty ≡ false) × (IsTrue x.is_static ⊎ Contains scope.live n))
+IsUsable w scope (Object n) = IsSomeAnd (slice_get w.objects n) (λ x. IsTrue x.is_static ⊎ Contains scope.live n)
 IsUsable w scope (Missing ty is_const) = Unit {0}
 IsUsable w scope (Parameter k ty is_const) = ⊥
 IsUsable w scope (world.Function n) = IsSome (slice_get w.functions n)

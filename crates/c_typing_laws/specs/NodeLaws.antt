@@ -19,6 +19,7 @@ use Rattle.c_typing.specs.Names.{meaning_of}
 use Rattle.c_typing.specs.Operands.{OperandTree, value_of}
 use Rattle.c_typing.specs.Nodes.{object_place, number, character, unary, binary, indexed, member, arrow, assigned, compound, stepped, conditional, sequenced, size_of, cast, result_of, params_of, called}
 use Rattle.c_typing.specs.Later.{IsLater}
+use Rattle.c_typing.specs.Laws.{IsLastType}
 use Rattle.c_typing_laws.specs.TypedValues.{IsTypedValue, IsTypedLvalue, IsTypedOperand, AreTypedValues}
 
 -- the value in a place (C11 6.3.2.1p2 and p3)
@@ -116,8 +117,9 @@ NumbersAreTyped = (w v : World) (scope : Scope) (at : Pos) (c : Constant) (y : O
 abbrev pub CharactersAreTyped : Type 0
 CharactersAreTyped = (w v : World) (scope : Scope) (at : Pos) (byte : ℕ) (y : OperandTree) → character w at byte ≡ Typed y v → IsTypedOperand scope y
 
--- an object by its name, and a literal, which is an object (C11 6.5.1p2 and p4)
+-- an object by its name, which may be an array whose size comes later, and a literal, which is an object (C11 6.5.1p2 and p4)
 abbrev pub ObjectsAreTyped : Type 0
 ObjectsAreTyped =
-    (scope : Scope) (at : Pos) (n : ℕ) (object : ObjectTree) → slice_get scope.program.objects n ≡ Some object → IsTypedObject scope.program.structs object
-    → IsTrue object.is_static ⊎ Contains scope.live n → IsTypedLvalue scope (object_place at n object)
+    (scope : Scope) (at : Pos) (n : ℕ) (x object : ObjectTree) → slice_get scope.program.objects n ≡ Some object → IsTypedObject scope.program.structs object
+    → IsLastType x.ty object.ty → object.read_only ≡ x.read_only
+    → IsTrue object.is_static ⊎ Contains scope.live n → IsTypedLvalue scope (object_place at n x)

@@ -14,7 +14,7 @@ use Rattle.c_layout.specs.RowTypes.{StoreRow, CopyRow, CompoundRow, StepRow}
 use Rattle.c_layout.specs.TypedNodes.{Scope}
 use Rattle.c_typing.specs.Rows.{binary_row, store_row, stored_row, Stored, Scalar, Copied, compound_row, CompoundTree, step_row}
 use Rattle.c_typing.specs.Later.{IsLater}
-use Rattle.c_typing_laws.specs.TypedValues.{IsTypedValue}
+use Rattle.c_typing_laws.specs.TypedValues.{IsTypedValue, last_expr}
 
 -- an operator between two values (C11 6.5.5 to 6.5.14)
 abbrev pub OperatorsAreTyped : Type 0
@@ -25,7 +25,7 @@ OperatorsAreTyped =
 -- a scalar that is stored as this type
 pub record IsStored (scope : Scope) (target : CTypeTree) (value : TExprTree) : Type 0 where
   pub typed : IsTypedValue scope value
-  pub row : StoreRow target (given_type value)
+  pub row : StoreRow target (given_type (last_expr scope value))
 
 -- a value that is stored as a scalar's type, as `=`, an argument, an initialiser and a `return` do (C11 6.5.16.1p1)
 abbrev pub ValuesAreStored : Type 0
@@ -36,7 +36,7 @@ ValuesAreStored =
 -- a scalar, or a struct that is copied whole
 abbrev pub IsPut : Scope → CTypeTree → Stored → Type 0
 IsPut scope target (Scalar value) = IsStored scope target value
-IsPut scope target (Copied extent source) = IsTypedValue scope source × CopyRow scope.program.structs extent target (given_type source)
+IsPut scope target (Copied extent source) = IsTypedValue scope source × CopyRow scope.program.structs extent target (given_type (last_expr scope source))
 
 abbrev pub ValuesArePut : Type 0
 ValuesArePut =
@@ -46,7 +46,7 @@ ValuesArePut =
 -- `op=` on what stands in a place of this type
 pub record IsChange (scope : Scope) (target : CTypeTree) (change : CompoundTree) : Type 0 where
   pub value : IsTypedValue scope change.value
-  pub row : CompoundRow scope.program.structs change.op target (given_type change.value)
+  pub row : CompoundRow scope.program.structs change.op target (given_type (last_expr scope change.value))
 
 -- `op=` (C11 6.5.16.2p1 and p2)
 abbrev pub ChangesAreTyped : Type 0

@@ -4,6 +4,9 @@
 //! goes on from that one. So each law speaks of typed operands in any program that goes on from the one in which the
 //! row was asked, and says that the node that the row gives is typed there too.
 //!
+//! What stands there is asked as it is settled at the end of the file: an array whose size came later has it wherever
+//! its name stands (`last_expr`). A value has its type from the first; a place may be an array that has no size yet.
+//!
 //! For example, `p + 1` of a pointer to a struct of eight bytes moves by eight. The struct was complete where the row was
 //! asked, and stays as it is, so the node still moves by the size of what `p` points to.
 //!

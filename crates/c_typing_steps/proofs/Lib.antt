@@ -1,0 +1,10 @@
+pub mod Outcomes
+pub mod NamesMade
+pub mod DeclsMade
+pub mod StmtsMade
+pub mod FileMade
+pub mod AllMade
+pub mod Calm
+pub mod Reached
+pub mod Steady
+pub mod Keeps

@@ -1,0 +1,5 @@
+pub mod NameSteps
+pub mod DeclSteps
+pub mod StmtSteps
+pub mod FileSteps
+pub mod StepLaws
