@@ -1,19 +1,19 @@
 -- That the operators leave no more open at classes than they may.
-use Rattle.std.proofs.Common.{◌≡◌, ℕ, zero, suc, ℤ, pos, negsuc, ◌+◌, ◌-◌, ◌*◌, ◌^◌, ◌<◌, ◌≤◌, ◌+ℤ◌, ◌-ℤ◌, ◌*ℤ◌, neg_ℤ, ◌≤ℤ◌, ◌<ℤ◌, ◌⊎◌, ⊎_elim, inl, inr, Some, arith, refl, sym, ◌∙◌, ap, subst, FitsSigned}
-use Rattle.std.proofs.lemmas.Int.{ints, by_lt_z}
+use Rattle.std.proofs.Common.{◌≡◌, ℕ, suc, ℤ, pos, negsuc, ◌+◌, ◌-◌, ◌^◌, ◌<◌, ◌≤◌, ◌+ℤ◌, ◌-ℤ◌, ◌*ℤ◌, neg_ℤ, ◌≤ℤ◌, ◌<ℤ◌, ⊎_elim, inr, Some, arith, refl, sym, ◌∙◌, ap, subst, FitsSigned}
+use Rattle.std.proofs.lemmas.Int.{ints}
 use Rattle.std.proofs.lemmas.Nat.{pow_pos, pow-add}
 use Rattle.std.proofs.Math.Nat.{pow-suc, pow-le-pow_right}
 use Rattle.std.proofs.lemmas.Bool.{cases_lt}
 use Rattle.ext_int.proofs.Products.{mul-le_pos}
-use Rattle.std.proofs.Math.IntN.{*ℤ_comm, *ℤ-zero, zero-*ℤ}
+use Rattle.std.proofs.Math.IntN.{*ℤ_comm, zero-*ℤ}
 use mir.Syntax.{w128}
 use Rattle.num_api.specs.declared.expr.NOp.{NOp}
 use Rattle.num_api.specs.declared.expr.NOp.TheVariants.{Neg, Not, Add, Sub, Mul, Quot, Rem, Shl, Shr, And, Or, Xor, Eq, Ne, Lt, Le}
 use Rattle.num_api.specs.declared.message.Residue.{Residue}
 use Rattle.num_api.specs.Residues.{class_of, InResidue, IsMultiple, IsFoldResidue}
 use Rattle.num_api.specs.Value.{binary_value, bits_of_both, bits_of_either, bits_of_one}
-use Rattle.num_api.proofs.Rings.{add_mul, mul_add, neg_mul, mul_neg, mul_assoc}
-use Rattle.num_api.proofs.Multiples.{multiple_along, multiple_add, multiple_sub, multiple_neg, multiple_times, times_multiple, multiple_trans, zero_multiple, self_multiple, off_from_in, in_from_off, in_itself}
+use Rattle.num_api.proofs.Rings.{mul_add, mul_neg, mul_assoc}
+use Rattle.num_api.proofs.Multiples.{multiple_along, multiple_add, multiple_sub, multiple_neg, multiple_times, multiple_trans, zero_multiple, off_from_in, in_from_off, in_itself}
 use Rattle.residues.specs.Classes.{IsClassOf, LiesIn, IsGreatestDivisor, IsProductBy}
 use Rattle.residues.specs.LowBits.{IsPowerDividing, IsCommonPower}
 use Rattle.residues.specs.ClassBounds.{HasStep, IsSmall, IsFactor, IsSize, IsGreatestPower, SumBounds, HasSmallProducts, ProductBounds, ShiftBounds, RestBounds, LowBounds, AndBounds, ClassBounds, NegationBounds, IsOther}
@@ -29,7 +29,7 @@ use Rattle.intervals.specs.Interval.{ends_of, greatest_end, class_between, class
 use Rattle.intervals.specs.Bits.{IsLogical}
 use Rattle.intervals.proofs.BitPoints.{value_fits}
 use Rattle.residues.specs.declared.class.Class.{Class}
-use Rattle.residues.proofs.Members.{in_class_of, fold_class_of}
+use Rattle.residues.proofs.Members.{fold_class_of}
 use Rattle.residues.proofs.Divisors.{divisor_positive, divisor_bound}
 use Rattle.residues.proofs.Steps.{divides_greatest, greatest_bound}
 use Rattle.residues.proofs.LowBits.{zero_left, zero_right}

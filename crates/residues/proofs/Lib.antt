@@ -10,3 +10,4 @@ pub mod Inward
 pub mod Pointed
 pub mod LowBits
 pub mod ClassBounds
+pub mod Keeping

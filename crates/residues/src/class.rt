@@ -80,7 +80,7 @@ impl Class {
 impl ValueDomain for Class {
     ghost use Rattle.residues.specs.Class.{residue_of, range_of_class, holds_class, class_weight};
     ghost use Rattle.num_api.specs.Residues.{InResidue};
-    ghost use Rattle.residues.specs.Classes.{IsJoin, LiesIn, Meets};
+    ghost use Rattle.residues.specs.Classes.{IsJoin, LiesIn, Meets, HaveCommon};
     ghost use Rattle.residues.specs.Laws.{in_range_of_class};
     ghost use Rattle.num_api.specs.Fold.{IsAlignment};
     ghost use Rattle.num_api.specs.Residues.{class_of, IsFoldResidue, IsMultiple};
@@ -160,11 +160,12 @@ impl ValueDomain for Class {
     }
 
     /// Exactly the numbers that are in both, where a class of them has a modulus of at most 2^100,
-    /// and else those of the first.
+    /// and else those of the first; `None` exactly where there is none.
     fn meet(&self, other: &Self) -> Option<Self>
         ensures some { IfSome result (λ c. (n : ℤ) → InResidue (residue_of self.now) n → InResidue (residue_of other.now) n → InResidue (residue_of c) n) }
         ensures none { IfNone result ((n : ℤ) → InResidue (residue_of self.now) n → InResidue (residue_of other.now) n → ⊥) }
         ensures meets { IfSome result (λ c. Meets (residue_of self.now) (residue_of other.now) (residue_of c)) }
+        ensures common { IfSome result (λ _. HaveCommon (residue_of self.now) (residue_of other.now)) }
     {
         met(*self, *other)
     }
