@@ -1,7 +1,8 @@
 -- The bounds of the operators on bits at two numbers.
-use Rattle.std.proofs.Common.{◌≡◌, ℕ, ℤ, pos, negsuc, ◌^◌, ◌<◌, ◌≤◌, Some, arith, subst, bit_and, bit_or, bit_xor}
+use Rattle.std.proofs.Common.{◌≡◌, ℕ, ℤ, pos, negsuc, ◌^◌, ◌<◌, ◌≤◌, Some, arith, subst, FitsSigned, bit_and, bit_or, bit_xor}
 use Rattle.std.proofs.lemmas.Int.{ints}
 use Rattle.std.proofs.lemmas.Nat.{and_le_l, and_le_r, or_lt, le_or_l, le_or_r, xor_lt, pow_pos}
+use mir.Syntax.{w128}
 use Rattle.ext_int.specs.declared.Ext.TheVariants.{Fin}
 use Rattle.num_api.specs.declared.expr.NOp.{NOp}
 use Rattle.num_api.specs.declared.expr.NOp.TheVariants.{Shl, Shr, And, Or, Xor}
@@ -140,3 +141,19 @@ value_bounds Xor l a b r x y n p q e at_r = point_bounds Xor tt a b r x y n p q 
 value_bounds Shl l a b r x y n p q e at_r = shl_point a b r x y n (has_number a x p) (has_number b y q) e at_r
 value_bounds Shr l a b r x y n p q e at_r = shr_point a b r x y n (has_number a x p) (has_number b y q) e at_r
 value_bounds op l a b r x y n p q e at_r = absurd l
+
+-- the bits of two i128 numbers are one
+pub value_fits : (op : NOp) → IsLogical op → (x y n : ℤ) → FitsSigned w128 x → FitsSigned w128 y → binary_value op x y ≡ Some n → FitsSigned w128 n
+value_fits op l x y n f g e = from op l (points op l x y n e)
+  where
+    bits : (z : ℤ) → FitsSigned w128 z → HasBits 127 (at z)
+    bits z f = record { low = omega (arith, ints); high = omega (arith, ints) }
+
+    fits : (z : ℤ) → HasBits 127 (at z) → FitsSigned w128 z
+    fits z h = let low = h.low in let high = h.high in omega (arith, ints)
+
+    from : (op : NOp) → IsLogical op → BitBounds op (at x) (at y) (at n) → FitsSigned w128 n
+    from And l b = fits n (b.bits 127 (bits x f) (bits y g))
+    from Or l b = fits n (b.bits 127 (bits x f) (bits y g))
+    from Xor l b = fits n (b.bits 127 (bits x f) (bits y g))
+    from op l b = absurd l

@@ -27,3 +27,9 @@ returns-in-None-clause-plain g c = λ t. inward_no_wider _ _ c.tightened.ensures
 
 pub returns-in-None-clause-point : goal.returns-in-None-clause-point
 returns-in-None-clause-point g c = λ x t p. inward_point _ _ x c.tightened.ensures.proper.not_negative p
+
+pub returns-in-Some-clause-keeps : goal.returns-in-Some-clause-keeps
+returns-in-Some-clause-keeps g c = λ t. c.pointed.ensures.keeps (c.in-Some.ensures.keeps t)
+
+pub returns-in-None-clause-keeps : goal.returns-in-None-clause-keeps
+returns-in-None-clause-keeps g c = λ t. c.in-None.ensures.loose t
