@@ -38,6 +38,8 @@ use Rattle.c_block_laws.specs.JumpLaws.{HasItsLabels}
 use Rattle.c_block_laws.proofs.Autos.{count, auto, count_append, auto_parameters}
 use Rattle.c_block_laws.proofs.Grows.{IsDeclared, params_in, Grows, no_lists, number_of, init_objects, decl_grows, items_grow, grows_as, grows_then, grows_calm}
 use Rattle.c_block_laws.proofs.Jumps.{Jumps, body_jumps, block_jumps, items_jumps}
+use Rattle.c_typing_steps.proofs.Scalars.{ScalarNames}
+use Rattle.c_typing_steps.proofs.FileKeeps.{head_scalar, body_scalar, outer_scalar}
 use Rattle.c_block_laws.proofs.Linking.{OfFunction, AreLinked, IsLinking, function_linked, linking_kept}
 use Rattle.c_typing_steps.proofs.Keeps.{items_keep, decl_keeps}
 use Rattle.c_typing_steps.proofs.Reached.{good_by, head_facts, outer_reach}
@@ -92,14 +94,14 @@ no_name :
     → around.in_block ≡ false → MakesName around w storage steps base has_init named what v → number_of what ≡ []
 no_name b (type_name form e) = refl
 no_name b reserved = refl
-no_name b (first_function types result e n) = refl
+no_name b (first_function types result r e n) = refl
 no_name b (function_again types result l n so) = refl
 no_name b (local ty c s size inside e h) = absurd (false≢true (sym b ∙ inside))
 no_name b (local_open of c s inside e h) = absurd (false≢true (sym b ∙ inside))
-no_name b (first_object form ty c m size total e is n h s) = ap (λ x. if x then [] else []) b
-no_name b (first_missing ty c total h) = refl
+no_name b (first_object form ty c m size total r e is n h s) = ap (λ x. if x then [] else []) b
+no_name b (first_missing ty c total r n h) = refl
 no_name b (object_again form ty c m l n size total e is k q a s) = ap (λ x. if x then [] else []) b
-no_name b (missing_again ty before c size total d) = refl
+no_name b (missing_again ty before c l size total d k q) = refl
 
 nothing_listed :
     {around : Context} {first : Pos} {storage : List StorageWord} {base : Form} {w v : World} {done made : Made} {items : List InitDeclaratorTree}
@@ -232,7 +234,7 @@ same_at names w v f o at = record {
 pub head_is :
     {around : Context} {w v : World} {named : DeclaredName} {params : List ParameterTree} {types : List CTypeTree} {result : CTypeTree} {n : ℕ}
     → has_name around.functions named.name ≡ true → AtFile around.functions w → IsLinking w → MakesFunction around w named params types result true (Some n) v → HeadIs around.functions named v n
-head_is {around = around} {w = w} {named = named} {params = params} {types = types} {result = result} h at all (new_name e) =
+head_is {around = around} {w = w} {named = named} {params = params} {types = types} {result = result} h at all (new_name r e) =
     new_at around.functions w named (has_name around.functions named.name) params types result h h at all
 head_is {around = around} {w = w} {named = named} {types = types} {result = result} h at all (known_name l e so) =
     record {
@@ -329,9 +331,10 @@ outside_of v total params n named =
 pub body_ends :
     (around : Context) (named : DeclaredName) (result : CTypeTree) (n total first : ℕ) (bindings : List Binding) (tags : List TagBinding) (params : List ParameterTree) (body : BlockItemTrees) (made : Made)
     (brace : Pos) (v z : World) → HeadIs around.functions named v n → Good (in_body (outside_of v total params n named) first bindings tags)
+    → ScalarNames (in_body (outside_of v total params n named) first bindings tags)
     → MakesItems (in_body (outside_of v total params n named) first bindings tags) (in_function result body around) nothing_made body made z
     → EndsSo around.functions (definition_ends (record { number = n; result = result; outside = outside_of v total params n named }) brace made z)
-body_ends around named result n total first bindings tags params body made brace v z h good i =
+body_ends around named result n total first bindings tags params body made brace v z h good scalar i =
     let numbers = numbers_from (length v.objects) (length params) in
     let block = Block brace kinds.Written made.objects made.items in
     let f = h.there.function in
@@ -344,8 +347,8 @@ body_ends around named result n total first bindings tags params body made brace
     let there : slice_get z.functions n ≡ Some g1 = ap (λ fs. slice_get fs n) z_is ∙ get_append (set v.functions n g1) g.new n g1 (get_set v.functions n f g1 h.there.there) in
     let last : unwrap_or (option_map (λ x. set z.functions n (with_body block x)) (slice_get z.functions n)) z.functions ≡ set v.functions n g2 ++ g.new =
     ap (λ fs. unwrap_or (option_map (λ x. set fs n (with_body block x)) (slice_get fs n)) fs) z_is ∙ ended_functions v.functions g.new n f g1 (with_body block) h.there.there in
-    let linked = items_keep (linking_kept around.functions around.objects) refl refl good i
-    (subst (λ fs. AreLinked fs v.linked) (sym set_at) (linked_set v.functions n f g1 v.linked h.there.there refl h.linking)) in
+    let linked = (items_keep (linking_kept around.functions around.objects) refl refl good i
+    (record { names = scalar; has = subst (λ fs. AreLinked fs v.linked) (sym set_at) (linked_set v.functions n f g1 v.linked h.there.there refl h.linking) })).has in
     let jumps = items_jumps good i in record {
       at = function_ends v _ n f g2 g.new h.at h.there.there h.there.params h.there.bare last g.declared
           (λ o.
@@ -362,31 +365,32 @@ body_ends around named result n total first bindings tags params body made brace
 
 definition_at :
     {around : Context} {x y z : World} {steps : List Step} {base : Form} {named : DeclaredName} {begun : Begun} {body : BlockItemTrees} {made : Made} (brace : Pos)
-    → Good y → AtFile around.functions x → IsLinking x → has_name around.functions named.name ≡ true → MakesHead around x steps base named begun y
+    → Good y → ScalarNames y → AtFile around.functions x → IsLinking x → has_name around.functions named.name ≡ true → MakesHead around x steps base named begun y
     → MakesItems y (in_function begun.result body around) nothing_made body made z → EndsSo around.functions (definition_ends begun brace made z)
-definition_at {around} {x} {y} {z} {steps} {base} {named} {begun} {body} {made} brace good at all h
+definition_at {around} {x} {y} {z} {steps} {base} {named} {begun} {body} {made} brace good scalar at all h
     (head {params = params} {names = bindings} {tags = tags} {result = result} {n = n} {v = v} s e f (counted {total = total})) i =
-    body_ends around named result n total (length v.objects) bindings tags params body made brace v z (head_is h at all f) good i
+    body_ends around named result n total (length v.objects) bindings tags params body made brace v z (head_is h at all f) good scalar i
 
 -- ---- the file
 
 outer_at :
-    {w v : World} {around : Context} {tree : OuterTree} → around.in_block ≡ false → All (λ name. has_name around.functions name ≡ true) (functions_defined_by tree) → Good w
+    {w v : World} {around : Context} {tree : OuterTree} → around.in_block ≡ false → All (λ name. has_name around.functions name ≡ true) (functions_defined_by tree) → Good w → ScalarNames w
     → AtFile around.functions w → IsLinking w → MakesOuter w around tree v → EndsSo around.functions v
-outer_at {around = around} b covers good at all (outers.declares d) =
-    record { at = decl_at b good at d; linking = decl_keeps (linking_kept around.functions around.objects) refl refl good d all }
-outer_at {w = w} {around = around} b covers good at all (outers.defines {brace = brace} {declarator = declarator} {shape = shape} {named = named} {u = u} {x = x} t n h i) =
+outer_at {around = around} b covers good scalar at all (outers.declares d) =
+    record { at = decl_at b good at d; linking = (decl_keeps (linking_kept around.functions around.objects) refl refl good d (record { names = scalar; has = all })).has }
+outer_at {w = w} {around = around} b covers good scalar at all (outers.defines {brace = brace} {declarator = declarator} {shape = shape} {named = named} {u = u} {x = x} t n h i) =
     let facts = head_facts good t in
     let k = linking_kept around.functions around.objects in
     let name : name_in declarator ≡ Some named.name = sym (named_is u x declarator shape t.declarator_is) ∙ ap (option_map (λ m. m.name)) n in
-    definition_at brace facts.scope
+    let scalars = head_scalar good scalar t in
+    definition_at brace facts.scope (body_scalar scalars.names scalars.steps h)
     (after_grows at (grows_as (λ o. omega arith) (grows_then (grows_calm around.functions w u facts.calm) (grows_calm around.functions u x facts.behind))))
     (k.calm u x facts.good facts.behind (k.calm w u good facts.calm all))
     (All-head (λ m. has_name around.functions m ≡ true) named.name [] (subst (λ o. All (λ m. has_name around.functions m ≡ true) (to_names o)) name covers)) h i
 
 pub outers_at :
-    {around : Context} {w v : World} {list : List OuterTree} → around.in_block ≡ false → Covers around.functions list → Good w
+    {around : Context} {w v : World} {list : List OuterTree} → around.in_block ≡ false → Covers around.functions list → Good w → ScalarNames w
     → AtFile around.functions w → IsLinking w → MakesOuters around w list v → EndsSo around.functions v
-outers_at b covers good at all no_more = record { at = at; linking = all }
-outers_at b covers good at all (and_then p q) =
-    let one = outer_at b covers.0 good at all p in outers_at b covers.1 (good_by good (outer_reach good p)) one.at one.linking q
+outers_at b covers good scalar at all no_more = record { at = at; linking = all }
+outers_at b covers good scalar at all (and_then p q) =
+    let one = outer_at b covers.0 good scalar at all p in outers_at b covers.1 (good_by good (outer_reach good p)) (outer_scalar good scalar p) one.at one.linking q

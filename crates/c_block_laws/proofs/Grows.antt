@@ -147,16 +147,16 @@ pub name_grows :
     → MakesName around w storage steps base has_init named what v → Grows around.functions w v (λ o. count o (number_of what))
 name_grows {around = around} {w = w} (type_name form e) = grows_same around.functions w _ refl (λ o. refl)
 name_grows {around = around} {w = w} reserved = grows_same around.functions w _ refl (λ o. refl)
-name_grows {around = around} {w = w} {named = named} (first_function types result e n) = function_grows around w named (has_name around.functions named.name) _ types result refl
+name_grows {around = around} {w = w} {named = named} (first_function types result r e n) = function_grows around w named (has_name around.functions named.name) _ types result refl
 name_grows {around = around} {w = w} (function_again types result l n so) = grows_same around.functions w _ refl (λ o. refl)
 name_grows {around = around} {w = w} {named = named} (local ty c s size b e h) = local_grows around w named ty c s size
 name_grows {around = around} {w = w} {named = named} (local_open of c s b e h) = local_grows around w named _ false s 0
-name_grows {around = around} {w = w} {named = named} (first_object form ty c m size total e is n h s) =
+name_grows {around = around} {w = w} {named = named} (first_object form ty c m size total r e is n h s) =
     grows_as (λ o. ap (count o) (sym (if_none around.in_block))) (grows_same around.functions w _ refl (λ o. auto_static w.objects (decls.object_of named ty c size true) o refl))
-name_grows {around = around} {w = w} (first_missing ty c total h) = grows_same around.functions w _ refl (λ o. refl)
+name_grows {around = around} {w = w} (first_missing ty c total r n h) = grows_same around.functions w _ refl (λ o. refl)
 name_grows {around = around} {w = w} (object_again form ty c m l n size total e is k q a s) =
     grows_as (λ o. ap (count o) (sym (if_none around.in_block))) (grows_same around.functions w _ refl (λ o. auto_sized w n _ size o))
-name_grows {around = around} {w = w} (missing_again ty before c size total d) = grows_same around.functions w _ refl (λ o. refl)
+name_grows {around = around} {w = w} (missing_again ty before c l size total d k q) = grows_same around.functions w _ refl (λ o. refl)
 
 -- ---- declarations
 

@@ -98,14 +98,14 @@ name_linked :
     → MakesName around w storage steps base has_init named what v → IsLinking w → IsLinking v
 name_linked (type_name form e) all = all
 name_linked reserved all = all
-name_linked {around = around} {w = w} {named = named} (first_function types result e n) all = function_linked w named (has_name around.functions named.name) _ types result all
+name_linked {around = around} {w = w} {named = named} (first_function types result r e n) all = function_linked w named (has_name around.functions named.name) _ types result all
 name_linked (function_again types result l n so) all = all
 name_linked (local ty c s size b e h) all = all
 name_linked (local_open of c s b e h) all = all
-name_linked {w = w} (first_object form ty c m size total e is n h s) all = with_one w _ tt all
-name_linked {w = w} (first_missing ty c total h) all = with_one w _ tt all
+name_linked {w = w} (first_object form ty c m size total r e is n h s) all = with_one w _ tt all
+name_linked {w = w} (first_missing ty c total r n h) all = with_one w _ tt all
 name_linked {w = w} {named = named} (object_again form ty c m l n size total e is k q a s) all = defined_linked w named.name _ all
-name_linked {w = w} {named = named} (missing_again ty before c size total d) all =
+name_linked {w = w} {named = named} (missing_again ty before c l size total d k q) all =
     defined_linked (record w { linked = map (decls.missing_if named.name ty c) w.linked }) named.name d (missing_linked w named.name ty c all)
 
 size_linked : {w v : World} {object : ObjectNow} {by : Initialised} {ty : CTypeTree} → MakesSize w object by ty v → IsLinking w → IsLinking v
@@ -131,7 +131,6 @@ init_linked {w = w} good (given {u = u} {v = v} {object = object} {init = init} 
 pub linking_kept : (functions objects : List (List ℕ)) → IsKept functions objects IsLinking
 linking_kept functions objects = record {
   calm = λ w v good r all. calm_linked w v r all;
-  named = λ around w v storage steps base has_init named what f o good s b n all. name_linked n all;
-  begun = λ w v what init made good is m all. init_linked good m all;
+  declared = λ around w v x storage steps base has_init named what init made f o good s b t z n good2 is m all. init_linked good2 m (name_linked n all);
   moved = λ w v same all. same_linked w v same.functions same.linked all;
 }

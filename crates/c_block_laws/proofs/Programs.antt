@@ -20,6 +20,7 @@ use Rattle.c_typing_steps.proofs.FileMade.{outers_as}
 use Rattle.c_block_laws.specs.JumpLaws.{HasItsLabels, LabelsAreThere}
 use Rattle.c_block_laws.specs.ListLaws.{HasItsLists, ObjectsAreListed}
 use Rattle.c_block_laws.proofs.Autos.{count, auto}
+use Rattle.c_typing_steps.proofs.Scalars.{IsScalarMeaning}
 use Rattle.c_block_laws.proofs.Covers.{covers_all}
 use Rattle.c_block_laws.proofs.Settling.{labels_settled, gotos_settled, listed_settled}
 use Rattle.c_block_laws.proofs.Linking.{OfFunction}
@@ -50,7 +51,7 @@ nothing_at names = record {
 -- the world at the end of a file
 at_end : (file : FileTree) (w : World) → TypesOuters nothing_yet (file_context file) file.outers (Typed tt w) → AtFile (file_context file).functions w
 at_end file w t =
-    (outers_at refl (covers_all file.outers) nothing_good (nothing_at (file_context file).functions) (All-nil (λ l. OfFunction [] l.name l.meaning))
+    (outers_at refl (covers_all file.outers) nothing_good (All-nil (λ b. IsScalarMeaning b.meaning)) (nothing_at (file_context file).functions) (All-nil (λ l. OfFunction [] l.name l.meaning))
     (typed_from (outers_as nothing_yet (file_context file) file.outers (Typed tt w) t))).at
 
 -- ---- labels

@@ -8,3 +8,5 @@ pub mod Calm
 pub mod Reached
 pub mod Steady
 pub mod Keeps
+pub mod Scalars
+pub mod FileKeeps

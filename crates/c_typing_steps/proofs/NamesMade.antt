@@ -103,10 +103,10 @@ main_as named is_so p = as_unless (decls.is_named_main named.name && not is_so) 
 
 again_as :
     (around : Context) (w : World) (named : DeclaredName) (params : List ParameterTree) (types : List CTypeTree) (result : CTypeTree) (has_body : Bool) (l : Option Linked)
-    → names.linked_as w named.name ≡ l → Agreed (decls.is_function_so w types result has_body) l
+    → names.is_reserved named.name ≡ false → names.linked_as w named.name ≡ l → Agreed (decls.is_function_so w types result has_body) l
     → TypedAs (MakesFunction around w named params types result has_body) (decls.function_again w around named params types result l)
-again_as around w named params types result has_body None e a = typed_as (new_name e)
-again_as around w named params types result has_body (Some l) e a = typed_as (known_name l e a)
+again_as around w named params types result has_body None r e a = typed_as (new_name r e)
+again_as around w named params types result has_body (Some l) r e a = typed_as (known_name l e a)
 
 pub function_as :
     (around : Context) (w : World) (named : DeclaredName) (params : List ParameterTree) (types : List CTypeTree) (result : CTypeTree) (has_body : Bool)
@@ -116,7 +116,7 @@ function_as around w named params types result has_body =
     (λ r. as_if (decls.is_input_type types result (names.input_type named.name) && not has_body)
     (λ e. typed_as (reserved_function (no_body has_body (and_parts (decls.is_input_type types result (names.input_type named.name)) (not has_body) e).1))) (λ e. refused_as))
     (λ r. other_as named.pos (decls.binding_here w named.name) (names.linked_as w named.name) (decls.is_function_so w types result has_body) _
-    (λ l e a. main_as named (decls.is_main_shape types result) (again_as around w named params types result has_body l e a)))
+    (λ l e a. main_as named (decls.is_main_shape types result) (again_as around w named params types result has_body l r e a)))
   where
     no_body : (b : Bool) → not b ≡ true → b ≡ false
     no_body true e = absurd (false≢true e)
@@ -129,7 +129,7 @@ prototype :
     → TypedAs (MakesFunction around w named (decls.parameters_of steps types named.pos) types result false) o
     → TypedAs (MakesName around w storage steps base has_init named) (decls.no_object o)
 prototype _ e (typed_as (reserved_function b)) = typed_as reserved
-prototype _ e (typed_as (new_name n)) = typed_as (first_function _ _ e n)
+prototype _ e (typed_as (new_name r n)) = typed_as (first_function _ _ r e n)
 prototype _ e (typed_as (known_name l n so)) = typed_as (function_again _ _ l n so)
 prototype _ e refused_as = refused_as
 
@@ -155,14 +155,14 @@ local_as (Callable params result) is_static has_init b e = refused_as
 
 first_as :
     {around : Context} {w : World} {storage : List StorageWord} {steps : List Step} {base : Form} {has_init : Bool} {named : DeclaredName}
-    (form : Form) (ty : CTypeTree) (c measured there : Bool) (size total : ℕ) → laid w named.pos steps base ≡ Typed form w → IsObjectForm w ty c form
+    (form : Form) (ty : CTypeTree) (c measured there : Bool) (size total : ℕ) → names.is_reserved named.name ≡ false → laid w named.pos steps base ≡ Typed form w → IsObjectForm w ty c form
     → names.linked_as w named.name ≡ None → has_name around.objects named.name ≡ there → IsFileSize w ty (file_object_of around storage named.name has_init) size measured
     → TypedAs (MakesName around w storage steps base has_init named)
     (Typed (decls.declares (if there then Some (length w.objects) else None) (decls.file_now named ty (file_object_of around storage named.name has_init) measured))
     (if there then decls.with_linked (decls.with_object (with_sum w total) (decls.object_of named ty c size true)) named (Object (length w.objects)) (file_object_of around storage named.name has_init).defines
     else decls.with_linked (with_sum w total) named (Missing ty c) false))
-first_as form ty c measured true size total e is n h s = typed_as (first_object form ty c measured size total e is n h s)
-first_as form ty c measured false size total e is n h s = typed_as (first_missing ty c total h)
+first_as form ty c measured true size total r e is n h s = typed_as (first_object form ty c measured size total r e is n h s)
+first_as form ty c measured false size total r e is n h s = typed_as (first_missing ty c total r n h)
 
 again_by :
     {around : Context} {w : World} {storage : List StorageWord} {steps : List Step} {base : Form} {has_init : Bool} {named : DeclaredName}
@@ -175,7 +175,7 @@ again_by :
     (file_object_of around storage named.name has_init).defines))
 again_by form ty c measured l (Object n) size total e is k q a s = typed_as (object_again form ty c measured l n size total e is k q a s)
 again_by {around = around} {w = w} {storage = storage} {has_init = has_init} {named = named} form ty c measured l (Missing t d) size total e is k q a s =
-    typed_as (missing_again (decls.composite_type w ty (Some l)) t d size total (file_object_of around storage named.name has_init).defines)
+    typed_as (missing_again (decls.composite_type w ty (Some l)) t d l size total (file_object_of around storage named.name has_init).defines k q)
 again_by form ty c measured l (Parameter i t d) size total e is k q a s = absurd (false≢true a)
 again_by form ty c measured l (Function n) size total e is k q a s = absurd (false≢true a)
 again_by form ty c measured l (TypeName f) size total e is k q a s = absurd (false≢true a)
@@ -184,15 +184,15 @@ again_by form ty c measured l (Enumeration n) size total e is k q a s = absurd (
 -- with its size, in the program so far
 placed :
     {around : Context} {w : World} {storage : List StorageWord} {steps : List Step} {base : Form} {has_init : Bool} {named : DeclaredName}
-    (form : Form) (ty : CTypeTree) (c measured : Bool) (l : Option Linked) (size total : ℕ) → laid w named.pos steps base ≡ Typed form w → IsObjectForm w ty c form
+    (form : Form) (ty : CTypeTree) (c measured : Bool) (l : Option Linked) (size total : ℕ) → names.is_reserved named.name ≡ false → laid w named.pos steps base ≡ Typed form w → IsObjectForm w ty c form
     → names.linked_as w named.name ≡ l → Agreed (decls.is_object_again w ty c has_init) l
     → IsFileSize w (decls.composite_type w ty l) (file_object_of around storage named.name has_init) size measured
     → TypedAs (MakesName around w storage steps base has_init named)
     (Typed (decls.declares (decls.object_number w (file_object_of around storage named.name has_init) l)
     (decls.file_now named (decls.composite_type w ty l) (file_object_of around storage named.name has_init) measured))
     (decls.object_world (with_sum w total) named (decls.composite_type w ty l) c size (file_object_of around storage named.name has_init) l))
-placed {around = around} {named = named} form ty c measured None size total e is k a s = first_as form ty c measured (has_name around.objects named.name) size total e is k refl s
-placed form ty c measured (Some l) size total e is k a s = again_by form ty c measured l l.meaning size total e is k refl a s
+placed {around = around} {named = named} form ty c measured None size total r e is k a s = first_as form ty c measured (has_name around.objects named.name) size total r e is k refl s
+placed form ty c measured (Some l) size total r e is k a s = again_by form ty c measured l l.meaning size total e is k refl a s
 
 counted_as :
     {A : Type 0} {P : A → World → Type 0} (w : World) (at : Pos) (size : ℕ) (how : FileObject) (l : Option Linked) (outcome : World → Outcome A)
@@ -222,32 +222,32 @@ open_const w _ c _ (open_array of d) h e = refl
 -- an array that has no size by any declaration so far
 unsized_as :
     {around : Context} {w : World} {storage : List StorageWord} {steps : List Step} {base : Form} {has_init : Bool} {named : DeclaredName}
-    (form : Form) (ty : CTypeTree) (c : Bool) (l : Option Linked) → laid w named.pos steps base ≡ Typed form w → IsObjectForm w ty c form → IsComplete w form
+    (form : Form) (ty : CTypeTree) (c : Bool) (l : Option Linked) → names.is_reserved named.name ≡ false → laid w named.pos steps base ≡ Typed form w → IsObjectForm w ty c form → IsComplete w form
     → names.linked_as w named.name ≡ l → Agreed (decls.is_object_again w ty c has_init) l → is_unsized (decls.composite_type w ty l) ≡ true
     → TypedAs (MakesName around w storage steps base has_init named)
     (decls.file_unsized w named (decls.composite_type w ty l) (file_object_of around storage named.name has_init) l)
-unsized_as {around = around} {w = w} {storage = storage} {has_init = has_init} {named = named} form ty c None e is h k a u =
+unsized_as {around = around} {w = w} {storage = storage} {has_init = has_init} {named = named} form ty c None r e is h k a u =
     let how = file_object_of around storage named.name has_init in
     as_unless (how.defines && not how.has_init) (NotConstant named.pos) (λ d. main_as named false
-    (placed form ty false has_init None 0 w.total e (subst (λ b. IsObjectForm w ty b form) (open_const w ty c form is h u) is) k tt (not_told u d)))
-unsized_as {around = around} {w = w} {storage = storage} {has_init = has_init} {named = named} form ty c (Some l) e is h k a u =
+    (placed form ty false has_init None 0 w.total r e (subst (λ b. IsObjectForm w ty b form) (open_const w ty c form is h u) is) k tt (not_told u d)))
+unsized_as {around = around} {w = w} {storage = storage} {has_init = has_init} {named = named} form ty c (Some l) r e is h k a u =
     let how = file_object_of around storage named.name has_init in
     as_unless (how.defines && not how.has_init) (NotConstant named.pos) (λ d. main_as named false
-    (placed form ty c has_init (Some l) 0 w.total e is k a (not_told u d)))
+    (placed form ty c has_init (Some l) 0 w.total r e is k a (not_told u d)))
 
 sized_as :
     {around : Context} {w : World} {storage : List StorageWord} {steps : List Step} {base : Form} {has_init : Bool} {named : DeclaredName}
-    (form : Form) (ty : CTypeTree) (c : Bool) (l : Option Linked) → laid w named.pos steps base ≡ Typed form w → IsObjectForm w ty c form
+    (form : Form) (ty : CTypeTree) (c : Bool) (l : Option Linked) → names.is_reserved named.name ≡ false → laid w named.pos steps base ≡ Typed form w → IsObjectForm w ty c form
     → names.linked_as w named.name ≡ l → Agreed (decls.is_object_again w ty c has_init) l → is_unsized (decls.composite_type w ty l) ≡ false
     → TypedAs (MakesName around w storage steps base has_init named)
     (decls.file_sized w named (decls.composite_type w ty l) c (file_object_of around storage named.name has_init) l)
-sized_as {around = around} {w = w} {storage = storage} {has_init = has_init} {named = named} form ty c l e is k a u =
+sized_as {around = around} {w = w} {storage = storage} {has_init = has_init} {named = named} form ty c l r e is k a u =
     as_size _ _ (complete_size w.structs (decls.composite_type w ty l)) (λ size s.
     counted_as w named.pos size (file_object_of around storage named.name has_init) l
     (λ v. decls.unless_main_shape named false (Typed (decls.declares (decls.object_number w (file_object_of around storage named.name has_init) l)
     (decls.file_now named (decls.composite_type w ty l) (file_object_of around storage named.name has_init) false))
     (decls.object_world v named (decls.composite_type w ty l) c size (file_object_of around storage named.name has_init) l))) (λ total. main_as named false
-    (placed form ty c false l size total e is k a (told u s))))
+    (placed form ty c false l size total r e is k a (told u s))))
 
 file_as :
     {around : Context} {w : World} {storage : List StorageWord} {steps : List Step} {base : Form} {has_init : Bool} {named : DeclaredName}
@@ -258,7 +258,7 @@ file_as {around = around} {w = w} {storage = storage} {has_init = has_init} {nam
     as_unless (how.in_block && how.has_init) (no_rule w named.pos ops.Init ty None) (λ d.
     as_if (names.is_reserved named.name) (λ r. refused_as) (λ r.
     other_as named.pos (decls.binding_here w named.name) (names.linked_as w named.name) (decls.is_object_again w ty c has_init) _ (λ l k a.
-    as_if (is_unsized (decls.composite_type w ty l)) (λ u. unsized_as form ty c l e is h k a u) (λ u. sized_as form ty c l e is k a u))))
+    as_if (is_unsized (decls.composite_type w ty l)) (λ u. unsized_as form ty c l r e is h k a u) (λ u. sized_as form ty c l r e is k a u))))
 
 form_as :
     {around : Context} {w : World} {storage : List StorageWord} {steps : List Step} {base : Form} {has_init : Bool} {named : DeclaredName} (form : Form)

@@ -51,14 +51,14 @@ pub name_steady :
     → MakesName around w storage steps base has_init named what v → Steady w v
 name_steady (type_name form e) = record { labels = refl; cases = refl; default = refl }
 name_steady reserved = record { labels = refl; cases = refl; default = refl }
-name_steady {around = around} {w = w} {named = named} (first_function types result e n) = function_steady w named (has_name around.functions named.name) _ types result
+name_steady {around = around} {w = w} {named = named} (first_function types result r e n) = function_steady w named (has_name around.functions named.name) _ types result
 name_steady (function_again types result l n so) = record { labels = refl; cases = refl; default = refl }
 name_steady (local ty c s size b e h) = record { labels = refl; cases = refl; default = refl }
 name_steady (local_open of c s b e h) = record { labels = refl; cases = refl; default = refl }
-name_steady (first_object form ty c m size total e is n h s) = record { labels = refl; cases = refl; default = refl }
-name_steady (first_missing ty c total h) = record { labels = refl; cases = refl; default = refl }
+name_steady (first_object form ty c m size total r e is n h s) = record { labels = refl; cases = refl; default = refl }
+name_steady (first_missing ty c total r n h) = record { labels = refl; cases = refl; default = refl }
 name_steady (object_again form ty c m l n size total e is k q a s) = record { labels = refl; cases = refl; default = refl }
-name_steady (missing_again ty before c size total d) = record { labels = refl; cases = refl; default = refl }
+name_steady (missing_again ty before c l size total d k q) = record { labels = refl; cases = refl; default = refl }
 
 size_steady : {w v : World} {object : ObjectNow} {by : Initialised} {ty : CTypeTree} → MakesSize w object by ty v → Steady w v
 size_steady (as_it_was m) = still

@@ -3,7 +3,7 @@ use Rattle.std.specs.Prelude.{◌≡◌, ℕ, Bool, true, false, not, ◌&&◌, 
 use Rattle.c_written.specs.declared.written.StorageWord.{StorageWord}
 use Rattle.c_syntax.specs.Types.{CTypeTree, Array}
 use Rattle.c_typing.specs.World.{World, Form, Plain, Unsized, Callable, Object, Missing, Linked, TypeName, Typed}
-use Rattle.c_typing.specs.Names.{with_name, linked_as}
+use Rattle.c_typing.specs.Names.{is_reserved, with_name, linked_as}
 use Rattle.c_typing.specs.Operands.{is_unsized, complete_size}
 use Rattle.c_typing.specs.Declarators.{DeclaredName, ParameterTree, Step, laid}
 use Rattle.c_typing.specs.Context.{Context, has_name}
@@ -28,7 +28,7 @@ pub data MakesFunction (around : Context) (w : World) (named : DeclaredName) (pa
     Option ℕ → World → Type 0 where
   reserved_function : has_body ≡ false → MakesFunction around w named params types result has_body None w
   new_name :
-      linked_as w named.name ≡ None
+      is_reserved named.name ≡ false → linked_as w named.name ≡ None
       → MakesFunction around w named params types result has_body (Some (length w.functions)) (new_function w named (has_name around.functions named.name) params types result)
   known_name :
       (l : Linked) → linked_as w named.name ≡ Some l → is_function_so w types result has_body l.meaning ≡ true
@@ -40,7 +40,8 @@ pub data MakesName (around : Context) (w : World) (storage : List StorageWord) (
   type_name : (form : Form) → laid w named.pos steps base ≡ Typed form w → MakesName around w storage steps base has_init named NoObject (with_name w named.pos named.name (TypeName form))
   reserved : MakesName around w storage steps base has_init named NoObject w
   first_function :
-      (types : List CTypeTree) (result : CTypeTree) → laid w named.pos steps base ≡ Typed (Callable types result) w → linked_as w named.name ≡ None
+      (types : List CTypeTree) (result : CTypeTree) → is_reserved named.name ≡ false → laid w named.pos steps base ≡ Typed (Callable types result) w
+      → linked_as w named.name ≡ None
       → MakesName around w storage steps base has_init named NoObject
       (new_function w named (has_name around.functions named.name) (parameters_of steps types named.pos) types result)
   function_again :
@@ -53,12 +54,12 @@ pub data MakesName (around : Context) (w : World) (storage : List StorageWord) (
       (of : CTypeTree) (is_const is_static : Bool) → around.in_block ≡ true → laid w named.pos steps base ≡ Typed (Unsized of is_const) w → has_init ≡ true
       → MakesName around w storage steps base has_init named (AnObject (local_now w named (Array of is_const 0) is_static true)) (local_object w named (Array of is_const 0) false is_static 0)
   first_object :
-      (form : Form) (ty : CTypeTree) (is_const measured : Bool) (size total : ℕ) → laid w named.pos steps base ≡ Typed form w → IsObjectForm w ty is_const form
+      (form : Form) (ty : CTypeTree) (is_const measured : Bool) (size total : ℕ) → is_reserved named.name ≡ false → laid w named.pos steps base ≡ Typed form w → IsObjectForm w ty is_const form
       → linked_as w named.name ≡ None → has_name around.objects named.name ≡ true → IsFileSize w ty (file_object_of around storage named.name has_init) size measured
       → MakesName around w storage steps base has_init named (AnObject (file_now named ty (file_object_of around storage named.name has_init) measured (length w.objects)))
       (with_linked (with_object (with_sum w total) (object_of named ty is_const size true)) named (Object (length w.objects)) (file_object_of around storage named.name has_init).defines)
   first_missing :
-      (ty : CTypeTree) (is_const : Bool) (total : ℕ) → has_name around.objects named.name ≡ false
+      (ty : CTypeTree) (is_const : Bool) (total : ℕ) → is_reserved named.name ≡ false → linked_as w named.name ≡ None → has_name around.objects named.name ≡ false
       → MakesName around w storage steps base has_init named NoObject (with_linked (with_sum w total) named (Missing ty is_const) false)
   object_again :
       (form : Form) (ty : CTypeTree) (is_const measured : Bool) (l : Linked) (n size total : ℕ) → laid w named.pos steps base ≡ Typed form w → IsObjectForm w ty is_const form
@@ -69,6 +70,6 @@ pub data MakesName (around : Context) (w : World) (storage : List StorageWord) (
       (with_defined (with_name (with_sized (with_sum w total) n (composite_type w ty (Some l)) size) named.pos named.name (Object n)) named.name
       (file_object_of around storage named.name has_init).defines)
   missing_again :
-      (ty before : CTypeTree) (before_const : Bool) (size total : ℕ) (defines : Bool)
+      (ty before : CTypeTree) (before_const : Bool) (l : Linked) (size total : ℕ) (defines : Bool) → linked_as w named.name ≡ Some l → l.meaning ≡ Missing before before_const
       → MakesName around w storage steps base has_init named NoObject
       (with_defined (with_name (with_type (with_sum w total) named.name (Missing before before_const) ty size) named.pos named.name (Missing before before_const)) named.name defines)
