@@ -9,7 +9,7 @@ ghost use mir.Syntax.{w128};
 
 use num_api::NOp;
 
-// The operator's value, where it is an `i128`.
+/// What `And`, `Or`, `Xor`, `Shl` or `Shr` gives at two numbers, where it gives an `i128`.
 pub fn bitwise(op: NOp, x: i128, y: i128) -> Option<i128>
     requires { IsBitwise op }
     ensures some { IfSome result (λ n. binary_value op x y ≡ Some n) }

@@ -1,7 +1,7 @@
 -- Moving ends inward twice moves them once, so the bounds that were moved are those of the range.
-use Rattle.std.proofs.Common.{◌≡◌, ◌^◌, ◌-◌, ℤ, pos, negsuc, ◌≤ℤ◌, ◌<ℤ◌, arith, refl, sym, ◌∙◌, ap}
+use Rattle.std.proofs.Common.{◌≡◌, ◌^◌, ◌-◌, ℤ, pos, negsuc, ◌+ℤ◌, ◌-ℤ◌, ◌*ℤ◌, ◌≤ℤ◌, ◌<ℤ◌, arith, refl, sym, ◌∙◌, ap}
 use Rattle.std.specs.Prelude.{true, false}
-use Rattle.std.specs.Int.{int_min, int_max}
+use Rattle.std.specs.Int.{int_min, int_max, int_rem_euclid}
 use Rattle.std.proofs.lemmas.Int.{ints}
 use Rattle.std.proofs.lemmas.Bool.{true≢false}
 use Rattle.ext_int.specs.declared.Ext.{Ext}
@@ -10,8 +10,10 @@ use Rattle.ext_int.proofs.Ends.{AtMost_antisymm, AtMost-from_below, AtMost-from_
 use Rattle.num_api.specs.declared.message.Range.{Range}
 use Rattle.num_api.specs.declared.message.Residue.{Residue}
 use Rattle.num_api.specs.Ranges.{IsPoint, holds_some}
-use Rattle.num_api.specs.Residues.{InResidue}
+use Rattle.num_api.specs.Residues.{class_of, InResidue}
 use Rattle.num_api.proofs.Multiples.{in_itself}
+use Rattle.num_api.proofs.Remainders.{rem_unique}
+use Rattle.residues.specs.Classes.{LiesIn}
 use Rattle.residues.specs.Inward.{next_member, last_member, inward_low, inward_high, moved_range, inward_range}
 use Rattle.residues.specs.Laws.{low_by, high_by, no_low_by, no_high_by, low_inward, high_inward, low_sound, high_sound, next_is_member, last_is_member, inward_by}
 
@@ -126,3 +128,54 @@ point_keeps c r n h p k =
     let low : inward_low c r.lo ≡ r.lo = ap (inward_low c) p.low ∙ low_member c n h k ∙ sym p.low in
     let high : inward_high c r.hi ≡ r.hi = ap (inward_high c) p.high ∙ high_member c n h k ∙ sym p.high in
     inward_by (λ s. r ≡ s) c r (λ e. sym (same_ends (moved_range c r) r low high)) (λ e. refl)
+
+-- ---- the class of all numbers
+
+pub in_all : (c : Residue) (n : ℤ) → c.modulus ≡ pos 1 → InResidue c n
+in_all c n e = (n -ℤ c.rem, rw e (all n c.rem))
+  where
+    all : (n r : ℤ) → n ≡ r +ℤ ((n -ℤ r) *ℤ pos 1)
+    all n r = omega (arith, ints)
+
+one_not_below : (m : ℤ) → m ≡ pos 1 → pos 0 ≤ℤ m
+one_not_below m e = omega (arith, ints)
+
+one_not_zero : (m : ℤ) → m ≡ pos 1 → m ≡ pos 0 → ⊥
+one_not_zero m e f = absurd (omega (arith, ints))
+
+all_low : (c : Residue) (a : Ext) → c.modulus ≡ pos 1 → inward_low c a ≡ a
+all_low c Low e = no_low_by (λ x. x ≡ Low) c (one_not_below c.modulus e) (λ i. absurd (one_not_zero c.modulus e i)) (λ i. refl)
+all_low c (Fin n) e = low_member c n (one_not_below c.modulus e) (in_all c n e)
+all_low c High e = refl
+
+all_high : (c : Residue) (a : Ext) → c.modulus ≡ pos 1 → inward_high c a ≡ a
+all_high c Low e = refl
+all_high c (Fin n) e = high_member c n (one_not_below c.modulus e) (in_all c n e)
+all_high c High e = no_high_by (λ x. x ≡ High) c (one_not_below c.modulus e) (λ i. absurd (one_not_zero c.modulus e i)) (λ i. refl)
+
+-- moves no end
+pub all_stays : (c : Residue) (r : Range) → c.modulus ≡ pos 1 → r ≡ moved_range c r
+all_stays c r e = sym (same_ends (moved_range c r) r (all_low c r.lo e) (all_high c r.hi e))
+
+pub all_keeps : (c : Residue) (r : Range) → c.modulus ≡ pos 1 → r ≡ inward_range c r
+all_keeps c r e = inward_by (λ s. r ≡ s) c r (λ f. all_stays c r e) (λ f. refl)
+
+-- and leaves no remainder
+pub no_rest : (n m : ℤ) → m ≡ pos 1 → pos 0 ≡ int_rem_euclid n m
+no_rest n m e = sym (rem_unique n m (pos 0) (positive m e) (in_all (class_of (pos 0) m) n e) (zero_low) (above m e))
+  where
+    positive : (m : ℤ) → m ≡ pos 1 → pos 1 ≤ℤ m
+    positive m e = omega (arith, ints)
+
+    zero_low : pos 0 ≤ℤ pos 0
+    zero_low = omega (arith, ints)
+
+    above : (m : ℤ) → m ≡ pos 1 → pos 0 <ℤ m
+    above m e = omega (arith, ints)
+
+-- every class lies in it
+pub lies_in_any : (b a : Residue) → a.modulus ≡ pos 1 → LiesIn b a
+lies_in_any b a e = record { divides = (b.modulus, rw e (times b.modulus)); contains = in_all a b.rem e }
+  where
+    times : (m : ℤ) → m ≡ m *ℤ pos 1
+    times m = omega (arith, ints)

@@ -131,10 +131,20 @@ impl<V: ValueDomain, W: ValueDomain> Pair<V, W> {
         ensures point { (x : ℤ) → IsTrue V.exact → IsPoint (V.known (bounds_part self.now)) x → IsPoint (range_of_pair V.known W.class result) x }
         ensures keeps { IsTrue V.exact → KeepsItsRange V.known W.class result }
     {
+        if self.is_of_all() {
+            return self.pointed();
+        }
         match self.tightened() {
             Some(pair) => pair.pointed(),
             None => *self,
         }
+    }
+
+    // Whether the class holds all numbers, so that it moves no bound.
+    fn is_of_all(&self) -> bool
+        ensures { IsTrue result → (W.class (class_part self.now)).modulus ≡ pos 1 }
+    {
+        self.class.residue().modulus == 1
     }
 
     // The same numbers, with the class of a number where the range holds no other.
@@ -182,6 +192,9 @@ impl<V: ValueDomain, W: ValueDomain> Pair<V, W> {
         ensures holds { (n : ℤ) → IsInBoth V.admits W.admits self.now n → V.admits result n }
         ensures exact { IsTrue V.exact → V.known result ≡ range_of_pair V.known W.class self.now }
     {
+        if self.is_of_all() {
+            return self.bounds;
+        }
         let ends = self.ends();
         if is_same(ends, self.bounds.range()) {
             return self.bounds;
