@@ -42,7 +42,7 @@ use Rattle.c_typing_laws.proofs.Calls.{calls_are_typed}
 
 -- ---- the program at the end, from earlier worlds
 
-later_then : (a b : World) (scope : Scope) → IsLater a.structs b.structs → IsLater b.structs scope.program.structs → IsLater a.structs scope.program.structs
+pub later_then : (a b : World) (scope : Scope) → IsLater a.structs b.structs → IsLater b.structs scope.program.structs → IsLater a.structs scope.program.structs
 later_then a b scope f g = record {
   laid_out = f.laid_out;
   still = g.still;
@@ -74,7 +74,7 @@ still_ends u v scope later still ends = record {
   functions = λ n f there. callable_before u v scope n still.functions still.signatures (ends.functions n f (ap (λ functions. slice_get functions n) still.functions ∙ there));
 }
 
-ends_before : (u v : World) (scope : Scope) → Good u → Reaches Constants u v → EndsFrom v scope → EndsFrom u scope
+pub ends_before : (u v : World) (scope : Scope) → Good u → Reaches Constants u v → EndsFrom v scope → EndsFrom u scope
 ends_before u v scope good r ends =
     let k = kept u v r good in still_ends u v scope (is_later u v good k.good k.frame) (quiet Constants u v r) ends
 
@@ -101,7 +101,7 @@ constant_usable v scope (world.Function n) h = absurd h
 constant_usable v scope (TypeName form) h = absurd h
 constant_usable v scope (Enumeration n) h = tt
 
-usable_after : (w v : World) (scope : Scope) → Reaches Constants w v → AreUsable w scope → AreUsable v scope
+pub usable_after : (w v : World) (scope : Scope) → Reaches Constants w v → AreUsable w scope → AreUsable v scope
 usable_after w v scope r u =
     let still = quiet Constants w v r in
     subst (All (λ b. IsUsable v scope b.meaning)) (sym still.names)
@@ -117,11 +117,11 @@ usable_meaning w scope name m u e =
 -- ---- parts
 
 -- so it is in the program at the end
-abbrev At : {A : Type 0} → Scope → (A → Type 0) → A → World → Type 0
+abbrev pub At : {A : Type 0} → Scope → (A → Type 0) → A → World → Type 0
 At scope P a v = EndsFrom v scope → P a
 
 -- an outcome that has the property where it is typed
-law : {A : Type 0} {w : World} {P : A → World → Type 0} (o : Outcome A) → Goes Constants w o → ((a : A) (v : World) → Reaches Constants w v → o ≡ Typed a v → P a v) → GoesWith Constants w P o
+pub law : {A : Type 0} {w : World} {P : A → World → Type 0} (o : Outcome A) → Goes Constants w o → ((a : A) (v : World) → Reaches Constants w v → o ≡ Typed a v → P a v) → GoesWith Constants w P o
 law (Typed a v) (typed r) f = typed_so r (f a v r refl)
 law (Refused q) g f = refused_so
 
@@ -152,7 +152,7 @@ two {w = w} scope n u f s g h =
     node scope (n v2 x y) (g v2 x y) (λ z v3 ends e. h v2 v3 x y z ends (p (ends_before v v2 scope k.good r2 ends)) (q ends) e)))
 
 -- the value of a part
-value : {w : World} (scope : Scope) {first : Outcome OperandTree → Type 0} → AllWith Constants w (At scope (IsTypedOperand scope)) first → AllWith Constants w (At scope (IsTypedValue scope)) (Valued first)
+pub value : {w : World} (scope : Scope) {first : Outcome OperandTree → Type 0} → AllWith Constants w (At scope (IsTypedOperand scope)) first → AllWith Constants w (At scope (IsTypedValue scope)) (Valued first)
 value scope f = so_with f (λ x v r p k. is_with (λ good. typed_so (reaches.stays v) (λ ends. reads_are_typed scope x (p ends))))
 
 -- ---- names
