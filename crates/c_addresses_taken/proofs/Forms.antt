@@ -317,7 +317,7 @@ items_push (first ∷ items) item =
     ∙ ap (λ rest. taken_in_stmt (tstmt_tree first) ++ rest) (items_push items item)
     ∙ sym (append_assoc (taken_in_stmt (tstmt_tree first)) (taken_in_items (tstmts_from items)) (taken_in_stmt (tstmt_tree item)))
     ∙ sym (ap (λ rest. rest ++ taken_in_stmt (tstmt_tree item)) (ap taken_in_items (tstmts_cons first items)
-        ∙ stmts_more (tstmt_tree first) (tstmts_from items)))
+    ∙ stmts_more (tstmt_tree first) (tstmts_from items)))
 
 inits_push : (items : List TInit) (item : TInit) → flat_map init_taken (map tinit_tree (items ++ item ∷ []))
     ≡ flat_map init_taken (map tinit_tree items) ++ init_taken (tinit_tree item)

@@ -111,7 +111,7 @@ fn add_if(
 ) -> Result<(), NoMemory>
     ensures { OnOk result
         (taken.new.items ≡ taken.old.items ++ taken_in (texpr_tree condition.now) ++ taken_in_stmt (tstmt_tree then.now)
-            ++ taken_in_stmt (tstmt_tree otherwise.now)) }
+        ++ taken_in_stmt (tstmt_tree otherwise.now)) }
 {
     add_while(condition, then, taken)?;
     add_stmt(otherwise, taken)?;

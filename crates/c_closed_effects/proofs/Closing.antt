@@ -168,7 +168,7 @@ module _ (program : TProgramTree) (order : List ℕ) (is : IsOrderOf (graph_of p
       → IsEffectsOf program f (called known f)
   by_body f function None e b =
       let none : IsDefined (graph_of program) f → ⊥ = λ d. not_some (subst (λ (x : Option (Option (List PlacedCall))). IsSomeAnd x IsSome)
-          (entry_is f (Some function) e ∙ ap (λ (body : Option TStmtTree). Some (option_map stmt_calls body)) b) d) in
+      (entry_is f (Some function) e ∙ ap (λ (body : Option TStmtTree). Some (option_map stmt_calls body)) b) d) in
       subst (IsEffectsOf program f) (sym (k.rest f (not_ordered f none)))
       (nothing_done program f
       (ap (λ (x : Option TFunctionTree). unwrap_or (option_map stmt_calls (option_and_then (λ function. function.body) x)) []) e
@@ -201,12 +201,12 @@ callees_known program order i f count known calls is at same k n d less =
     let first : All (λ call. Contains (take i order) call.callee) (calls_from (graph_of program) f) = by_entry (slice_get order i) at (is.callees_first i) in
     let there : All (λ call. Contains (take i order) call.callee) calls = subst (All (λ call. Contains (take i order) call.callee)) (sym same) first in
     k.done (get_or calls n d).callee (there n d less) where
-  by_entry : (entry : Option ℕ) → entry ≡ Some f → IfSome entry (λ f. All (λ call. Contains (take i order) call.callee) (calls_from (graph_of program) f))
-      → All (λ call. Contains (take i order) call.callee) (calls_from (graph_of program) f)
-  by_entry None e h = absurd (cc)
-  by_entry (Some g) e h = subst (λ x. All (λ call. Contains (take i order) call.callee) (calls_from (graph_of program) x)) (some_same e) h where
-    some_same : {a b : ℕ} → Some a ≡ Some b → a ≡ b
-    some_same e = cc
+      by_entry : (entry : Option ℕ) → entry ≡ Some f → IfSome entry (λ f. All (λ call. Contains (take i order) call.callee) (calls_from (graph_of program) f))
+          → All (λ call. Contains (take i order) call.callee) (calls_from (graph_of program) f)
+      by_entry None e h = absurd (cc)
+      by_entry (Some g) e h = subst (λ x. All (λ call. Contains (take i order) call.callee) (calls_from (graph_of program) x)) (some_same e) h where
+        some_same : {a b : ℕ} → Some a ≡ Some b → a ≡ b
+        some_same e = cc
 
 pub ordered_there : (program : TProgramTree) (order : List ℕ) (i : ℕ) → IsOrderOf (graph_of program) order → i < length order
     → get_or order i 0 < length (graph_of program)

@@ -81,6 +81,6 @@ pub more_pairs : (known : Known) (at : Pos) (old so_far new : Option Comparison)
     → new ≡ or_first known old (all_pairs at (take (i + 1) sides))
 more_pairs known at old so_far new sides i side inside is front now =
     now ∙ ap (λ f. or_first known f (with_each at (take i sides) side)) front
-        ∙ sym (or_joined known old (all_pairs at (take i sides)) (with_each at (take i sides) side))
+    ∙ sym (or_joined known old (all_pairs at (take i sides)) (with_each at (take i sides) side))
     ∙ ap (or_first known old) (sym (pairs_push at [] (take i sides) side)
     ∙ ap (all_pairs at) (ap (λ x. take i sides ++ x ∷ []) is ∙ sym (take_more sides i side inside)))

@@ -474,7 +474,7 @@ items_push (first ∷ items) item =
     ∙ ap (λ rest. compared_in_stmt (tstmt_tree first) ++ rest) (items_push items item)
     ∙ sym (append_assoc (compared_in_stmt (tstmt_tree first)) (compared_in_items (tstmts_from items)) (compared_in_stmt (tstmt_tree item)))
     ∙ sym (ap (λ rest. rest ++ compared_in_stmt (tstmt_tree item)) (ap compared_in_items (tstmts_cons first items)
-        ∙ stmts_more (tstmt_tree first) (tstmts_from items)))
+    ∙ stmts_more (tstmt_tree first) (tstmts_from items)))
 
 inits_push : (items : List TInit) (item : TInit) → flat_map init_compared (map tinit_tree (items ++ item ∷ []))
     ≡ flat_map init_compared (map tinit_tree items) ++ init_compared (tinit_tree item)
@@ -512,7 +512,7 @@ more_args known = more_found known (λ items. compared_among (texprs_from items)
 
 pub more_arg_sides : (so_far new : List Side) (items : List TExpr) (i : ℕ) (item : TExpr) (side : Side) → i < length items → item ≡ get_or items i item
     → so_far ≡ sides_of (texprs_from (take i items)) → side ≡ side_of (texpr_tree item) → new ≡ so_far ++ side ∷ []
-        → new ≡ sides_of (texprs_from (take (i + 1) items))
+    → new ≡ sides_of (texprs_from (take (i + 1) items))
 more_arg_sides = more_done (λ items. sides_of (texprs_from items)) (λ item. side_of (texpr_tree item)) sides_push
 
 pub more_items : (known : Known) (old so_far new : Option Comparison) (items : List TStmt) (i : ℕ) (item : TStmt) → i < length items

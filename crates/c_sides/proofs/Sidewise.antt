@@ -81,7 +81,7 @@ no_store _ n m = refl
 pub store_inside : (side : Side) (e : TExprTree) → side ≡ side_of e → length (store_of e) ≤ length side.own.writes
 store_inside side e is =
     let size : length side.own.writes ≡ length (made_beside e) + length (store_of e) =
-        ap (λ (s : Side). length s.own.writes) is ∙ ap length (side_writes e) ∙ length-append (made_beside e) (store_of e) in
+    ap (λ (s : Side). length s.own.writes) is ∙ ap length (side_writes e) ∙ length-append (made_beside e) (store_of e) in
     omega (arith, size)
 
 -- the writes in front of the store
@@ -91,7 +91,7 @@ front_is_made side e stores is count =
     let writes : side.own.writes ≡ made_beside e ++ store_of e = ap (λ (s : Side). s.own.writes) is ∙ side_writes e in
     let size : length side.own.writes ≡ length (made_beside e) + length (store_of e) = ap length writes ∙ length-append (made_beside e) (store_of e) in
     ap (λ xs. take (length side.own.writes - stores) xs) writes
-        ∙ take_at (made_beside e) (store_of e) (length side.own.writes - stores) (omega (arith, size, count))
+    ∙ take_at (made_beside e) (store_of e) (length side.own.writes - stores) (omega (arith, size, count))
 
 -- ---- writes and touches by other names
 

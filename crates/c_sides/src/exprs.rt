@@ -175,7 +175,7 @@ fn walk_store(
 ) -> Result<Side, NoMemory>
     ensures side { IfOk result
         (λ side. side ≡ with_own (sides_joined (side_at (tlvalue_tree place.now)) (side_of (texpr_tree value.now))) (write_at (place_of
-            (tlvalue_tree place.now)))) }
+        (tlvalue_tree place.now)))) }
     ensures found { OnOk result
         (found.new ≡ or_first known.now found.old (compared_at (tlvalue_tree place.now) ++ compared_in (texpr_tree value.now)
         ++ two pos (side_at (tlvalue_tree place.now)) (side_of (texpr_tree value.now)) ++ stored_beside pos (tlvalue_tree place.now) (texpr_tree value.now))) }
@@ -200,7 +200,7 @@ fn walk_change(
 ) -> Result<Side, NoMemory>
     ensures side { IfOk result
         (λ side. side ≡ with_own (sides_joined (side_at (tlvalue_tree place.now)) (side_of (texpr_tree value.now))) (change_at (place_of
-            (tlvalue_tree place.now)))) }
+        (tlvalue_tree place.now)))) }
     ensures found { OnOk result
         (found.new ≡ or_first known.now found.old (compared_at (tlvalue_tree place.now) ++ compared_in (texpr_tree value.now)
         ++ two pos (side_at (tlvalue_tree place.now)) (side_of (texpr_tree value.now))

@@ -116,7 +116,7 @@ fn walk_inits(
 ) -> Result<(), NoMemory>
     ensures { OnOk result
         (found.new ≡ or_first known.now found.old (flat_map init_compared (map tinit_tree inits.now)
-            ++ all_pairs pos (map init_side (map tinit_tree inits.now)))) }
+        ++ all_pairs pos (map init_side (map tinit_tree inits.now)))) }
 {
     let sides = init_sides(alloc, known, inits, found)?;
     compare_all(alloc, known, pos, &sides, found)
@@ -195,7 +195,7 @@ fn walk_if(
 ) -> Result<(), NoMemory>
     ensures { OnOk result
         (found.new ≡ or_first known.now found.old (compared_in (texpr_tree condition.now) ++ compared_in_stmt (tstmt_tree then.now)
-            ++ compared_in_stmt (tstmt_tree otherwise.now))) }
+        ++ compared_in_stmt (tstmt_tree otherwise.now))) }
 {
     walk_while(alloc, known, condition, then, found)?;
     walk_stmt(alloc, known, otherwise, found)?;
@@ -244,7 +244,7 @@ fn walk_for(
 ) -> Result<(), NoMemory>
     ensures { OnOk result
         (found.new ≡ or_first known.now found.old (compared_in_items (tstmts_tree head.now) ++ compared_if_there (option_map texpr_tree condition.now)
-            ++ compared_if_there (option_map texpr_tree step.now) ++ compared_in_stmt (tstmt_tree body.now))) }
+        ++ compared_if_there (option_map texpr_tree step.now) ++ compared_in_stmt (tstmt_tree body.now))) }
 {
     walk_items(alloc, known, head, found)?;
     walk_option(alloc, known, condition, found)?;

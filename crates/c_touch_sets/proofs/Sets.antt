@@ -216,7 +216,7 @@ keeps_object before after taken kept n path k has to here elsewhere = record {
   group m false e =
       elsewhere m (λ h. absurd_by (sym e ∙ same_number n m (sym h))) ∙ k.groups m
       ∙ sym (filter-append (is_of m) kept (Object n path ∷ []) ∙ ap (λ b. filter (is_of m) kept ++ cond b (Object n path ∷ []) []) e
-          ∙ append_none (filter (is_of m) kept))
+      ∙ append_none (filter (is_of m) kept))
 
 -- ---- what calls tell
 
@@ -229,7 +229,7 @@ mem_told set taken touches t h e =
 
 pub object_told : (set : TouchSet) (taken : List Bool) (touches group : List Touch) (t : Touch) (n : ℕ) (path : List Part) (b : Bool) → Holds set taken touches
     → t ≡ Object n path → group ≡ group_of set n → MatchBool b (Contains group t) (Contains group t → ⊥)
-        → MatchBool b (Contains touches t) (Contains touches t → ⊥)
+    → MatchBool b (Contains touches t) (Contains touches t → ⊥)
 object_told set taken touches group t n path b h e g told =
     in_same b h.kept touches t h.same
     (subst (λ (u : Touch). MatchBool b (Contains h.kept u) (Contains h.kept u → ⊥)) (sym e)

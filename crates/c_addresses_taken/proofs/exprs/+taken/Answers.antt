@@ -11,9 +11,9 @@ add_args-loop-arg-preserved t c =
 pub add_indexed-returns-in_default : goal.add_indexed-returns-in_default
 add_indexed-returns-in_default t c =
     subst (λ more. OnOk c.add_expr.result (c.add_expr.new.taken.items
-        ≡ c.args.taken.now.items ++ more)) (no_sum c.args.sum.now c.in_default.not-Binary) c.add_expr.ensures
+    ≡ c.args.taken.now.items ++ more)) (no_sum c.args.sum.now c.in_default.not-Binary) c.add_expr.ensures
 
 pub add_array-returns-in_default : goal.add_array-returns-in_default
 add_array-returns-in_default t c =
     subst (λ more. OnOk c.add_expr.result (c.add_expr.new.taken.items
-        ≡ c.args.taken.now.items ++ more)) (no_array c.args.array.now c.in_default.not-Decay) c.add_expr.ensures
+    ≡ c.args.taken.now.items ++ more)) (no_array c.args.array.now c.in_default.not-Decay) c.add_expr.ensures

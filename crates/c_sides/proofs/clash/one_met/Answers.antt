@@ -22,5 +22,5 @@ returns-then-meets c = λ held h.
 pub returns : goal.returns
 returns c = λ held h.
     sym (ap (list_any (λ (s : Touch). list_any (met c.args.taken.now s) held)) (sym
-        (take_all c.loop-write.write-index c.args.writes.now c.loop-write-test.false))
+    (take_all c.loop-write.write-index c.args.writes.now c.loop-write-test.false))
     ∙ c.loop-write.invariant held h)
