@@ -26,8 +26,6 @@ mod laws;
 mod search;
 mod size;
 mod stmts;
-#[cfg(test)]
-mod tests;
 mod undefined;
 
 pub use call::{Call, Calls};

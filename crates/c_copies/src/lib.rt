@@ -17,8 +17,6 @@
 
 mod exprs;
 mod stmts;
-#[cfg(test)]
-mod tests;
 
 pub use exprs::{copy_expr, copy_exprs, copy_place};
 pub use stmts::{copy_init, copy_inits, copy_stmt, copy_stmts};

@@ -16,8 +16,6 @@
 mod effects;
 mod exprs;
 mod stmts;
-#[cfg(test)]
-mod tests;
 
 pub use effects::{Effects, Touches, copy_touch};
 pub use exprs::{add_called, effects_of};

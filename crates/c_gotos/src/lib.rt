@@ -14,8 +14,6 @@
 
 mod labels;
 mod laws;
-#[cfg(test)]
-mod tests;
 mod walk;
 
 pub use laws::gotos_stay;

@@ -16,8 +16,6 @@
 
 mod meeting;
 mod places;
-#[cfg(test)]
-mod tests;
 mod touch;
 
 pub use meeting::meet;
