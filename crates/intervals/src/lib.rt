@@ -24,7 +24,6 @@ mod shift_ranges;
 mod widening;
 
 pub use bits::bitwise;
-
 use ends::{
     greatest_product, greatest_quotient, is_range, least_product, least_quotient, sub_high, sub_low,
 };

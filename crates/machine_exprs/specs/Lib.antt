@@ -1,0 +1,2 @@
+pub mod MExprs
+pub mod Machine

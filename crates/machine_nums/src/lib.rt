@@ -1,0 +1,20 @@
+//! C's integers over any numeric domain.
+//!
+//! A state of the domain, whose variables have numbers of C's types. `set` gives a variable the value of an
+//! expression of C, `test` keeps the valuations in which an expression has a truth, and `check_range` answers
+//! for the exact result of an expression's outermost node, which its type need not have. For example, where x
+//! lies in [0, 100], `set` of y to `x + 1` at `int` keeps that y is x + 1; where nothing is known of x, y gets
+//! the range of `int`, since the sum may wrap.
+//!
+//! Wherever the domain's ranges show that each operand's exact result fits its type, the expression goes to the
+//! domain without its types, and the domain keeps what it can of it. Else a variable that is set gets the
+//! range of the type, and a test cuts nothing.
+//!
+//! specs/Machines.antt has the state behind a machine and what lies in a type. What an expression means is
+//! `machine_exprs`' own. The laws are clauses of the calls of `Machine`.
+#![tactic(auto)]
+
+mod machine;
+mod types;
+
+pub use machine::Machine;

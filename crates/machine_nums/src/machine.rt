@@ -1,0 +1,222 @@
+// The machine.
+#![tactic(auto, using(machine_exprs::proofs::Trees::mexpr_trees, num_api::proofs::Trees::nexpr_trees))]
+
+ghost use Rattle.std.specs.Prelude.{◌≡◌, ◌≢◌, ℕ, ℤ, List, ◌≤◌, ◌<◌, IsTrue, false, IfSome, IfOk, OnOk, Some};
+ghost use Rattle.ramps.specs.Told.{Keeps};
+ghost use Rattle.num_api.specs.Exprs.{nexpr_tree};
+ghost use Rattle.num_api.specs.Ranges.{InRange, IsPoint, NoWider, IsUnder, with_range, all_numbers, holds_some, hull};
+ghost use Rattle.num_api.specs.Residues.{InResidue, IsResidue};
+ghost use Rattle.num_api.specs.Valuation.{SetTo};
+ghost use Rattle.num_api.specs.Value.{value_of, has_truth};
+ghost use Rattle.num_api.specs.Messages.{Holds, IsProper, Adds, TellsOf};
+ghost use Rattle.num_api.specs.Known.{IsSharp};
+ghost use Rattle.num_api.specs.Lives.{is_live};
+ghost use Rattle.num_api.specs.declared.message.Range.{Range};
+ghost use Rattle.num_api.specs.declared.message.Message.TheVariants.{Between};
+ghost use Rattle.num_api.specs.declared.expr.Var.{Var as Variable};
+ghost use Rattle.c_written.specs.Integer.{HasNumber};
+ghost use Rattle.machine_exprs.specs.MExprs.{mexpr_tree};
+ghost use Rattle.machine_exprs.specs.Machine.{exact_value, machine_value};
+ghost use Rattle.machine_nums.specs.Machines.{state_of};
+
+use crate::types::{is_within, range_of};
+use c_written::IntType;
+use machine_exprs::MExpr;
+use num_api::{
+    Live, Message, Messages, NExpr, NumDomain, NumFacts, Range, Residue, Unknowing, Var,
+};
+use ramps::{Ramp, Steps};
+use std::alloc::{AllocError as NoMemory, Global};
+
+/// A state of a numeric domain over numbers of C's integer types.
+#[derive(Drop)]
+pub struct Machine<D> {
+    alloc: Global,
+    state: D,
+}
+
+impl<D: NumDomain> Machine<D> {
+    /// All valuations.
+    pub fn top(alloc: Global) -> Machine<D>
+        ensures { (v : List ℤ) → D.admits (state_of result) v }
+    {
+        Machine {
+            alloc,
+            state: D::top(alloc),
+        }
+    }
+
+    /// A machine whose state equals this one's.
+    pub fn copy(&self) -> Result<Machine<D>, NoMemory>
+        ensures { IfOk result (λ m. state_of m ≡ state_of self.now) }
+    {
+        Ok(Machine {
+            alloc: self.alloc,
+            state: self.state.copy()?,
+        })
+    }
+
+    /// Gives the variable the value of the expression: what it comes to, wrapped into its type.
+    pub fn set(&mut self, x: Var, e: &MExpr) -> Result<(), NoMemory>
+        ensures { OnOk result ((v w : List ℤ) (n : ℤ) → D.admits (state_of self.old) v → machine_value v (mexpr_tree e.now) ≡ Some n → SetTo x.0 n v w
+            → D.admits (state_of self.new) w) }
+    {
+        match self.inside(e)? {
+            Some(plain) => {
+                let mut out = Messages::new(self.alloc);
+                self.state.assign(x, &plain, &Unknowing, &mut out)
+            }
+            None => self.state.havoc(x, range_of(e.int_type())),
+        }
+    }
+
+    /// Keeps the valuations in which the expression's value has this truth; `Dead` only where there is none.
+    pub fn test(&mut self, e: &MExpr, truth: bool) -> Result<Live, NoMemory>
+        ensures { IfOk result (λ live. (v : List ℤ) (n : ℤ) → D.admits (state_of self.old) v → machine_value v (mexpr_tree e.now) ≡ Some n
+            → IsTrue (has_truth truth n) → IsTrue (is_live live) × D.admits (state_of self.new) v) }
+    {
+        match self.inside(e)? {
+            Some(plain) => {
+                let mut out = Messages::new(self.alloc);
+                self.state.assume(&plain, truth, &Unknowing, &mut out)
+            }
+            None => Ok(Live::Live),
+        }
+    }
+
+    /// A range and a class that hold the exact result of the outermost node, which is not wrapped.
+    pub fn check_range(&self, e: &MExpr) -> Result<(Range, Residue), NoMemory>
+        ensures holds { IfOk result (λ found. (v : List ℤ) (n : ℤ) → D.admits (state_of self.now) v → exact_value v (mexpr_tree e.now) ≡ Some n
+            → InRange found.0 n × InResidue found.1 n) }
+        ensures proper { IfOk result (λ found. IsResidue found.1) }
+    {
+        match self.fitted(e)? {
+            Some(plain) => Ok((self.state.range(&plain), self.state.residue(&plain))),
+            None => Ok((Range::all(), Residue { rem: 0, modulus: 1 })),
+        }
+    }
+
+    /// Gives the variable any number of the type.
+    pub fn havoc(&mut self, x: Var, t: IntType) -> Result<(), NoMemory>
+        ensures { OnOk result ((v w : List ℤ) (n : ℤ) → D.admits (state_of self.old) v → HasNumber t n → SetTo x.0 n v w → D.admits (state_of self.new) w) }
+    {
+        self.state.havoc(x, range_of(t))
+    }
+
+    /// Gives the variable any number.
+    pub fn forget(&mut self, x: Var) -> Result<(), NoMemory>
+        ensures { OnOk result ((v w : List ℤ) (n : ℤ) → D.admits (state_of self.old) v → SetTo x.0 n v w → D.admits (state_of self.new) w) }
+    {
+        self.state.forget(x)
+    }
+
+    /// Keeps the valuations in which the message holds; `Dead` only where there is none.
+    pub fn accept(&mut self, m: &Message) -> Result<Live, NoMemory>
+        requires { IsProper m.now }
+        ensures { IfOk result (λ live. (v : List ℤ) → D.admits (state_of self.old) v → Holds v m.now → IsTrue (is_live live) × D.admits (state_of self.new) v) }
+    {
+        self.state.accept(m)
+    }
+
+    /// Admits what either machine admits.
+    pub fn join(&mut self, other: &Machine<D>) -> Result<(), NoMemory>
+        ensures left { OnOk result ((v : List ℤ) → D.admits (state_of self.old) v → D.admits (state_of self.new) v) }
+        ensures right { OnOk result ((v : List ℤ) → D.admits (state_of other.now) v → D.admits (state_of self.new) v) }
+    {
+        self.state.join(&other.state)
+    }
+
+    /// Admits what either machine admits, so that widening comes to an end.
+    pub fn widen<U: Fn(i128) -> Option<i128>, S: Steps>(
+        &mut self,
+        next: &Machine<D>,
+        ramp: &Ramp<U>,
+    ) -> Result<(), NoMemory>
+        requires { Keeps U.pre U.post ramp.now S.list }
+        ensures left { OnOk result ((v : List ℤ) → D.admits (state_of self.old) v → D.admits (state_of self.new) v) }
+        ensures right { OnOk result ((v : List ℤ) → D.admits (state_of next.now) v → D.admits (state_of self.new) v) }
+        ensures no_rise { OnOk result (D.weight S.list (state_of self.new) ≤ D.weight S.list (state_of self.old)) }
+        ensures falls { OnOk result (D.holds (state_of self.old) (state_of next.now) ≡ false
+            → D.weight S.list (state_of self.new) < D.weight S.list (state_of self.old)) }
+    {
+        self.state.widen::<U, S>(&next.state, ramp)
+    }
+
+    /// Whether the machine is known to hold the other.
+    pub fn covers(&self, other: &Machine<D>) -> bool
+        ensures value { result ≡ D.holds (state_of self.now) (state_of other.now) }
+        ensures included { IsTrue result → (v : List ℤ) → D.admits (state_of other.now) v → D.admits (state_of self.now) v }
+    {
+        self.state.covers(&other.state)
+    }
+
+    /// Puts out what holds in every valuation of the machine.
+    pub fn facts(&self, out: &mut NumFacts) -> Result<(), NoMemory>
+        ensures kept { OnOk result (Adds out.old out.new) }
+        ensures told { OnOk result ((v : List ℤ) → D.admits (state_of self.now) v → TellsOf v out.old out.new) }
+    {
+        self.state.facts(out)
+    }
+
+    // The expression without its types, where each operand's exact result fits its type.
+    fn fitted(&self, e: &MExpr) -> Result<Option<NExpr>, NoMemory>
+        ensures { IfOk result (λ found. IfSome found (λ plain. (v : List ℤ) → D.admits (state_of self.now) v
+            → value_of v (nexpr_tree plain) ≡ exact_value v (mexpr_tree e.now))) }
+    {
+        match e {
+            MExpr::Const(_, n) => Ok(Some(NExpr::Const(*n))),
+            MExpr::Read(x, _) => Ok(Some(NExpr::Read(*x))),
+            MExpr::Convert(_, a) => {
+                let found = self.fitted(a)?;
+                Ok(self.within(found, a.int_type()))
+            }
+            MExpr::Unary(op, _, a) => {
+                let found = self.fitted(a)?;
+                match self.within(found, a.int_type()) {
+                    Some(a) => {
+                        let a = Box::new(self.alloc, a)?;
+                        Ok(Some(NExpr::Unary(*op, a)))
+                    }
+                    None => Ok(None),
+                }
+            }
+            MExpr::Binary(op, _, a, b) => {
+                let first = self.fitted(a)?;
+                let second = self.fitted(b)?;
+                match (
+                    self.within(first, a.int_type()),
+                    self.within(second, b.int_type()),
+                ) {
+                    (Some(a), Some(b)) => {
+                        let a = Box::new(self.alloc, a)?;
+                        let b = Box::new(self.alloc, b)?;
+                        Ok(Some(NExpr::Binary(*op, a, b)))
+                    }
+                    _ => Ok(None),
+                }
+            }
+        }
+    }
+
+    // The expression, where there is one whose numbers the type has.
+    fn within(&self, found: Option<NExpr>, t: IntType) -> Option<NExpr>
+        ensures { IfSome result (λ plain. (found ≡ Some plain)
+            × ((v : List ℤ) (n : ℤ) → D.admits (state_of self.now) v → value_of v (nexpr_tree plain) ≡ Some n → HasNumber t n)) }
+    {
+        let plain = found?;
+        if is_within(self.state.range(&plain), t) {
+            Some(plain)
+        } else {
+            None
+        }
+    }
+
+    // The same, where the outermost node's exact result fits its type too.
+    fn inside(&self, e: &MExpr) -> Result<Option<NExpr>, NoMemory>
+        ensures { IfOk result (λ found. IfSome found (λ plain. (v : List ℤ) → D.admits (state_of self.now) v
+            → value_of v (nexpr_tree plain) ≡ machine_value v (mexpr_tree e.now))) }
+    {
+        let found = self.fitted(e)?;
+        Ok(self.within(found, e.int_type()))
+    }
+}

@@ -1,0 +1,3 @@
+pub mod Congruences
+pub mod Operators
+pub mod Nodes
