@@ -9,7 +9,7 @@
 //! |---|---|---|
 //! | an integer constant | `number` | `number` |
 //! | a character constant | `character` | `character` |
-//! | the name of an object | `object_named` | `object_named` |
+//! | the name of an object | `object_named`, `object_place` | `object_named`, `object_place` |
 #![tactic(auto)]
 
 mod constants;
@@ -18,4 +18,4 @@ mod objects;
 mod tests;
 
 pub use constants::{character, number};
-pub use objects::object_named;
+pub use objects::{object_named, object_place};

@@ -10,13 +10,13 @@ ghost use Rattle.c_typing.specs.World.{World};
 ghost use Rattle.c_type_conversions.specs.Views.{operand_tree};
 ghost use Rattle.c_type_errors.specs.Views.{Answers};
 
-use c_syntax::{CType, IntType, Object, Objects, Pos, TLvalue};
+use c_syntax::{CType, IntType, Object, Pos, TLvalue};
 use c_type_conversions::Operand;
 use c_type_errors::TypeError;
 use std::alloc::AllocError as NoMemory;
 
 /// The place of object number `n` (C11 6.5.1p2). A number that no object has is Undeclared.
-pub fn object_named(objects: &Objects, pos: Pos, n: u64) -> Result<Operand, TypeError>
+pub fn object_named(objects: &[Object], pos: Pos, n: u64) -> Result<Operand, TypeError>
     ensures { (w : World) → w.objects ≡ map object_tree objects.now
         → Answers (λ out. out ≡ nodes.object_named w pos n) operand_tree w result }
 {
@@ -26,11 +26,11 @@ pub fn object_named(objects: &Objects, pos: Pos, n: u64) -> Result<Operand, Type
     }
 }
 
-fn numbered_place(objects: &Objects, pos: Pos, n: u64) -> Result<Option<TLvalue>, NoMemory>
+fn numbered_place(objects: &[Object], pos: Pos, n: u64) -> Result<Option<TLvalue>, NoMemory>
     ensures { IfOk result (λ place. option_map tlvalue_tree place
         ≡ option_map (nodes.object_place pos n) (slice_get (map object_tree objects.now) n)) }
 {
-    match objects.as_slice().get(n as usize) {
+    match objects.get(n as usize) {
         None => Ok(None),
         Some(object) => {
             let place = object_place(object, pos, n)?;
@@ -39,7 +39,8 @@ fn numbered_place(objects: &Objects, pos: Pos, n: u64) -> Result<Option<TLvalue>
     }
 }
 
-fn object_place(object: &Object, pos: Pos, n: u64) -> Result<TLvalue, NoMemory>
+/// The place of this object, whose number is `n`, where it is named at this place of the text.
+pub fn object_place(object: &Object, pos: Pos, n: u64) -> Result<TLvalue, NoMemory>
     ensures { IfOk result (λ place. tlvalue_tree place ≡ nodes.object_place pos n (object_tree object.now)) }
 {
     Ok(TLvalue::Var {

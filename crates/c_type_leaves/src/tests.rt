@@ -2,7 +2,7 @@
 #![tactic(auto, using(c_syntax::proofs::Trees::the_trees))]
 
 use crate::{character, number, object_named};
-use c_syntax::{Constant, Objects, Pos};
+use c_syntax::{Constant, Pos};
 use c_type_conversions::Operand;
 
 const AT: Pos = Pos {
@@ -14,7 +14,6 @@ const AT: Pos = Pos {
 // 7, 'a', and a name of an object that is not there
 #[test]
 fn leaves(rt: HostRuntime) {
-    let alloc = rt.alloc();
     let seven = Constant {
         value: 7,
         decimal: true,
@@ -23,5 +22,5 @@ fn leaves(rt: HostRuntime) {
     };
     assert!(rt; number(AT, seven).is_ok());
     assert!(rt; matches!(character(AT, b'a'), Operand::Value(_)));
-    assert!(rt; object_named(&Objects::new(alloc), AT, 0).is_err());
+    assert!(rt; object_named(&[], AT, 0).is_err());
 }
