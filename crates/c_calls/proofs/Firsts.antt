@@ -13,7 +13,7 @@ use Rattle.c_calls.specs.Undefined.{IsEarlier, IsFirstUndefined, IsFound, IsFoun
 
 -- ---- places
 
-before_after : (a b c : Pos) → IsBefore a b → IsBefore b c → IsBefore a c
+pub before_after : (a b c : Pos) → IsBefore a b → IsBefore b c → IsBefore a c
 before_after a b c (inl p) (inl q) = inl (omega (arith, p, q))
 before_after a b c (inl p) (inr q) = inl (omega (arith, p, q.0))
 before_after a b c (inr p) (inl q) = inl (omega (arith, p.0, q))
@@ -25,7 +25,7 @@ before_after a b c (inr p) (inr q) = inr (p.0 ∙ q.0, lines p.1 q.1) where
   lines (inr l) (inl m) = inl (omega (arith, l.0, m))
   lines (inr l) (inr m) = inr (l.0 ∙ m.0, omega (arith, l.1, m.1))
 
-never_before_itself : (a : Pos) → IsBefore a a → ⊥
+pub never_before_itself : (a : Pos) → IsBefore a a → ⊥
 never_before_itself a (inl p) = absurd (omega (arith, p))
 never_before_itself a (inr p) = elim p.1 [ inl l ↦ absurd (omega (arith, l)) | inr l ↦ absurd (omega (arith, l.1)) ]
 

@@ -1,11 +1,11 @@
 pub mod Forms
 mod Closed
 mod Falling
-mod Firsts
+pub mod Firsts
 mod Inlining
 mod Left
 pub mod Counts
 mod Deep
-mod Orders
+pub mod Orders
 mod Steps
 mod Ways

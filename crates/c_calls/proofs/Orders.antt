@@ -47,7 +47,7 @@ times_push_same f xs =
     let pushed = sum_by_push (λ x. cond (x == f) 1 0) xs f in
     let one = same_one f in omega (arith, pushed, one)
 
-times_none : (P : ℕ → Type 0) (f : ℕ) (xs : List ℕ) → All P xs → (P f → ⊥) → times f xs ≡ 0
+pub times_none : (P : ℕ → Type 0) (f : ℕ) (xs : List ℕ) → All P xs → (P f → ⊥) → times f xs ≡ 0
 times_none P f [] all n = refl
 times_none P f (x ∷ xs) all n =
     let cons = sum_by-cons (λ x. cond (x == f) 1 0) x xs in

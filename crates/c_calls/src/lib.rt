@@ -36,4 +36,4 @@ pub use graph::CallGraph;
 pub use laws::orders_exclude_closed_lists;
 pub use search::{OrderError, order_of};
 pub use size::inlined_size;
-pub use undefined::undefined_call;
+pub use undefined::{is_before, undefined_call};

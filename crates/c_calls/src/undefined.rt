@@ -57,8 +57,8 @@ fn earlier(found: Option<Call>, call: Call) -> Call
     }
 }
 
-// Whether the first place stands before the second.
-fn is_before(a: Pos, b: Pos) -> bool
+/// Whether the first place stands before the second in the text.
+pub fn is_before(a: Pos, b: Pos) -> bool
     ensures { MatchBool result (IsBefore a b) (IsBefore a b → ⊥) }
 {
     a.file < b.file || a.file == b.file && (a.line < b.line || a.line == b.line && a.col < b.col)

@@ -61,7 +61,7 @@ impl Touches {
         ensures { OnOk result (self.new ≡ self.old ++ touches.now) }
     {
         for touch in touches.as_slice() {
-            self.push(copied(alloc, touch)?)?;
+            self.push(copy_touch(alloc, touch)?)?;
         }
         Ok(())
     }
@@ -111,22 +111,23 @@ impl Effects {
     pub(crate) fn change(&mut self, alloc: Global, touch: Touch) -> Result<(), NoMemory>
         ensures { OnOk result (self.new ≡ joined self.old (change_at touch)) }
     {
-        self.reads.push(copied(alloc, &touch)?)?;
+        self.reads.push(copy_touch(alloc, &touch)?)?;
         self.writes.push(touch)?;
         Ok(())
     }
 }
 
-fn copied(alloc: Global, touch: &Touch) -> Result<Touch, NoMemory>
+/// The same touch once more.
+pub fn copy_touch(alloc: Global, touch: &Touch) -> Result<Touch, NoMemory>
     ensures { IfOk result (λ copy. copy ≡ touch.now) }
 {
     match touch {
         Touch::Mem => Ok(Touch::Mem),
-        Touch::Object(number, path) => Ok(Touch::Object(*number, copied_path(alloc, path)?)),
+        Touch::Object(number, path) => Ok(Touch::Object(*number, copy_path(alloc, path)?)),
     }
 }
 
-fn copied_path(alloc: Global, path: &Path) -> Result<Path, NoMemory>
+fn copy_path(alloc: Global, path: &Path) -> Result<Path, NoMemory>
     ensures { IfOk result (λ copy. copy ≡ path.now) }
 {
     let mut copy = Path::new(alloc);

@@ -215,7 +215,8 @@ fn add_call(
     Ok(())
 }
 
-fn add_called(
+/// What calls of this function do, behind the effects that are there, where these are the effects of each function.
+pub fn add_called(
     alloc: Global,
     known: &[Effects],
     function: u64,

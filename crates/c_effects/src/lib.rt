@@ -19,6 +19,6 @@ mod stmts;
 #[cfg(test)]
 mod tests;
 
-pub use effects::{Effects, Touches};
-pub use exprs::effects_of;
+pub use effects::{Effects, Touches, copy_touch};
+pub use exprs::{add_called, effects_of};
 pub use stmts::effects_in;

@@ -1,4 +1,4 @@
 pub mod Forms
 mod Known
 mod Lists
-mod Stays
+pub mod Stays

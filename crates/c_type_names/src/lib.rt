@@ -35,6 +35,7 @@ mod types;
 mod world;
 
 pub use error::NameError;
+pub use objects::literal_type;
 pub use reserved::{input_type, is_reserved};
 pub use table::{Named, Table};
 pub use types::{Binding, CaseAt, Form, Labelled, Linked, Meaning, TagBinding, TagMeaning};

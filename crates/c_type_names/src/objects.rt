@@ -91,9 +91,9 @@ fn literal_object(alloc: Global, at: Pos, size: u64) -> Result<Object, NoMemory>
     })
 }
 
-// An array of so many characters.
+/// The type of a string literal of so many bytes, its closing zero among them: an array of characters.
 #[tactic(auto, using(c_syntax::proofs::Trees::the_trees))]
-fn literal_type(alloc: Global, size: u64) -> Result<CType, NoMemory>
+pub fn literal_type(alloc: Global, size: u64) -> Result<CType, NoMemory>
     ensures { IfOk result (λ ty. ctype_tree ty ≡ names.literal_type size) }
 {
     let char = Target {

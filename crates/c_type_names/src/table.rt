@@ -139,4 +139,40 @@ impl<T: Named> Table<T> {
             }
         }
     }
+
+    /// All behind the first `count`, in their order, which are taken away. After want of memory the list is only
+    /// dropped.
+    pub fn split_off(&mut self, count: usize) -> Result<Vec<T>, NoMemory>
+        ensures rest { OnOk result (self.new ≡ take count self.old) }
+        ensures taken { IfOk result (λ items. items.items ≡ drop count self.old) }
+    {
+        let mut taken = Vec::new(self.alloc);
+        'behind: while self.items.len() > count {
+            if let Some(last) = self.items.pop() {
+                self.index.pop(last.name());
+                taken.push(last)?;
+            }
+        }
+        taken.reverse();
+        Ok(taken)
+    }
+
+    /// The list, in its order.
+    pub fn as_slice(&self) -> &[T]
+        ensures { result.now ≡ self.now }
+    {
+        self.items.as_slice()
+    }
+
+    /// The list without its index.
+    pub fn into_vec(self) -> Vec<T>
+        ensures { result.items ≡ self }
+    {
+        let Table {
+            alloc: _,
+            index: _index,
+            items,
+        } = self;
+        items
+    }
 }

@@ -44,12 +44,12 @@ pub struct Scope {
 }
 
 impl World {
-    ghost use Rattle.std.specs.Prelude.{◌≡◌, [], ◌∷◌, ◌++◌, map, OnOk};
+    ghost use Rattle.std.specs.Prelude.{◌≡◌, [], ◌∷◌, ◌++◌, drop, length, map, IfOk, OnOk};
     ghost use Rattle.std.specs.Option.{option_map};
     ghost use Rattle.c_typing.specs.File.{nothing_yet};
     ghost use Rattle.c_typing.specs.Names as names;
     ghost use Rattle.c_typing.specs.World as typing;
-    ghost use Rattle.c_type_names.specs.Trees.{meaning_tree, linked_tree, tag_tree};
+    ghost use Rattle.c_type_names.specs.Trees.{binding_tree, meaning_tree, linked_tree, tag_tree};
     ghost use Rattle.c_type_names.specs.Worlds.{world_of, Encloses};
 
     /// The program before the first declaration.
@@ -73,6 +73,11 @@ impl World {
             cases: Vec::new(alloc),
             default: None,
         }
+    }
+
+    /// The allocator of all that the program has.
+    pub fn alloc(&self) -> Global {
+        self.alloc
     }
 
     /// What the name stands for: its last declaration that is in scope.
@@ -174,5 +179,24 @@ impl World {
         self.first_name = before.first_name;
         self.tags.truncate(before.tags);
         self.first_tag = before.first_tag;
+    }
+
+    /// Ends the scope that began here, and gives the names and the tags that it declared. After want of memory the
+    /// program is only dropped.
+    pub fn close_apart(
+        &mut self,
+        before: Scope,
+    ) -> Result<(Vec<Binding>, Vec<TagBinding>), NoMemory>
+        ensures closed { (outer : typing.World) → Encloses outer before → OnOk result (world_of self.new ≡ names.closed outer (world_of self.old)) }
+        ensures names { (outer : typing.World) → Encloses outer before
+            → IfOk result (λ apart. map binding_tree apart.0.items ≡ drop (length outer.names) (world_of self.old).names) }
+        ensures tags { (outer : typing.World) → Encloses outer before
+            → IfOk result (λ apart. map tag_tree apart.1.items ≡ drop (length outer.tags) (world_of self.old).tags) }
+    {
+        let names = self.names.split_off(before.names)?;
+        self.first_name = before.first_name;
+        let tags = self.tags.split_off(before.tags)?;
+        self.first_tag = before.first_tag;
+        Ok((names, tags))
     }
 }

@@ -1,7 +1,15 @@
 // Random expressions, and their values by trying.
+#![tactic(auto, using(num_api::proofs::Trees::nexpr_trees))]
 
-ghost use Rattle.std.specs.Prelude.{◌<◌, ◌≤ℤ◌, negsuc, pos};
+ghost use Rattle.std.specs.Prelude.{◌≡◌, ◌<◌, ◌≤ℤ◌, ℤ, negsuc, pos, Some, IfSome, IfNone};
+ghost use Rattle.std.specs.Int.RustNames.{FitsSigned};
+ghost use mir.Syntax.{w128};
+ghost use Rattle.ext_int.specs.Valuation.{value_at};
+ghost use Rattle.num_api.specs.Exprs.{nexpr_tree};
+ghost use Rattle.num_api.specs.Value.{unary_value, binary_value, value_of, AllFit};
+ghost use Rattle.num_api.specs.declared.expr.NOp.TheVariants.{Rem};
 
+use intervals::bitwise;
 use num_api::{NExpr, NOp, Var};
 use rand_core::utils::NextWord;
 use rand_pcg::Pcg32;
@@ -82,46 +90,79 @@ pub fn comparison(alloc: Global, random: &mut Pcg32) -> Result<NExpr, NoMemory> 
     Ok(NExpr::Binary(op, a, b))
 }
 
-fn shifted(a: i128, b: i128) -> Option<i128> {
-    match b {
-        0..=126 => Some(a >> b),
-        127.. => Some(if a < 0 { -1 } else { 0 }),
+// What an operator of one operand gives, where it gives an `i128`.
+fn of_one(op: NOp, a: i128) -> Option<i128>
+    ensures some { IfSome result (λ n. unary_value op a ≡ Some n) }
+    ensures none { IfNone result ((n : ℤ) → unary_value op a ≡ Some n → FitsSigned w128 n → ⊥) }
+{
+    match op {
+        NOp::Neg => a.checked_neg(),
+        NOp::Not => Some(i128::from(a == 0)),
         _ => None,
     }
 }
 
-fn of_two(op: NOp, a: i128, b: i128) -> Option<i128> {
+// The remainder of the quotient that is rounded toward 0, where the divisor is not 0.
+fn rest(a: i128, b: i128) -> Option<i128>
+    ensures some { IfSome result (λ n. binary_value Rem a b ≡ Some n) }
+    ensures none { IfNone result ((n : ℤ) → binary_value Rem a b ≡ Some n → ⊥) }
+{
+    if b == 0 {
+        None
+    } else {
+        Some(a.wrapping_rem(b))
+    }
+}
+
+// What an operator of two operands gives, where it gives an `i128`.
+fn of_two(op: NOp, a: i128, b: i128) -> Option<i128>
+    ensures some { IfSome result (λ n. binary_value op a b ≡ Some n) }
+    ensures none { IfNone result ((n : ℤ) → binary_value op a b ≡ Some n → FitsSigned w128 n → ⊥) }
+{
     match op {
+        NOp::Neg => None,
+        NOp::Not => None,
         NOp::Add => a.checked_add(b),
         NOp::Sub => a.checked_sub(b),
         NOp::Mul => a.checked_mul(b),
         NOp::Quot => a.checked_div(b),
-        NOp::Rem => a.checked_rem(b),
-        NOp::Shr => shifted(a, b),
-        NOp::And => Some(a & b),
-        NOp::Or => Some(a | b),
-        NOp::Xor => Some(a ^ b),
+        NOp::Rem => rest(a, b),
+        NOp::Shl => bitwise(NOp::Shl, a, b),
+        NOp::Shr => bitwise(NOp::Shr, a, b),
+        NOp::And => bitwise(NOp::And, a, b),
+        NOp::Or => bitwise(NOp::Or, a, b),
+        NOp::Xor => bitwise(NOp::Xor, a, b),
         NOp::Eq => Some(i128::from(a == b)),
         NOp::Ne => Some(i128::from(a != b)),
         NOp::Lt => Some(i128::from(a < b)),
         NOp::Le => Some(i128::from(a <= b)),
-        NOp::Shl | NOp::Neg | NOp::Not => None,
     }
 }
 
-/// The value of the expression at these numbers, where it has one.
-pub fn value(e: &NExpr, numbers: &[i128; 3]) -> Option<i128> {
+/// The value of the expression at these numbers, where it and each of its parts have one that is an `i128`.
+/// A variable past the last number is 0.
+pub fn value(e: &NExpr, numbers: &[i128]) -> Option<i128>
+    ensures some { IfSome result (λ n. value_of numbers.now (nexpr_tree e.now) ≡ Some n) }
+    ensures none { IfNone result (AllFit numbers.now (nexpr_tree e.now) → ⊥) }
+{
     match e {
         NExpr::Const(n) => Some(*n),
-        NExpr::Read(x) => numbers.get(x.0 as usize).copied(),
-        NExpr::Unary(op, a) => {
-            let a = value(a, numbers)?;
-            match op {
-                NOp::Neg => a.checked_neg(),
-                NOp::Not => Some(i128::from(a == 0)),
-                _ => None,
-            }
-        }
-        NExpr::Binary(op, a, b) => of_two(*op, value(a, numbers)?, value(b, numbers)?),
+        NExpr::Read(x) => Some(number_of(numbers, x.0)),
+        NExpr::Unary(op, a) => match value(a, numbers) {
+            Some(a) => of_one(*op, a),
+            None => None,
+        },
+        NExpr::Binary(op, a, b) => match (value(a, numbers), value(b, numbers)) {
+            (Some(a), Some(b)) => of_two(*op, a, b),
+            _ => None,
+        },
     }
+}
+
+// The number of a variable.
+fn number_of(numbers: &[i128], x: u64) -> i128
+    ensures { result ≡ value_at numbers.now x }
+{
+    let at = x as usize;
+    if at < numbers.len() { numbers[at] } else { 0 }
 }

@@ -5,7 +5,8 @@
 //! valuation, and how many tests keep each valuation that passes. How many ranges are the least that hold
 //! these it tells on standard error.
 //!
-//! With a number it makes 1,000 assignments, tests and joins over so many variables.
+//! With a number it makes 1,000 assignments, tests and joins over so many variables, and with `join` before
+//! the number 1,000 joins of two states of so many variables.
 #![tactic(auto)]
 
 mod exprs;
@@ -25,9 +26,16 @@ impl fmt::Display for Tally {
 }
 
 fn main(rt: HostRuntime) -> io::Result<()> {
+    let mut joins = false;
     for word in env::args(&rt)?.skip(1) {
+        joins = joins || word.as_str() == "join";
         if let Ok(count) = word.parse::<u64>() {
-            return match runs::run(rt.alloc(), count) {
+            let kept = if joins {
+                runs::join(rt.alloc(), count)
+            } else {
+                runs::run(rt.alloc(), count)
+            };
+            return match kept {
                 Ok(kept) => println!(rt; "{kept} variables"),
                 Err(_) => println!(rt; "out of memory"),
             };

@@ -47,3 +47,13 @@ pub fn run(alloc: Global, count: u64) -> Result<u64, NoMemory> {
     }
     Ok(count)
 }
+
+/// Joins two states of so many variables a thousand times.
+pub fn join(alloc: Global, count: u64) -> Result<u64, NoMemory> {
+    let mut state = filled(alloc, count)?;
+    let other = filled(alloc, count)?;
+    for _ in 0..TURNS {
+        state.join(&other)?;
+    }
+    Ok(count)
+}

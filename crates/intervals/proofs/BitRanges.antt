@@ -20,7 +20,7 @@ use Rattle.intervals.specs.Bits.{IsMaskAbove, flipped, of_sign}
 -- ---- sizes
 
 -- a number has at most as many bits as itself
-below_power : (n : ℕ) → n < 2 ^ n
+pub below_power : (n : ℕ) → n < 2 ^ n
 below_power zero = omega arith
 below_power (suc n) = let h = below_power n in let e : 2 ^ suc n ≡ 2 * 2 ^ n = pow-succ' 2 n in omega arith
 

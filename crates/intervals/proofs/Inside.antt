@@ -44,7 +44,7 @@ end_same Low x h k = absurd h
 end_same (Fin y) x h k = let same : y ≡ x = omega (arith, ints) in cc
 end_same High x h k = absurd k
 
-ends_in_order : (a : Interval) → AtMost (least_end a) (greatest_end a)
+pub ends_in_order : (a : Interval) → AtMost (least_end a) (greatest_end a)
 ends_in_order a =
     let n = number_between (least_end a) (greatest_end a) a.holds in
     AtMost_trans (least_end a) (Fin n.0) (greatest_end a) (AtMost-from_below (least_end a) n.0 n.1) (AtMost-from_above (greatest_end a) n.0 n.2)

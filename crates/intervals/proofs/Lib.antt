@@ -14,3 +14,8 @@ pub mod Widenings
 pub mod BitRanges
 pub mod ShiftRanges
 pub mod EachEnd
+pub mod BitBounds
+pub mod BitPoints
+pub mod LeftShifts
+pub mod ShiftBounds
+pub mod RemBounds

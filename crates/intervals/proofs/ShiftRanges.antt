@@ -1,61 +1,20 @@
 -- Bounds of shifts.
-use Rattle.std.proofs.Common.{◌≡◌, ℕ, ℤ, pos, negsuc, zero, suc, ◌/◌, ◌*◌, ◌%◌, ◌^◌, ◌<◌, ◌≤◌, ◌≤ℤ◌, ◌⊎◌, ⊎_elim, arith, sym, ◌∙◌, ap, subst, to_z, of_z, FitsSigned, true, false}
+use Rattle.std.proofs.Common.{◌≡◌, ℕ, ℤ, pos, negsuc, zero, suc, ◌+◌, ◌/◌, ◌*◌, ◌^◌, ◌<◌, ◌≤◌, ◌≤ℤ◌, ◌⊎◌, ⊎_elim, arith, refl, sym, ◌∙◌, ap, subst, to_z, of_z, FitsSigned, true, false}
 use Rattle.std.specs.Int.{int_div_euclid, int_min}
-use Rattle.std.specs.Int.Signed.{shr_z, lt_z, le_z}
-use Rattle.std.proofs.Math.IntN.{nat_abs}
-use Rattle.std.proofs.Math.Nat.{pow-le-pow_right, mod-eq_of_lt, one-mul, div-eq_of_lt, mul-div-le}
+use Rattle.std.specs.Int.Signed.{shr_z, lt_z}
+use Rattle.std.proofs.Math.Nat.{pow-le-pow_right, div-eq_of_lt, mul-div-le}
 use Rattle.std.proofs.Math.Pow.{shr_mono}
 use Rattle.std.proofs.lemmas.Nat.{le-div, pow_pos}
-use Rattle.std.proofs.lemmas.Int.{ints, to_z_pos, to_z-of_z}
+use Rattle.std.proofs.lemmas.Int.{ints, to_z-of_z}
 use mir.Syntax.{w128}
 use Rattle.ext_int.specs.declared.Ext.{Ext}
-use Rattle.ext_int.specs.declared.Ext.TheVariants.{Fin}
+use Rattle.ext_int.specs.declared.Ext.TheVariants.{Low, Fin, High}
 use Rattle.ext_int.specs.Ext.{Below, Above}
-
--- ---- powers of two
-
-pub power-bits : (k : ℕ) → k ≤ 126 → to_z w128 (1 * 2 ^ k % 2 ^ 128) ≡ pos (2 ^ k)
-power-bits k h =
-    let most : 2 ^ k ≤ 2 ^ 126 = pow-le-pow_right (omega arith) h in
-    ap (to_z w128) (mod-eq_of_lt (omega arith) ∙ one-mul (2 ^ k)) ∙ to_z_pos w128 (2 ^ k) (omega arith)
-
-powers : (j k : ℕ) → j ≤ k → pos (2 ^ j) ≤ℤ pos (2 ^ k)
-powers j k h = let most : 2 ^ j ≤ 2 ^ k = pow-le-pow_right (omega arith) h in omega (arith, ints)
-
-read : (r : ℤ) (j : ℕ) → FitsSigned w128 r → r ≡ pos (2 ^ j) → to_z w128 (of_z w128 r) ≡ pos (2 ^ j)
-read r j f e = to_z-of_z w128 r f ∙ e
-
--- the power of the least amount is at or below each
-pub power_below : (e : Ext) (n m r : ℤ) (k : ℕ) → e ≡ Fin n → FitsSigned w128 n → FitsSigned w128 m → FitsSigned w128 r → lt_z (pos 0) (to_z w128 (of_z w128 n)) ≡ true → m ≡ int_min (to_z w128 (of_z w128 n)) (pos 126) → r ≡ pos (2 ^ nat_abs (to_z w128 (of_z w128 m))) → Below e (pos k) → to_z w128 (of_z w128 r) ≤ℤ pos (2 ^ k)
-power_below e n m r k is f g h positive least power below =
-    let n_is = to_z-of_z w128 n f in
-    let m_is = to_z-of_z w128 m g in
-    let low : n ≤ℤ pos k = subst (λ (t : Ext). Below t (pos k)) is below in
-    let amount : m ≡ int_min n (pos 126) = subst (λ (z : ℤ). m ≡ int_min z (pos 126)) n_is least in
-    let above : lt_z (pos 0) n ≡ true = subst (λ (z : ℤ). lt_z (pos 0) z ≡ true) n_is positive in
-    let small : nat_abs m ≤ k = at_most n m k amount above low in
-    subst (λ (z : ℤ). z ≤ℤ pos (2 ^ k)) (sym (read r (nat_abs m) h (power ∙ ap (λ (z : ℤ). pos (2 ^ nat_abs z)) m_is))) (powers (nat_abs m) k small)
-  where
-    lesser_is : (n m : ℤ) → m ≡ int_min n (pos 126) → lt_z (pos 0) n ≡ true → (m ≤ℤ n) × (pos 0 ≤ℤ m)
-    lesser_is n m e h = (grind (arith, ints), grind (arith, ints))
-
-    size : (m : ℤ) (k : ℕ) → pos 0 ≤ℤ m → m ≤ℤ pos k → nat_abs m ≤ k
-    size (pos a) k h l = omega (arith, ints)
-    size (negsuc a) k h l = absurd (omega (arith, ints))
-
-    at_most : (n m : ℤ) (k : ℕ) → m ≡ int_min n (pos 126) → lt_z (pos 0) n ≡ true → n ≤ℤ pos k → nat_abs m ≤ k
-    at_most n m k e h l = let both = lesser_is n m e h in let low = both.0 in size m k both.1 (omega (arith, ints))
-
--- and that of the greatest is at or above each
-pub power_above : (e : Ext) (n r : ℤ) (k : ℕ) → e ≡ Fin n → FitsSigned w128 n → FitsSigned w128 r → le_z (pos 0) (to_z w128 (of_z w128 n)) ≡ true → r ≡ pos (2 ^ nat_abs (to_z w128 (of_z w128 n))) → Above e (pos k) → pos (2 ^ k) ≤ℤ to_z w128 (of_z w128 r)
-power_above e n r k is f h natural power above =
-    let n_is = to_z-of_z w128 n f in
-    let high : pos k ≤ℤ n = subst (λ (t : Ext). Above t (pos k)) is above in
-    subst (λ (z : ℤ). pos (2 ^ k) ≤ℤ z) (sym (read r (nat_abs n) h (power ∙ ap (λ (z : ℤ). pos (2 ^ nat_abs z)) n_is))) (powers k (nat_abs n) (size n k high))
-  where
-    size : (n : ℤ) (k : ℕ) → pos k ≤ℤ n → k ≤ nat_abs n
-    size (pos a) k h = omega (arith, ints)
-    size (negsuc a) k h = absurd (omega (arith, ints))
+use Rattle.intervals.specs.declared.Interval.{Interval}
+use Rattle.intervals.specs.Interval.{Admits, least_end, greatest_end}
+use Rattle.intervals.specs.Shifts.{IsAmount, AreQuotientsFrom, AreQuotientsUpTo}
+use Rattle.intervals.proofs.BitRanges.{above_down, below_up}
+use Rattle.intervals.proofs.Shifts.{shifted_right-is}
 
 -- ---- quotients by powers of two
 
@@ -133,3 +92,65 @@ same_sign e n m p q h = let same : n ≡ m = one (sym p ∙ q) in subst (λ (z :
   where
     one : {a b : ℤ} → Fin a ≡ Fin b → a ≡ b
     one e = cc
+
+-- ---- the quotient by an end's amount is one of the quotients
+
+itself : (j : ℕ) → pos j ≤ℤ pos j
+itself j = omega (arith, ints)
+
+quotient_by_amount : (n : ℤ) (j r : ℕ) → FitsSigned w128 n → pos r ≡ int_min (pos j) (pos 127) → shr_z n (2 ^ r) ≡ int_div_euclid n (pos (2 ^ j))
+quotient_by_amount n j r f e = let same = shifted_right-is n (pos j) (pos r) (shr_z n (2 ^ r)) f (omega (arith, ints)) e refl in cc
+
+no_amount : pos 0 ≡ int_min (pos 0) (pos 127)
+no_amount = refl
+
+last_amount : (k : ℕ) → pos 127 ≡ int_min (pos (k + 127)) (pos 127)
+last_amount k = grind (arith, ints)
+
+-- some amount of those between two ends leaves this quotient
+abbrev IsLeftBy : ℤ → Ext → Ext → ℕ → Type 0
+IsLeftBy n lo hi r = (j : ℕ) × Below lo (pos j) × Above hi (pos j) × (shr_z n (2 ^ r) ≡ int_div_euclid n (pos (2 ^ j)))
+
+by_none : (n : ℤ) (lo hi : Ext) (k r : ℕ) → FitsSigned w128 n → Above hi (pos k) → Below lo (pos 0) → r ≡ 0 → IsLeftBy n lo hi r
+by_none n lo hi k r f high low e = (0, low, above_down hi k 0 high (omega arith), quotient_by_amount n 0 r f (ap pos e ∙ no_amount))
+
+left_by_least : (n : ℤ) (lo hi : Ext) (k r : ℕ) → FitsSigned w128 n → Below lo (pos k) → Above hi (pos k) → IsAmount lo r → IsLeftBy n lo hi r
+left_by_least n Low hi k r f low high e = by_none n Low hi k r f high tt e
+left_by_least n (Fin (pos m)) hi k r f low high e = (m, itself m, above_down hi k m high (omega (arith, ints)), quotient_by_amount n m r f e)
+left_by_least n (Fin (negsuc m)) hi k r f low high e = by_none n (Fin (negsuc m)) hi k r f high (omega (arith, ints)) e
+left_by_least n High hi k r f low high e = absurd low
+
+left_by_most : (n : ℤ) (lo hi : Ext) (k r : ℕ) → FitsSigned w128 n → Below lo (pos k) → Above hi (pos k) → IsAmount hi r → IsLeftBy n lo hi r
+left_by_most n lo Low k r f low high e = absurd high
+left_by_most n lo (Fin (pos m)) k r f low high e = (m, below_up lo k m low (omega (arith, ints)), itself m, quotient_by_amount n m r f e)
+left_by_most n lo (Fin (negsuc m)) k r f low high e = absurd (omega (arith, ints))
+left_by_most n lo High k r f low high e = (k + 127, below_up lo k (k + 127) low (omega arith), tt, quotient_by_amount n (k + 127) r f (ap pos e ∙ last_amount k))
+
+-- the quotient that is read back
+abbrev pub IsOfAmounts : ℤ → ℤ → Interval → Type 0
+IsOfAmounts p r b = (j : ℕ) × Admits b (pos j) × (to_z w128 (of_z w128 r) ≡ int_div_euclid p (pos (2 ^ j)))
+
+module _ (e : Ext) (n p r : ℤ) (i k : ℕ) (b : Interval) (is : e ≡ Fin n) (at : e ≡ Fin p) (f : FitsSigned w128 n) (g : FitsSigned w128 r) (quotient : r ≡ shr_z (to_z w128 (of_z w128 n)) (2 ^ i)) (at_k : Admits b (pos k)) where
+  read_back : (lo hi : Ext) → IsLeftBy n lo hi i → (j : ℕ) × Below lo (pos j) × Above hi (pos j) × (to_z w128 (of_z w128 r) ≡ int_div_euclid p (pos (2 ^ j)))
+  read_back lo hi (j, low, high, left) =
+      let same : n ≡ p = one (sym is ∙ at) in
+      (j, low, high, to_z-of_z w128 r g ∙ quotient ∙ ap (λ (z : ℤ). shr_z z (2 ^ i)) (to_z-of_z w128 n f) ∙ left ∙ ap (λ (z : ℤ). int_div_euclid z (pos (2 ^ j))) same)
+    where
+      one : {a b : ℤ} → Fin a ≡ Fin b → a ≡ b
+      one e = cc
+
+  pub by_least_amount : IsAmount (least_end b) i → IsOfAmounts p r b
+  by_least_amount amount =
+      let found = read_back (least_end b) (greatest_end b) (left_by_least n (least_end b) (greatest_end b) k i f at_k.0 at_k.1 amount) in
+      (found.0, (found.1, found.2), found.3)
+
+  pub by_most_amount : IsAmount (greatest_end b) i → IsOfAmounts p r b
+  by_most_amount amount =
+      let found = read_back (least_end b) (greatest_end b) (left_by_most n (least_end b) (greatest_end b) k i f at_k.0 at_k.1 amount) in
+      (found.0, (found.1, found.2), found.3)
+
+pub from_below : (p r l : ℤ) (b : Interval) → IsOfAmounts p r b → AreQuotientsFrom l p b → l ≤ℤ to_z w128 (of_z w128 r)
+from_below p r l b (j, at, is) all = subst (λ (z : ℤ). l ≤ℤ z) (sym is) (all j at)
+
+pub from_above : (p r h : ℤ) (b : Interval) → IsOfAmounts p r b → AreQuotientsUpTo h p b → to_z w128 (of_z w128 r) ≤ℤ h
+from_above p r h b (j, at, is) all = subst (λ (z : ℤ). z ≤ℤ h) (sym is) (all j at)

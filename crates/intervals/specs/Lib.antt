@@ -5,3 +5,5 @@ pub mod Operations
 pub mod Widening
 pub mod Laws
 pub mod Bits
+pub mod Bounds
+pub mod Shifts

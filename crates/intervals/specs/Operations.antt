@@ -6,7 +6,7 @@ use Rattle.ext_int.specs.declared.Ext.{Ext}
 use Rattle.ext_int.specs.declared.Ext.TheVariants.{Low, Fin, High}
 use Rattle.ext_int.specs.Ext.{greater}
 use Rattle.num_api.specs.declared.expr.NOp.{NOp}
-use Rattle.num_api.specs.declared.expr.NOp.TheVariants.{Shl, Shr, And, Or, Xor, Eq, Ne, Lt, Le}
+use Rattle.num_api.specs.declared.expr.NOp.TheVariants.{Not, Shl, Shr, And, Or, Xor, Eq, Ne, Lt, Le}
 use Rattle.num_api.specs.Value.{unary_value, binary_value, truth}
 use Rattle.num_api.specs.Spans.{Span, FitsSpan, IsNotByZero, unary_span, binary_span, remainders}
 use Rattle.intervals.specs.declared.Interval.{Interval}
@@ -62,3 +62,8 @@ Decides Ne a b r = IsTests (may_differ a b) (may_equal a b) r
 Decides Lt a b r = IsTests (may_be_less a b) (may_be_at_most b a) r
 Decides Le a b r = IsTests (may_be_at_most a b) (may_be_less b a) r
 Decides op a b r = Unit {0}
+
+-- so a negation: 1 and 0 just as the interval may be 0 and another number
+abbrev pub DecidesOne : NOp → Interval → Interval → Type 0
+DecidesOne Not a r = ((zero : Interval) → IsPoint zero (pos 0) → IsTests (may_equal a zero) (may_differ a zero) r)
+DecidesOne op a r = Unit {0}

@@ -6,8 +6,9 @@
 ghost use Rattle.std.specs.Prelude.{◌≡◌, ℕ, ℤ, pos, negsuc, ◌<ℤ◌, Some, IfSome, IfNone, IsTrue, bit_and, bit_or, bit_xor};
 ghost use Rattle.ext_int.specs.Ext.{Below, Above, holds_number};
 ghost use Rattle.num_api.specs.Value.{binary_value, bits_without, bits_of_both, bits_of_either, bits_of_one};
-ghost use Rattle.intervals.specs.Interval.{Admits, least_end, greatest_end};
+ghost use Rattle.intervals.specs.Interval.{Admits, ends_of, least_end, greatest_end};
 ghost use Rattle.intervals.specs.Bits.{flipped, of_sign, IsMaskAbove, IsLogical};
+ghost use Rattle.intervals.specs.Bounds.{IsNatural, BitBounds, AndSizes, WithoutSizes, OrSizes, XorSizes, IsFlipped, IsSizes, signed};
 
 use crate::Interval;
 use crate::ends::is_range;
@@ -42,6 +43,7 @@ fn flip(end: Ext) -> Ext
 fn complement(i: Interval) -> Interval
     ensures holds { (m : ℕ) → Admits i (pos m) → Admits result (negsuc m) }
     ensures back { (m : ℕ) → Admits i (negsuc m) → Admits result (pos m) }
+    ensures flips { IsFlipped i result }
 {
     between(flip(i.hi), flip(i.lo))
 }
@@ -70,6 +72,7 @@ fn mask_above(end: Ext) -> Ext
 // The bits that both have.
 fn and_sizes(a: Interval, b: Interval) -> Interval
     ensures holds { (x y : ℕ) → Admits a (pos x) → Admits b (pos y) → Admits result (pos (bit_and x y)) }
+    ensures bounds { IsNatural (ends_of a) → IsNatural (ends_of b) → AndSizes a b result }
 {
     between(Ext::Fin(0), min(a.hi, b.hi))
 }
@@ -77,6 +80,7 @@ fn and_sizes(a: Interval, b: Interval) -> Interval
 // The bits that one of them has.
 fn or_sizes(a: Interval, b: Interval) -> Interval
     ensures holds { (x y : ℕ) → Admits a (pos x) → Admits b (pos y) → Admits result (pos (bit_or x y)) }
+    ensures bounds { IsNatural (ends_of a) → IsNatural (ends_of b) → OrSizes a b result }
 {
     between(max(a.lo, b.lo), mask_above(max(a.hi, b.hi)))
 }
@@ -84,6 +88,7 @@ fn or_sizes(a: Interval, b: Interval) -> Interval
 // The bits that exactly one of them has.
 fn xor_sizes(a: Interval, b: Interval) -> Interval
     ensures holds { (x y : ℕ) → Admits a (pos x) → Admits b (pos y) → Admits result (pos (bit_xor x y)) }
+    ensures bounds { IsNatural (ends_of a) → IsNatural (ends_of b) → XorSizes a b result }
 {
     between(Ext::Fin(0), mask_above(max(a.hi, b.hi)))
 }
@@ -91,6 +96,7 @@ fn xor_sizes(a: Interval, b: Interval) -> Interval
 // The bits of the first that the second has not.
 fn without_sizes(a: Interval, b: Interval) -> Interval
     ensures holds { (x y : ℕ) → Admits a (pos x) → Admits b (pos y) → Admits result (pos (bits_without x y)) }
+    ensures bounds { IsNatural (ends_of a) → IsNatural (ends_of b) → WithoutSizes a result }
 {
     between(Ext::Fin(0), a.hi)
 }
@@ -100,6 +106,8 @@ fn without_sizes(a: Interval, b: Interval) -> Interval
 // The bits that both numbers have.
 fn both(minus_a: bool, a: Interval, minus_b: bool, b: Interval) -> Interval
     ensures holds { (x y : ℕ) → Admits a (pos x) → Admits b (pos y) → Admits result (bits_of_both (of_sign minus_a x) (of_sign minus_b y)) }
+    ensures bounds { IsNatural (ends_of a) → IsNatural (ends_of b) → BitBounds NOp.And (signed minus_a (ends_of a)) (signed minus_b (ends_of b))
+        (ends_of result) }
 {
     match (minus_a, minus_b) {
         (false, false) => and_sizes(a, b),
@@ -112,6 +120,8 @@ fn both(minus_a: bool, a: Interval, minus_b: bool, b: Interval) -> Interval
 // The bits that one of the numbers has.
 fn either(minus_a: bool, a: Interval, minus_b: bool, b: Interval) -> Interval
     ensures holds { (x y : ℕ) → Admits a (pos x) → Admits b (pos y) → Admits result (bits_of_either (of_sign minus_a x) (of_sign minus_b y)) }
+    ensures bounds { IsNatural (ends_of a) → IsNatural (ends_of b) → BitBounds NOp.Or (signed minus_a (ends_of a)) (signed minus_b (ends_of b))
+        (ends_of result) }
 {
     match (minus_a, minus_b) {
         (false, false) => or_sizes(a, b),
@@ -124,6 +134,8 @@ fn either(minus_a: bool, a: Interval, minus_b: bool, b: Interval) -> Interval
 // The bits that exactly one of the numbers has.
 fn one(minus_a: bool, a: Interval, minus_b: bool, b: Interval) -> Interval
     ensures holds { (x y : ℕ) → Admits a (pos x) → Admits b (pos y) → Admits result (bits_of_one (of_sign minus_a x) (of_sign minus_b y)) }
+    ensures bounds { IsNatural (ends_of a) → IsNatural (ends_of b) → BitBounds NOp.Xor (signed minus_a (ends_of a)) (signed minus_b (ends_of b))
+        (ends_of result) }
 {
     let sizes = xor_sizes(a, b);
     if minus_a == minus_b {
@@ -137,6 +149,8 @@ fn one(minus_a: bool, a: Interval, minus_b: bool, b: Interval) -> Interval
 fn of_signs(op: NOp, minus_a: bool, a: Interval, minus_b: bool, b: Interval) -> Interval
     ensures holds { (x y : ℕ) (n : ℤ) → IsLogical op → Admits a (pos x) → Admits b (pos y) → binary_value op (of_sign minus_a x) (of_sign minus_b y) ≡ Some n
         → Admits result n }
+    ensures bounds { IsLogical op → IsNatural (ends_of a) → IsNatural (ends_of b) → BitBounds op (signed minus_a (ends_of a)) (signed minus_b (ends_of b))
+        (ends_of result) }
 {
     match op {
         NOp::And => both(minus_a, a, minus_b, b),
@@ -150,6 +164,7 @@ fn of_signs(op: NOp, minus_a: bool, a: Interval, minus_b: bool, b: Interval) -> 
 fn sizes(minus: bool, a: &Interval) -> Option<Interval>
     ensures some { IfSome result (λ i. (x : ℕ) → Admits a.now (of_sign minus x) → Admits i (pos x)) }
     ensures none { IfNone result ((x : ℕ) → Admits a.now (of_sign minus x) → ⊥) }
+    ensures bounds { IfSome result (λ i. IsSizes minus a.now i) }
 {
     if minus {
         match a.part(Ext::Low, Ext::Fin(-1)) {
@@ -164,6 +179,7 @@ fn sizes(minus: bool, a: &Interval) -> Option<Interval>
 // What an operator makes of the numbers of one sign and the interval.
 fn of_sizes(op: NOp, minus: bool, a: Interval, b: &Interval) -> Interval
     ensures holds { (x : ℕ) (y n : ℤ) → IsLogical op → Admits a (pos x) → Admits b.now y → binary_value op (of_sign minus x) y ≡ Some n → Admits result n }
+    ensures bounds { IsLogical op → IsNatural (ends_of a) → BitBounds op (signed minus (ends_of a)) (ends_of b.now) (ends_of result) }
 {
     match (sizes(true, b), sizes(false, b)) {
         (Some(below), Some(above)) => of_signs(op, minus, a, true, below).hull(of_signs(
@@ -179,6 +195,7 @@ fn of_sizes(op: NOp, minus: bool, a: Interval, b: &Interval) -> Interval
 pub fn logical(op: NOp, a: &Interval, b: &Interval) -> Interval
     requires { IsLogical op }
     ensures holds { (x y n : ℤ) → Admits a.now x → Admits b.now y → binary_value op x y ≡ Some n → Admits result n }
+    ensures bounds { BitBounds op (ends_of a.now) (ends_of b.now) (ends_of result) }
 {
     match (sizes(true, a), sizes(false, a)) {
         (Some(below), Some(above)) => of_sizes(op, true, below, b).hull(of_sizes(

@@ -9,7 +9,7 @@ ghost use mir.Syntax.{w128};
 
 use num_api::NOp;
 
-// The operator's value, where it is an `i128`.
+/// What `And`, `Or`, `Xor`, `Shl` or `Shr` gives at two numbers, where it gives an `i128`.
 pub fn bitwise(op: NOp, x: i128, y: i128) -> Option<i128>
     requires { IsBitwise op }
     ensures some { IfSome result (λ n. binary_value op x y ≡ Some n) }
@@ -45,7 +45,7 @@ fn one(x: i128, y: i128) -> i128
 
 // The product by a power of two, where the amount is not negative and the product is an `i128`. By
 // 2^128 and more only 0 has one.
-fn shift_left(x: i128, amount: i128) -> Option<i128>
+pub fn shift_left(x: i128, amount: i128) -> Option<i128>
     ensures some { IfSome result (λ n. shifted_left x amount ≡ Some n) }
     ensures none { IfNone result ((n : ℤ) → shifted_left x amount ≡ Some n → FitsSigned w128 n → ⊥) }
 {

@@ -4,9 +4,10 @@ ghost use Rattle.std.specs.Prelude.{◌≡◌, ℤ, ◌≤◌, ◌<◌, IsTrue, 
 ghost use Rattle.std.specs.Int.RustNames.{FitsSigned};
 ghost use mir.Syntax.{w128};
 ghost use Rattle.num_api.specs.Ranges.{IsPoint, NoWider};
-ghost use Rattle.num_api.specs.Spans.{Span, FitsSpan, IsNotByZero, range_of, binary_span};
-ghost use Rattle.num_api.specs.Value.{binary_value};
-ghost use Rattle.intervals.specs.Operations.{Decides};
+ghost use Rattle.num_api.specs.Spans.{Span, FitsSpan, IsNotByZero, range_of, unary_span, binary_span};
+ghost use Rattle.num_api.specs.Value.{unary_value, binary_value};
+ghost use Rattle.intervals.specs.Operations.{Decides, DecidesOne};
+ghost use Rattle.intervals.specs.Bounds.{IsBounded};
 ghost use Rattle.num_api.specs.Weight.{range_weight};
 ghost use Rattle.ramps.specs.Told.{Keeps};
 ghost use Rattle.intervals.specs.Interval.{Admits, least_end, greatest_end, ends_of, class_of};
@@ -70,11 +71,19 @@ impl ValueDomain for Interval {
         }
     }
 
-    fn unary(op: NOp, a: &Self) -> Self {
+    /// `Not` is 0, 1 or both just as the range decides it.
+    fn unary(op: NOp, a: &Self) -> Self
+        ensures holds { (x n : ℤ) → Admits a.now x → unary_value op x ≡ Some n → Admits result n }
+        ensures point { (x n : ℤ) → IsTrue true → IsPoint (ends_of a.now) x → unary_value op x ≡ Some n → FitsSigned w128 n → IsPoint (ends_of result) n }
+        ensures plain { (s r : Span) → IsTrue true → NoWider (ends_of a.now) (range_of s) → FitsSpan s → unary_span op s ≡ Some r → FitsSpan r
+            → NoWider (ends_of result) (range_of r) }
+        ensures decides { DecidesOne op a.now result }
+    {
         unary(op, a)
     }
 
-    /// Comparisons are 0, 1 or both just as the two ranges decide them.
+    /// Comparisons are 0, 1 or both just as the two ranges decide them. The operators on bits, shifts and
+    /// remainders leave no more open than their operands' bounds do.
     fn binary(op: NOp, a: &Self, b: &Self) -> Self
         ensures holds { (x y n : ℤ) → Admits a.now x → Admits b.now y → binary_value op x y ≡ Some n → Admits result n }
         ensures point { (x y n : ℤ) → IsTrue true → IsPoint (ends_of a.now) x → IsPoint (ends_of b.now) y → binary_value op x y ≡ Some n → FitsSigned w128 n
@@ -82,6 +91,7 @@ impl ValueDomain for Interval {
         ensures plain { (s t r : Span) → IsTrue true → IsNotByZero op (ends_of b.now) → NoWider (ends_of a.now) (range_of s) → FitsSpan s
             → NoWider (ends_of b.now) (range_of t) → FitsSpan t → binary_span op s t ≡ Some r → FitsSpan r → NoWider (ends_of result) (range_of r) }
         ensures decides { Decides op a.now b.now result }
+        ensures bounds { IsBounded op a.now b.now result }
     {
         binary(op, a, b)
     }

@@ -5,8 +5,9 @@
 //! any interval and [7, 7] lies in [0, 7], and [5, 7] % [10, 10] is [5, 7].
 //!
 //! What an interval admits stands in `specs/Interval.antt`, what operators leave in `specs/Operations.antt`,
-//! `specs/Bits.antt` and `specs/Corners.antt`, and the laws in `specs/Laws.antt`. The calls of `Interval`
-//! promise them, and those of `ValueDomain`, whose laws `num_api` has.
+//! `specs/Bits.antt` and `specs/Corners.antt`, how much they may leave open in `specs/Bounds.antt`, and the
+//! laws in `specs/Laws.antt`. The calls of `Interval` promise them, and those of `ValueDomain`, whose laws
+//! `num_api` has.
 #![tactic(auto)]
 
 ghost use Rattle.std.specs.Prelude.{IsTrue};
@@ -21,6 +22,8 @@ mod ends;
 mod operators;
 mod shift_ranges;
 mod widening;
+
+pub use bits::bitwise;
 
 use ends::{
     greatest_product, greatest_quotient, is_range, least_product, least_quotient, sub_high, sub_low,

@@ -1,11 +1,12 @@
 //! What each operator makes of intervals.
 
-ghost use Rattle.std.specs.Prelude.{◌≡◌, ℤ, pos, neg_ℤ, ◌≤ℤ◌, ◌<ℤ◌, ◌||◌, ◌⊎◌, int_rem, Some, IsTrue, IfSome, IfNone};
+ghost use Rattle.std.specs.Prelude.{◌≡◌, ◌≢◌, false, ℤ, pos, neg_ℤ, ◌≤ℤ◌, ◌<ℤ◌, ◌||◌, ◌⊎◌, int_rem, Some, IsTrue, IfSome, IfNone};
 ghost use Rattle.num_api.specs.Value.{binary_value};
 ghost use Rattle.ext_int.specs.Ext.{Above};
-ghost use Rattle.intervals.specs.Interval.{Admits, IsPoint};
+ghost use Rattle.intervals.specs.Interval.{Admits, IsPoint, IsFinite};
+ghost use Rattle.intervals.specs.Bounds.{IsBounded, RemBounds, SideBounds, AreSmaller};
 ghost use Rattle.intervals.specs.Order.{is_at_most, is_before, may_equal, may_differ, may_be_less, may_be_at_most};
-ghost use Rattle.intervals.specs.Operations.{CarriesOne, Carries, Decides, IsBitwise, IsTests, HoldsRemainders, size_less_one, greatest_remainder};
+ghost use Rattle.intervals.specs.Operations.{CarriesOne, Carries, Decides, DecidesOne, IsBitwise, IsTests, HoldsRemainders, size_less_one, greatest_remainder};
 
 use crate::Interval;
 use crate::bit_ranges::logical;
@@ -27,7 +28,8 @@ pub fn all_numbers() -> Interval
 
 // What an operator of one operand makes of the interval.
 pub fn unary(op: NOp, a: &Interval) -> Interval
-    ensures { CarriesOne op a.now result }
+    ensures carries { CarriesOne op a.now result }
+    ensures decides { DecidesOne op a.now result }
 {
     match op {
         NOp::Neg => a.neg(),
@@ -43,6 +45,7 @@ pub fn unary(op: NOp, a: &Interval) -> Interval
 pub fn binary(op: NOp, a: &Interval, b: &Interval) -> Interval
     ensures carries { Carries op a.now b.now result }
     ensures decides { Decides op a.now b.now result }
+    ensures bounds { IsBounded op a.now b.now result }
 {
     match op {
         NOp::Neg | NOp::Not => all_numbers(),
@@ -73,7 +76,8 @@ pub fn number(a: &Interval) -> Option<i128>
 // The value of an operator on bits where both are points, and else the range of its values.
 fn of_bits(op: NOp, a: &Interval, b: &Interval) -> Interval
     requires { IsBitwise op }
-    ensures { Carries op a.now b.now result }
+    ensures carries { Carries op a.now b.now result }
+    ensures bounds { IsBounded op a.now b.now result }
 {
     match (number(a), number(b)) {
         (Some(x), Some(y)) => match bitwise(op, x, y) {
@@ -88,6 +92,7 @@ fn of_bits(op: NOp, a: &Interval, b: &Interval) -> Interval
 fn range_of_bits(op: NOp, a: &Interval, b: &Interval) -> Interval
     requires { IsBitwise op }
     ensures holds { (x y n : ℤ) → Admits a.now x → Admits b.now y → binary_value op x y ≡ Some n → Admits result n }
+    ensures bounds { IsBounded op a.now b.now result }
 {
     match op {
         NOp::And | NOp::Or | NOp::Xor => logical(op, a, b),
@@ -101,7 +106,8 @@ fn range_of_bits(op: NOp, a: &Interval, b: &Interval) -> Interval
 
 // The remainders by the divisors other than 0. Where 0 is the only one it may be any interval, and is 0.
 fn remainder(a: &Interval, b: &Interval) -> Interval
-    ensures { Carries NOp.Rem a.now b.now result }
+    ensures carries { Carries NOp.Rem a.now b.now result }
+    ensures bounds { RemBounds a.now b.now result }
 {
     match (number(a), number(b)) {
         (Some(x), Some(y)) if y != 0 => Interval::point(x.wrapping_rem(y)),
@@ -112,7 +118,8 @@ fn remainder(a: &Interval, b: &Interval) -> Interval
 // The dividends themselves where each is of less size than each divisor, and else the numbers that `remainders`
 // leaves.
 fn narrowed_remainders(a: &Interval, b: &Interval) -> Interval
-    ensures { HoldsRemainders a.now b.now result }
+    ensures holds { HoldsRemainders a.now b.now result }
+    ensures bounds { RemBounds a.now b.now result }
 {
     let loose = remainders(a, b);
     if !is_smaller(a, b) {
@@ -126,7 +133,8 @@ fn narrowed_remainders(a: &Interval, b: &Interval) -> Interval
 
 // Whether each number of the first is of less size than each of the second.
 fn is_smaller(a: &Interval, b: &Interval) -> bool
-    ensures { IsTrue result → (x y : ℤ) → Admits a.now x → Admits b.now y → int_rem x y ≡ x }
+    ensures same { IsTrue result → (x y : ℤ) → Admits a.now x → Admits b.now y → int_rem x y ≡ x }
+    ensures other { result ≡ false → IsFinite a.now → AreSmaller a.now b.now → ⊥ }
 {
     match (a.lo, a.hi, least_size(b)) {
         (Ext::Fin(lo), Ext::Fin(hi), Some(size)) => size < minus_size(lo) && size < minus_size(hi),
@@ -136,7 +144,9 @@ fn is_smaller(a: &Interval, b: &Interval) -> bool
 
 // The least size of a divisor, below 0, where 0 is none.
 fn least_size(b: &Interval) -> Option<i128>
-    ensures { IfSome result (λ s. (s <ℤ pos 0) × ((y : ℤ) → Admits b.now y → (y ≤ℤ s) ⊎ (neg_ℤ s ≤ℤ y))) }
+    ensures far { IfSome result (λ s. (s <ℤ pos 0) × ((y : ℤ) → Admits b.now y → (y ≤ℤ s) ⊎ (neg_ℤ s ≤ℤ y))) }
+    ensures reached { IfSome result (λ s. Admits b.now s ⊎ Admits b.now (neg_ℤ s)) }
+    ensures none { IfNone result (Admits b.now (pos 0)) }
 {
     match b.lo {
         Ext::Fin(lo) if lo > 0 => Some(-lo),
@@ -146,7 +156,9 @@ fn least_size(b: &Interval) -> Option<i128>
 
 // The number of an upper end below 0.
 fn size_from(hi: Ext) -> Option<i128>
-    ensures { IfSome result (λ s. (s <ℤ pos 0) × ((y : ℤ) → Above hi y → y ≤ℤ s)) }
+    ensures far { IfSome result (λ s. (s <ℤ pos 0) × ((y : ℤ) → Above hi y → y ≤ℤ s)) }
+    ensures reached { IfSome result (λ s. hi ≡ Ext.Fin s) }
+    ensures none { IfNone result (hi ≢ Ext.Low → Above hi (pos 0)) }
 {
     match hi {
         Ext::Fin(n) if n < 0 => Some(n),
@@ -158,6 +170,7 @@ fn size_from(hi: Ext) -> Option<i128>
 fn minus_size(n: i128) -> i128
     ensures low { result ≤ℤ n }
     ensures high { n ≤ℤ neg_ℤ result }
+    ensures reached { (result ≡ n) ⊎ (result ≡ neg_ℤ n) }
 {
     if n > 0 { -n } else { n }
 }
@@ -165,7 +178,8 @@ fn minus_size(n: i128) -> i128
 // The numbers on the dividend's side of 0 that are no further from it than the dividend, nor than one less
 // than the greatest size of a divisor.
 fn remainders(a: &Interval, b: &Interval) -> Interval
-    ensures { HoldsRemainders a.now b.now result }
+    ensures holds { HoldsRemainders a.now b.now result }
+    ensures bounds { SideBounds a.now b.now result }
 {
     let most = most_remainder(b);
     Interval {

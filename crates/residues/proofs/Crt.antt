@@ -325,7 +325,7 @@ pub lies_in_itself : (r : Residue) → LiesIn r r
 lies_in_itself r = record { divides = self_multiple r.modulus; contains = in_itself r.rem r.modulus }
 
 -- a number in both, whatever its size
-some_number : (a b : Residue) (g : ℤ) → SharesBy a b g → (x : ℤ) × InResidue a x × InResidue b x
+pub some_number : (a b : Residue) (g : ℤ) → SharesBy a b g → (x : ℤ) × InResidue a x × InResidue b x
 some_number a b g d = from d.shares d.divisor.combined
   where
     from : IsMultiple g (b.rem -ℤ a.rem) → (x : ℤ) × (y : ℤ) × (g ≡ (x *ℤ a.modulus) +ℤ (y *ℤ b.modulus)) → (x : ℤ) × InResidue a x × InResidue b x

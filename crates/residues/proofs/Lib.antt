@@ -9,3 +9,5 @@ pub mod Crt
 pub mod Inward
 pub mod Pointed
 pub mod LowBits
+pub mod ClassBounds
+pub mod Keeping

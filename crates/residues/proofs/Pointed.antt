@@ -11,6 +11,7 @@ use Rattle.num_api.specs.Residues.{class_of, InResidue, IsFoldResidue}
 use Rattle.num_api.proofs.Multiples.{multiple_along, multiple_add, multiple_times, zero_multiple}
 use Rattle.num_api.specs.Spans.{point, range_of}
 use Rattle.residues.specs.Inward.{HasSome}
+use Rattle.residues.proofs.Keeping.{in_all}
 
 pub only : (r : Range) (n m : ℤ) → IsPoint r n → InRange r m → m ≡ n
 only r n m p h =
@@ -40,3 +41,11 @@ at_point r n e = record { low = ap (λ (s : Range). s.lo) e; high = ap (λ (s : 
 pub if_none_map : {A : Type 0} {X Y : Type 0} (o : Option A) → (X → Y) → IfNone o X → IfNone o Y
 if_none_map None f h = f h
 if_none_map (Some a) f h = h
+
+-- so it is where the class before was that of all numbers
+pub fold_of_any : {W : Type 0} (class : W → Residue) (c : ℤ) (before after : W) (r : Range) {folds : Bool} → IsTrue folds → (class before).modulus ≡ pos 1 → (after ≡ before) ⊎ ((n : ℤ) × IsPoint r n × (IsTrue folds → class after ≡ class_of n (pos 0))) → IsFoldResidue c (class before) → IsFoldResidue c (class after)
+fold_of_any class c before after r t one which h =
+    ⊎_elim
+    (λ e. subst (λ w. IsFoldResidue c (class w)) (sym e) h)
+    (λ (n, p, e). subst (IsFoldResidue c) (sym (e t)) (fold_of_member c n (class before) h (in_all (class before) n one)))
+    which

@@ -88,3 +88,10 @@ pub record IsJoin (a b s : Residue) : Type 0 where
 -- the two numbers lie further apart than 2^100
 abbrev pub IsFarApart : ℤ → ℤ → Type 0
 IsFarApart x y = (pos (2 ^ 100) <ℤ (x -ℤ y)) ⊎ ((x -ℤ y) <ℤ neg_ℤ (pos (2 ^ 100)))
+
+-- some number is in both classes; none is
+abbrev pub HaveCommon : Residue → Residue → Type 0
+HaveCommon a b = (n : ℤ) × InResidue a n × InResidue b n
+
+abbrev pub AreApart : Residue → Residue → Type 0
+AreApart a b = (n : ℤ) → InResidue a n → InResidue b n → ⊥

@@ -4,3 +4,4 @@ pub mod Inward
 pub mod Pair
 pub mod Laws
 pub mod LowBits
+pub mod ClassBounds

@@ -80,11 +80,12 @@ impl Class {
 impl ValueDomain for Class {
     ghost use Rattle.residues.specs.Class.{residue_of, range_of_class, holds_class, class_weight};
     ghost use Rattle.num_api.specs.Residues.{InResidue};
-    ghost use Rattle.residues.specs.Classes.{IsJoin, LiesIn, Meets};
+    ghost use Rattle.residues.specs.Classes.{IsJoin, LiesIn, Meets, HaveCommon};
     ghost use Rattle.residues.specs.Laws.{in_range_of_class};
     ghost use Rattle.num_api.specs.Fold.{IsAlignment};
     ghost use Rattle.num_api.specs.Residues.{class_of, IsFoldResidue, IsMultiple};
-    ghost use Rattle.num_api.specs.Value.{binary_value};
+    ghost use Rattle.num_api.specs.Value.{unary_value, binary_value};
+    ghost use Rattle.residues.specs.ClassBounds.{ClassBounds, NegationBounds};
     ghost use Rattle.num_api.specs.declared.expr.NOp.TheVariants.{Add, Mul};
     ghost use Rattle.std.specs.Prelude.{IsTrue, Some};
     ghost use Rattle.std.specs.Int.RustNames.{FitsSigned};
@@ -131,11 +132,16 @@ impl ValueDomain for Class {
         self.residue
     }
 
-    fn unary(op: NOp, a: &Self) -> Self {
+    /// `Neg` keeps the step.
+    fn unary(op: NOp, a: &Self) -> Self
+        ensures holds { (x n : ℤ) → InResidue (residue_of a.now) x → unary_value op x ≡ Some n → InResidue (residue_of result) n }
+        ensures bounds { NegationBounds op (residue_of a.now) (residue_of result) }
+    {
         unary(op, *a)
     }
 
-    /// At two numbers the class of the value, where that is an `i128`.
+    /// At two numbers the class of the value, where that is an `i128`. Sums, differences, products, shifts by one
+    /// amount and remainders keep each step that the operands give, the operators on bits the low bits.
     fn binary(op: NOp, a: &Self, b: &Self) -> Self
         ensures holds { (x y n : ℤ) → InResidue (residue_of a.now) x → InResidue (residue_of b.now) y → binary_value op x y
             ≡ Some n → InResidue (residue_of result) n }
@@ -148,16 +154,18 @@ impl ValueDomain for Class {
         ensures numbers { (x y n : ℤ) → residue_of a.now ≡ class_of x (pos 0) → residue_of b.now ≡ class_of y (pos 0) → binary_value op x y ≡ Some n
             → FitsSigned w128 n
             → residue_of result ≡ class_of n (pos 0) }
+        ensures bounds { ClassBounds op (residue_of a.now) (residue_of b.now) (residue_of result) }
     {
         binary(op, *a, *b)
     }
 
     /// Exactly the numbers that are in both, where a class of them has a modulus of at most 2^100,
-    /// and else those of the first.
+    /// and else those of the first; `None` exactly where there is none.
     fn meet(&self, other: &Self) -> Option<Self>
         ensures some { IfSome result (λ c. (n : ℤ) → InResidue (residue_of self.now) n → InResidue (residue_of other.now) n → InResidue (residue_of c) n) }
         ensures none { IfNone result ((n : ℤ) → InResidue (residue_of self.now) n → InResidue (residue_of other.now) n → ⊥) }
         ensures meets { IfSome result (λ c. Meets (residue_of self.now) (residue_of other.now) (residue_of c)) }
+        ensures common { IfSome result (λ _. HaveCommon (residue_of self.now) (residue_of other.now)) }
     {
         met(*self, *other)
     }

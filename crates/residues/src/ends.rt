@@ -50,6 +50,9 @@ fn moved(c: Residue, r: Range) -> Range
     requires { IsResidue c }
     ensures { result ≡ moved_range c r }
 {
+    if c.modulus == 1 {
+        return r;
+    }
     Range {
         lo: moved_low(c, r.lo),
         hi: moved_high(c, r.hi),

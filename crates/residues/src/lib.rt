@@ -9,8 +9,10 @@
 //! 8; and the join of 4 and 8 is 0 up to multiples of 4.
 //!
 //! specs/Class.antt and specs/Classes.antt say what classes are, specs/Pair.antt and specs/Inward.antt
-//! what pairs are. The laws are promised by `ValueDomain` at `Class` and `Pair`; at `Class` beside them
-//! that `meet` is exact, that `join` and `widen` are least, and that an operator is exact on two numbers.
+//! what pairs are, specs/ClassBounds.antt how much operators leave open. The laws are promised by
+//! `ValueDomain` at `Class` and `Pair`; at `Class` beside them that `meet` is exact, that `join` and `widen`
+//! are least, that an operator is exact on two numbers and keeps steps and low bits; at `Pair` that the
+//! bounds that are kept are the range's, and that classes decide equality.
 #![tactic(auto)]
 
 mod class;

@@ -17,6 +17,9 @@ pub fn remainder(n: i128, modulus: i128) -> i128
     ensures low { pos 0 ≤ℤ result }
     ensures high { result <ℤ modulus }
 {
+    if modulus == 1 {
+        return 0;
+    }
     n.rem_euclid(modulus)
 }
 

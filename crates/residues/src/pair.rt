@@ -1,9 +1,11 @@
 // Pairs of a range domain and a class domain.
 
-ghost use Rattle.std.specs.Prelude.{◌≡◌, ℤ, pos, ◌+◌, ◌&&◌, ◌⊎◌, IsTrue, Some, IfSome, IfNone};
+ghost use Rattle.std.specs.Prelude.{◌≡◌, ℤ, pos, ◌+◌, ◌&&◌, ◌⊎◌, IsTrue, false, Some, IfSome, IfNone};
 ghost use Rattle.num_api.specs.Ranges.{InRange, IsPoint, NoWider, holds_some};
 ghost use Rattle.num_api.specs.Value.{binary_value};
-ghost use Rattle.num_api.specs.Residues.{class_of, IsResidue, IsFoldResidue};
+ghost use Rattle.num_api.specs.Residues.{class_of, InResidue, IsResidue, IsFoldResidue};
+ghost use Rattle.residues.specs.Classes.{HaveCommon, AreApart};
+ghost use Rattle.residues.specs.Pair.{IsEquality};
 ghost use Rattle.residues.specs.Inward.{moved_range, HasSome, IsReduced};
 
 use crate::Class;
@@ -23,7 +25,8 @@ pub struct Pair<V, W> {
 
 // What a test for equality answers of two numbers that are not equal.
 fn answer_apart(op: NOp) -> Option<i128>
-    ensures { IfSome result (λ n. (x y m : ℤ) → (x ≡ y → ⊥) → binary_value op x y ≡ Some m → m ≡ n) }
+    ensures some { IfSome result (λ n. (x y m : ℤ) → (x ≡ y → ⊥) → binary_value op x y ≡ Some m → m ≡ n) }
+    ensures none { IfNone result (IsEquality op → ⊥) }
 {
     match op {
         NOp::Eq => Some(0),
@@ -32,17 +35,35 @@ fn answer_apart(op: NOp) -> Option<i128>
     }
 }
 
+// Whether no number is in both classes.
+fn are_apart(a: Residue, b: Residue) -> bool
+    requires first { IsResidue a }
+    requires second { IsResidue b }
+    ensures apart { IsTrue result → AreApart a b }
+    ensures common { result ≡ false → HaveCommon a b }
+{
+    match Class::new(a).meet(&Class::new(b)) {
+        Some(_) => false,
+        None => true,
+    }
+}
+
 // The operator's values, where a test for equality is decided by classes that share no number.
-fn told_apart<V: ValueDomain, W: ValueDomain>(op: NOp, values: V, a: &W, b: &W) -> V
-    ensures holds { (x y n : ℤ) → W.admits a.now x → W.admits b.now y → binary_value op x y ≡ Some n → V.admits values n → V.admits result n }
+fn told_apart<V: ValueDomain>(op: NOp, values: V, a: Residue, b: Residue) -> V
+    requires first { IsResidue a }
+    requires second { IsResidue b }
+    ensures holds { (x y n : ℤ) → InResidue a x → InResidue b y → binary_value op x y ≡ Some n → V.admits values n → V.admits result n }
     ensures plain { IsTrue V.exact → NoWider (V.known result) (V.known values) }
+    ensures apart { (x y n : ℤ) → IsTrue V.exact → IsEquality op → AreApart a b → InResidue a x → InResidue b y → binary_value op x y ≡ Some n
+        → V.admits values n → IsPoint (V.known result) n }
 {
     let Some(n) = answer_apart(op) else {
         return values;
     };
-    match a.meet(b) {
-        Some(_) => values,
-        None => at_number(values, n),
+    if are_apart(a, b) {
+        at_number(values, n)
+    } else {
+        values
     }
 }
 
@@ -50,6 +71,7 @@ fn told_apart<V: ValueDomain, W: ValueDomain>(op: NOp, values: V, a: &W, b: &W) 
 fn at_number<V: ValueDomain>(value: V, n: i128) -> V
     ensures holds { V.admits value n → V.admits result n }
     ensures plain { IsTrue V.exact → NoWider (V.known result) (V.known value) }
+    ensures point { IsTrue V.exact → V.admits value n → IsPoint (V.known result) n }
 {
     let Some(point) = V::within(Range::point(n)) else {
         return value;
@@ -61,7 +83,7 @@ fn at_number<V: ValueDomain>(value: V, n: i128) -> V
 }
 
 impl<V: ValueDomain, W: ValueDomain> Pair<V, W> {
-    ghost use Rattle.residues.specs.Pair.{bounds_part, class_part, IsInBoth, range_of_pair};
+    ghost use Rattle.residues.specs.Pair.{bounds_part, class_part, IsInBoth, range_of_pair, KeepsItsRange};
 
     /// The numbers that are in both, with the bounds moved inward; `None` only where there is none.
     pub fn new(v: V, w: W) -> Option<Pair<V, W>>
@@ -70,6 +92,7 @@ impl<V: ValueDomain, W: ValueDomain> Pair<V, W> {
         ensures class { IfSome result (λ p. class_part p ≡ w) }
         ensures shares { IfSome result (λ p. HasSome (range_of_pair V.known W.class p) (W.class (class_part p))) }
         ensures plain { IfSome result (λ p. IsTrue V.exact → NoWider (range_of_pair V.known W.class p) (V.known v)) }
+        ensures keeps { IfSome result (λ p. IsTrue V.exact → KeepsItsRange V.known W.class p) }
     {
         let loose = Pair {
             bounds: v,
@@ -87,6 +110,8 @@ impl<V: ValueDomain, W: ValueDomain> Pair<V, W> {
         ensures shares { IfSome result (λ p. HasSome (range_of_pair V.known W.class p) (W.class (class_part p))) }
         ensures plain { IfSome result (λ p. IsTrue V.exact → NoWider (range_of_pair V.known W.class p) (V.known (bounds_part self.now))) }
         ensures bounds { IfSome result (λ p. IsTrue V.exact → NoWider (V.known (bounds_part p)) (V.known (bounds_part self.now))) }
+        ensures keeps { IfSome result (λ p. IsTrue V.exact → KeepsItsRange V.known W.class p) }
+        ensures loose { IfNone result (IsTrue V.exact → KeepsItsRange V.known W.class self.now) }
     {
         if !self.shares() {
             return None;
@@ -104,11 +129,22 @@ impl<V: ValueDomain, W: ValueDomain> Pair<V, W> {
         ensures folds { (c : ℤ) → IsTrue W.folds → IsFoldResidue c (W.class (class_part self.now)) → IsFoldResidue c (W.class (class_part result)) }
         ensures plain { IsTrue V.exact → NoWider (range_of_pair V.known W.class result) (V.known (bounds_part self.now)) }
         ensures point { (x : ℤ) → IsTrue V.exact → IsPoint (V.known (bounds_part self.now)) x → IsPoint (range_of_pair V.known W.class result) x }
+        ensures keeps { IsTrue V.exact → KeepsItsRange V.known W.class result }
     {
+        if self.is_of_all() {
+            return self.pointed();
+        }
         match self.tightened() {
             Some(pair) => pair.pointed(),
             None => *self,
         }
+    }
+
+    // Whether the class holds all numbers, so that it moves no bound.
+    fn is_of_all(&self) -> bool
+        ensures { IsTrue result → (W.class (class_part self.now)).modulus ≡ pos 1 }
+    {
+        self.class.residue().modulus == 1
     }
 
     // The same numbers, with the class of a number where the range holds no other.
@@ -118,6 +154,7 @@ impl<V: ValueDomain, W: ValueDomain> Pair<V, W> {
         ensures proper { IsResidue (W.class (class_part result)) }
         ensures class { (class_part result ≡ class_part self.now)
             ⊎ ((n : ℤ) × IsPoint (range_of_pair V.known W.class self.now) n × (IsTrue W.folds → W.class (class_part result) ≡ class_of n (pos 0))) }
+        ensures keeps { KeepsItsRange V.known W.class self.now → KeepsItsRange V.known W.class result }
     {
         let Some(n) = number(self.ends()) else {
             return *self;
@@ -155,6 +192,9 @@ impl<V: ValueDomain, W: ValueDomain> Pair<V, W> {
         ensures holds { (n : ℤ) → IsInBoth V.admits W.admits self.now n → V.admits result n }
         ensures exact { IsTrue V.exact → V.known result ≡ range_of_pair V.known W.class self.now }
     {
+        if self.is_of_all() {
+            return self.bounds;
+        }
         let ends = self.ends();
         if is_same(ends, self.bounds.range()) {
             return self.bounds;
@@ -174,7 +214,15 @@ impl<V: ValueDomain, W: ValueDomain> Pair<V, W> {
 
 impl<V: ValueDomain, W: ValueDomain> ValueDomain for Pair<V, W> {
     ghost use Rattle.residues.specs.Laws.{in_inward_range, inward_some};
-    ghost use Rattle.residues.specs.Pair.{bounds_part, class_part, IsInBoth, range_of_pair};
+    ghost use Rattle.residues.specs.Pair.{bounds_part, class_part, IsInBoth, range_of_pair, KeepsItsRange};
+    ghost use Rattle.num_api.specs.Ranges.{hull};
+    ghost use Rattle.num_api.specs.Residues.{IsMultiple};
+    ghost use Rattle.num_api.specs.Fold.{IsAlignment};
+    ghost use Rattle.num_api.specs.Spans.{Span, FitsSpan, IsNotByZero, range_of, unary_span, binary_span};
+    ghost use Rattle.num_api.specs.Value.{unary_value};
+    ghost use Rattle.num_api.specs.declared.expr.NOp.TheVariants.{Add, Mul};
+    ghost use Rattle.std.specs.Int.RustNames.{FitsSigned};
+    ghost use mir.Syntax.{w128};
 
     ghost admits = { IsInBoth V.admits W.admits };
 
@@ -213,6 +261,7 @@ impl<V: ValueDomain, W: ValueDomain> ValueDomain for Pair<V, W> {
         ensures plain { IfSome result (λ p. IsTrue V.exact → NoWider (range_of_pair V.known W.class p) r) }
         ensures fold { IfSome result (λ p. (n : ℤ) → IsTrue W.folds → IsPoint r n → W.class (class_part p) ≡ record { rem = n; modulus = pos 0 }) }
         ensures shares { IfSome result (λ p. HasSome (range_of_pair V.known W.class p) (W.class (class_part p))) }
+        ensures keeps { IfSome result (λ p. IsTrue V.exact → KeepsItsRange V.known W.class p) }
     {
         match (V::within(r), W::within(r)) {
             (Some(bounds), Some(class)) => Pair::new(bounds, class),
@@ -233,7 +282,15 @@ impl<V: ValueDomain, W: ValueDomain> ValueDomain for Pair<V, W> {
         self.class.residue()
     }
 
-    fn unary(op: NOp, a: &Self) -> Self {
+    /// The bounds that are kept are the range's.
+    fn unary(op: NOp, a: &Self) -> Self
+        ensures holds { (x n : ℤ) → IsInBoth V.admits W.admits a.now x → unary_value op x ≡ Some n → IsInBoth V.admits W.admits result n }
+        ensures point { (x n : ℤ) → IsTrue V.exact → IsPoint (range_of_pair V.known W.class a.now) x → unary_value op x ≡ Some n → FitsSigned w128 n
+            → IsPoint (range_of_pair V.known W.class result) n }
+        ensures plain { (s r : Span) → IsTrue V.exact → NoWider (range_of_pair V.known W.class a.now) (range_of s) → FitsSpan s → unary_span op s ≡ Some r
+            → FitsSpan r → NoWider (range_of_pair V.known W.class result) (range_of r) }
+        ensures keeps { IsTrue V.exact → KeepsItsRange V.known W.class result }
+    {
         let loose = Pair {
             bounds: V::unary(op, &a.tight()),
             class: W::unary(op, &a.class),
@@ -241,10 +298,29 @@ impl<V: ValueDomain, W: ValueDomain> ValueDomain for Pair<V, W> {
         loose.kept()
     }
 
-    fn binary(op: NOp, a: &Self, b: &Self) -> Self {
+    /// A test for equality is decided where the classes share no number. The bounds that are kept are the range's.
+    fn binary(op: NOp, a: &Self, b: &Self) -> Self
+        ensures holds { (x y n : ℤ) → IsInBoth V.admits W.admits a.now x → IsInBoth V.admits W.admits b.now y → binary_value op x y ≡ Some n
+            → IsInBoth V.admits W.admits result n }
+        ensures point { (x y n : ℤ) → IsTrue V.exact → IsPoint (range_of_pair V.known W.class a.now) x → IsPoint (range_of_pair V.known W.class b.now) y
+            → binary_value op x y ≡ Some n → FitsSigned w128 n → IsPoint (range_of_pair V.known W.class result) n }
+        ensures plain { (s t r : Span) → IsTrue V.exact → IsNotByZero op (range_of_pair V.known W.class b.now)
+            → NoWider (range_of_pair V.known W.class a.now) (range_of s) → FitsSpan s → NoWider (range_of_pair V.known W.class b.now) (range_of t) → FitsSpan t
+            → binary_span op s t ≡ Some r → FitsSpan r → NoWider (range_of_pair V.known W.class result) (range_of r) }
+        ensures fold_sum { (c : ℤ) → IsTrue W.folds → IsAlignment c → op ≡ Add → IsFoldResidue c (W.class (class_part a.now))
+            → IsFoldResidue c (W.class (class_part b.now)) → IsFoldResidue c (W.class (class_part result)) }
+        ensures fold_left { (c n : ℤ) → IsTrue W.folds → IsAlignment c → op ≡ Mul → IsMultiple c n
+            → W.class (class_part a.now) ≡ record { rem = n; modulus = pos 0 } → IsFoldResidue c (W.class (class_part result)) }
+        ensures fold_right { (c n : ℤ) → IsTrue W.folds → IsAlignment c → op ≡ Mul → IsMultiple c n
+            → W.class (class_part b.now) ≡ record { rem = n; modulus = pos 0 } → IsFoldResidue c (W.class (class_part result)) }
+        ensures apart { (x y n : ℤ) → IsTrue V.exact → IsEquality op → AreApart (W.class (class_part a.now)) (W.class (class_part b.now))
+            → IsInBoth V.admits W.admits a.now x → IsInBoth V.admits W.admits b.now y → binary_value op x y ≡ Some n
+            → IsPoint (range_of_pair V.known W.class result) n }
+        ensures keeps { IsTrue V.exact → KeepsItsRange V.known W.class result }
+    {
         let bounds = V::binary(op, &a.tight(), &b.tight());
         let loose = Pair {
-            bounds: told_apart(op, bounds, &a.class, &b.class),
+            bounds: told_apart(op, bounds, a.class.residue(), b.class.residue()),
             class: W::binary(op, &a.class, &b.class),
         };
         loose.kept()
@@ -258,6 +334,7 @@ impl<V: ValueDomain, W: ValueDomain> ValueDomain for Pair<V, W> {
         ensures plain { IfSome result (λ p. IsTrue V.exact → NoWider (range_of_pair V.known W.class p) (range_of_pair V.known W.class self.now)
             × NoWider (range_of_pair V.known W.class p) (range_of_pair V.known W.class other.now)) }
         ensures shares { IfSome result (λ p. HasSome (range_of_pair V.known W.class p) (W.class (class_part p))) }
+        ensures keeps { IfSome result (λ p. IsTrue V.exact → KeepsItsRange V.known W.class p) }
     {
         match (
             self.tight().meet(&other.tight()),
@@ -268,7 +345,14 @@ impl<V: ValueDomain, W: ValueDomain> ValueDomain for Pair<V, W> {
         }
     }
 
-    fn join(&self, other: &Self) -> Self {
+    /// The bounds that are kept are the range's.
+    fn join(&self, other: &Self) -> Self
+        ensures left { (n : ℤ) → IsInBoth V.admits W.admits self.now n → IsInBoth V.admits W.admits result n }
+        ensures right { (n : ℤ) → IsInBoth V.admits W.admits other.now n → IsInBoth V.admits W.admits result n }
+        ensures plain { IsTrue V.exact → NoWider (range_of_pair V.known W.class result)
+            (hull (range_of_pair V.known W.class self.now) (range_of_pair V.known W.class other.now)) }
+        ensures keeps { IsTrue V.exact → KeepsItsRange V.known W.class result }
+    {
         let loose = Pair {
             bounds: self.tight().join(&other.tight()),
             class: self.class.join(&other.class),

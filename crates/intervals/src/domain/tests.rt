@@ -78,7 +78,7 @@ fn operators(rt: HostRuntime) {
         (NOp::Rem, (Fin(3), Fin(8)), only(0), only(0)),
         (NOp::Shl, only(-3), only(4), only(-48)),
         (NOp::Shl, only(-1), only(127), (MIN, MIN)),
-        (NOp::Shl, only(1), only(127), (Fin(1 << 126), High)),
+        (NOp::Shl, only(1), only(127), (Fin(i128::MAX), High)),
         (NOp::Shl, only(0), only(500), only(0)),
         (NOp::Shl, only(1), only(-1), only(1)),
         (

@@ -6,13 +6,15 @@ ghost use Rattle.num_api.specs.Fold.{IsAlignment};
 ghost use Rattle.residues.specs.Class.{residue_of};
 ghost use Rattle.num_api.specs.Residues.{class_of};
 ghost use Rattle.residues.specs.Classes.{IsClassOf, IsCommonStep, IsByCommonStep};
+ghost use Rattle.residues.specs.ClassBounds.{SumBounds};
 
 use super::Class;
 use crate::numbers::{GREATEST_MODULUS, greatest_divisor, remainder};
 
 // The sums of the numbers of both.
 pub(super) fn sum(a: Class, b: Class) -> Class
-    ensures { IsByCommonStep (residue_of a).modulus (residue_of b).modulus ((residue_of a).rem +ℤ (residue_of b).rem) (residue_of result) }
+    ensures step { IsByCommonStep (residue_of a).modulus (residue_of b).modulus ((residue_of a).rem +ℤ (residue_of b).rem) (residue_of result) }
+    ensures bounds { SumBounds (residue_of a) (residue_of b) ((residue_of a).rem +ℤ (residue_of b).rem) (residue_of result) }
 {
     let step = common_step(a, b);
     match a.residue.rem.checked_add(b.residue.rem) {
@@ -23,7 +25,8 @@ pub(super) fn sum(a: Class, b: Class) -> Class
 
 // The differences of the numbers of both.
 pub(super) fn difference(a: Class, b: Class) -> Class
-    ensures { IsByCommonStep (residue_of a).modulus (residue_of b).modulus ((residue_of a).rem -ℤ (residue_of b).rem) (residue_of result) }
+    ensures step { IsByCommonStep (residue_of a).modulus (residue_of b).modulus ((residue_of a).rem -ℤ (residue_of b).rem) (residue_of result) }
+    ensures bounds { SumBounds (residue_of a) (residue_of b) ((residue_of a).rem -ℤ (residue_of b).rem) (residue_of result) }
 {
     let step = common_step(a, b);
     match a.residue.rem.checked_sub(b.residue.rem) {
@@ -47,6 +50,7 @@ fn positive_step(step: i128) -> i128
     ensures low { pos 1 ≤ℤ result }
     ensures high { result ≤ℤ pos (2 ^ 100) }
     ensures divides { IsMultiple result step }
+    ensures same { pos 1 ≤ℤ step → result ≡ step }
     ensures folds { (c : ℤ) → IsAlignment c → IsMultiple c step → IsMultiple c result }
 {
     if step == 0 {

@@ -44,6 +44,9 @@ pub(super) fn joined(a: Class, b: Class) -> Class
     ensures right { LiesIn (residue_of b) (residue_of result) }
     ensures least { (s : Residue) → IsJoin (residue_of a) (residue_of b) s → LiesIn (residue_of result) s }
 {
+    if a.residue.modulus == 1 {
+        return a;
+    }
     match exact_join(a, b) {
         Some(class) => class,
         None => Class::all(),

@@ -4,7 +4,7 @@ ghost use Rattle.std.specs.Prelude.{◌≡◌, ℤ, pos, ◌^◌, ◌+ℤ◌, �
 ghost use Rattle.num_api.specs.Residues.{InResidue, IsMultiple};
 ghost use Rattle.residues.specs.Class.{residue_of};
 ghost use Rattle.num_api.specs.Residues.{class_of};
-ghost use Rattle.residues.specs.Classes.{IsClassOf, IsGreatestDivisor, IsCoprime, IsTurn, SharesBy, Meets};
+ghost use Rattle.residues.specs.Classes.{IsClassOf, IsGreatestDivisor, IsCoprime, IsTurn, SharesBy, Meets, HaveCommon};
 
 use super::Class;
 use super::lattice::has;
@@ -14,6 +14,7 @@ use crate::numbers::{GREATEST_MODULUS, greatest_divisor, quotient, remainder};
 // the greatest one, it is the first class.
 pub(super) fn met(a: Class, b: Class) -> Option<Class>
     ensures some { IfSome result (λ r. Meets (residue_of a) (residue_of b) (residue_of r)) }
+    ensures common { IfSome result (λ _. HaveCommon (residue_of a) (residue_of b)) }
     ensures none { IfNone result ((n : ℤ) → InResidue (residue_of a) n → InResidue (residue_of b) n → ⊥) }
 {
     if a.residue.modulus == 0 {
@@ -30,6 +31,7 @@ fn steps_met(a: Class, b: Class) -> Option<Class>
     requires first { pos 1 ≤ℤ (residue_of a).modulus }
     requires second { pos 1 ≤ℤ (residue_of b).modulus }
     ensures some { IfSome result (λ r. Meets (residue_of a) (residue_of b) (residue_of r)) }
+    ensures common { IfSome result (λ _. HaveCommon (residue_of a) (residue_of b)) }
     ensures none { IfNone result ((n : ℤ) → InResidue (residue_of a) n → InResidue (residue_of b) n → ⊥) }
 {
     let common = greatest_divisor(a.residue.modulus, b.residue.modulus);

@@ -1,6 +1,6 @@
 // What the operators make of classes.
 
-ghost use Rattle.std.specs.Prelude.{◌≡◌, ℕ, ℤ, pos, ◌^◌, Some, IfSome};
+ghost use Rattle.std.specs.Prelude.{◌≡◌, ℕ, ℤ, pos, ◌^◌, ◌<◌, Some, IfSome};
 ghost use Rattle.num_api.specs.Fold.{IsAlignment};
 ghost use Rattle.std.specs.Prelude.{IfNone};
 ghost use Rattle.std.specs.Int.RustNames.{FitsSigned};
@@ -9,6 +9,7 @@ ghost use Rattle.num_api.specs.Residues.{class_of, InResidue, IsFoldResidue};
 ghost use Rattle.num_api.specs.Value.{unary_value, binary_value};
 ghost use Rattle.num_api.specs.declared.expr.NOp.TheVariants.{Not, Add, Mul};
 ghost use Rattle.residues.specs.Class.{residue_of};
+ghost use Rattle.residues.specs.ClassBounds.{ClassBounds, NegationBounds, IsOther};
 
 use super::Class;
 use super::arithmetic::{difference, sum};
@@ -21,7 +22,8 @@ use num_api::{NOp, ValueDomain};
 
 // What an operator of one operand makes of the numbers of a class.
 pub(super) fn unary(op: NOp, a: Class) -> Class
-    ensures { (x n : ℤ) → InResidue (residue_of a) x → unary_value op x ≡ Some n → InResidue (residue_of result) n }
+    ensures bounds { NegationBounds op (residue_of a) (residue_of result) }
+    ensures holds { (x n : ℤ) → InResidue (residue_of a) x → unary_value op x ≡ Some n → InResidue (residue_of result) n }
 {
     match op {
         NOp::Neg => difference(Class::point(0), a),
@@ -40,6 +42,7 @@ pub(super) fn binary(op: NOp, a: Class, b: Class) -> Class
     ensures holds { (x y n : ℤ) → InResidue (residue_of a) x → InResidue (residue_of b) y → binary_value op x y ≡ Some n → InResidue (residue_of result) n }
     ensures point { (x y n : ℤ) → residue_of a ≡ class_of x (pos 0) → residue_of b ≡ class_of y (pos 0) → binary_value op x y ≡ Some n → FitsSigned w128 n
         → residue_of result ≡ class_of n (pos 0) }
+    ensures bounds { ClassBounds op (residue_of a) (residue_of b) (residue_of result) }
 {
     match at_two_numbers(op, a, b) {
         Some(n) => Class::point(n),
@@ -77,6 +80,7 @@ fn by_steps(op: NOp, a: Class, b: Class) -> Class
     ensures fold_left { (c : ℤ) → IsAlignment c → op ≡ Mul → IsFoldResidue c (residue_of a) → IsFoldResidue c (residue_of result) }
     ensures fold_right { (c : ℤ) → IsAlignment c → op ≡ Mul → IsFoldResidue c (residue_of b) → IsFoldResidue c (residue_of result) }
     ensures holds { (x y n : ℤ) → InResidue (residue_of a) x → InResidue (residue_of b) y → binary_value op x y ≡ Some n → InResidue (residue_of result) n }
+    ensures bounds { ClassBounds op (residue_of a) (residue_of b) (residue_of result) }
 {
     match op {
         NOp::Add => sum(a, b),
@@ -102,7 +106,8 @@ fn denial(a: Class) -> Class
 
 // A class that holds the power of two of each number of the class that is not negative.
 fn powers(a: Class) -> Class
-    ensures { (k : ℕ) → InResidue (residue_of a) (pos k) → InResidue (residue_of result) (pos (2 ^ k)) }
+    ensures one { (k : ℕ) → k < 127 → residue_of a ≡ class_of (pos k) (pos 0) → residue_of result ≡ class_of (pos (2 ^ k)) (pos 0) }
+    ensures holds { (k : ℕ) → InResidue (residue_of a) (pos k) → InResidue (residue_of result) (pos (2 ^ k)) }
 {
     if a.residue.modulus == 0 && a.residue.rem >= 0 && a.residue.rem < 127 {
         return Class::point(1 << a.residue.rem as u32);
@@ -113,7 +118,8 @@ fn powers(a: Class) -> Class
 // An operator that keeps no class of sums or products: that of its value at two numbers, the class
 // of remainders or of low bits, or all numbers.
 fn other(op: NOp, a: Class, b: Class) -> Class
-    ensures { (x y n : ℤ) → InResidue (residue_of a) x → InResidue (residue_of b) y → binary_value op x y ≡ Some n → InResidue (residue_of result) n }
+    ensures bounds { IsOther op → ClassBounds op (residue_of a) (residue_of b) (residue_of result) }
+    ensures holds { (x y n : ℤ) → InResidue (residue_of a) x → InResidue (residue_of b) y → binary_value op x y ≡ Some n → InResidue (residue_of result) n }
 {
     if a.residue.modulus == 0 && b.residue.modulus == 0 {
         return at_numbers(op, a.residue.rem, b.residue.rem);
@@ -127,7 +133,8 @@ fn other(op: NOp, a: Class, b: Class) -> Class
 
 // The class of the operator's value at two numbers, as intervals have it.
 pub(super) fn at_numbers(op: NOp, x: i128, y: i128) -> Class
-    ensures { (n : ℤ) → binary_value op x y ≡ Some n → InResidue (residue_of result) n }
+    ensures value { (n : ℤ) → binary_value op x y ≡ Some n → FitsSigned w128 n → residue_of result ≡ class_of n (pos 0) }
+    ensures holds { (n : ℤ) → binary_value op x y ≡ Some n → InResidue (residue_of result) n }
 {
     let value = Interval::binary(op, &Interval::point(x), &Interval::point(y));
     Class::new(value.residue())

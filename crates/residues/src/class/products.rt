@@ -8,6 +8,9 @@ ghost use Rattle.num_api.specs.declared.expr.NOp.TheVariants.{Rem};
 ghost use Rattle.residues.specs.Class.{residue_of};
 ghost use Rattle.num_api.specs.Residues.{class_of};
 ghost use Rattle.residues.specs.Classes.{IsClassOf, IsGreatestDivisor, IsProductBy};
+ghost use Rattle.residues.specs.ClassBounds.{ProductBounds, RestBounds, IsFactor, IsSize};
+ghost use Rattle.std.specs.Int.RustNames.{FitsSigned};
+ghost use mir.Syntax.{w128};
 
 use super::Class;
 use crate::numbers::{GREATEST_MODULUS, greatest_divisor};
@@ -22,6 +25,7 @@ pub(super) fn product(a: Class, b: Class) -> Class
     ensures holds { (x y : ℤ) → InResidue (residue_of a) x → InResidue (residue_of b) y → InResidue (residue_of result) (x *ℤ y) }
     ensures fold_left { (c : ℤ) → IsAlignment c → IsFoldResidue c (residue_of a) → IsFoldResidue c (residue_of result) }
     ensures fold_right { (c : ℤ) → IsAlignment c → IsFoldResidue c (residue_of b) → IsFoldResidue c (residue_of result) }
+    ensures bounds { ProductBounds (residue_of a) (residue_of b) (residue_of result) }
 {
     let f = factor(a);
     let g = factor(b);
@@ -33,7 +37,8 @@ pub(super) fn product(a: Class, b: Class) -> Class
 
 // The remainders of the numbers of the first by those of the second.
 pub(super) fn rest(a: Class, b: Class) -> Class
-    ensures { (x y n : ℤ) → InResidue (residue_of a) x → InResidue (residue_of b) y → binary_value Rem x y ≡ Some n → InResidue (residue_of result) n }
+    ensures bounds { RestBounds (residue_of a) (residue_of b) (residue_of result) }
+    ensures holds { (x y n : ℤ) → InResidue (residue_of a) x → InResidue (residue_of b) y → binary_value Rem x y ≡ Some n → InResidue (residue_of result) n }
 {
     let step = greatest_divisor(a.residue.modulus, factor(b));
     if step > GREATEST_MODULUS {
@@ -46,7 +51,9 @@ pub(super) fn rest(a: Class, b: Class) -> Class
 fn exact_product(a: Class, b: Class, f: i128, g: i128) -> Option<Class>
     requires f_is_not_negative { pos 0 ≤ℤ f }
     requires g_is_not_negative { pos 0 ≤ℤ g }
-    ensures { IfSome result (λ r. IsProductBy (residue_of a) (residue_of b) f g (residue_of r)) }
+    ensures some { IfSome result (λ r. IsProductBy (residue_of a) (residue_of b) f g (residue_of r)) }
+    ensures none { IfNone result (FitsSigned w128 ((residue_of a).rem *ℤ (residue_of b).rem) → ((residue_of a).modulus *ℤ g) ≤ℤ pos (2 ^ 100)
+        → (f *ℤ (residue_of b).modulus) ≤ℤ pos (2 ^ 100) → ⊥) }
 {
     let rem = a.residue.rem.checked_mul(b.residue.rem)?;
     let left = a.residue.modulus.checked_mul(g)?;
@@ -95,6 +102,7 @@ fn factor(a: Class) -> i128
     ensures not_negative { pos 0 ≤ℤ result }
     ensures divides { (x : ℤ) → InResidue (residue_of a) x → IsMultiple result x }
     ensures folds { (c : ℤ) → IsAlignment c → IsFoldResidue c (residue_of a) → IsMultiple c result }
+    ensures factor { IsFactor (residue_of a) result }
 {
     if a.residue.modulus == 0 {
         return size(a.residue.rem);
@@ -108,6 +116,7 @@ fn size(n: i128) -> i128
     ensures not_negative { pos 0 ≤ℤ result }
     ensures divides { IsMultiple result n }
     ensures folds { (c : ℤ) → IsAlignment c → IsMultiple c n → IsMultiple c result }
+    ensures size { IsSize n result }
 {
     if n >= 0 {
         return n;

@@ -7,10 +7,11 @@ use Rattle.residues.specs.Class.{residue_of}
 use Rattle.residues.specs.Classes.{IsClassOf}
 use Rattle.residues.proofs.Moves.{unmoved}
 use Rattle.residues.proofs.Steps.{common_wider}
+use Rattle.residues.proofs.ClassBounds.{sum_bounds, step_positive}
 use Rattle.residues.proofs.class.arithmetic.sum.Goals as goal
 
-pub returns-in-Some : goal.returns-in-Some
-returns-in-Some c =
+pub returns-in-Some-clause-step : goal.returns-in-Some-clause-step
+returns-in-Some-clause-step c =
     let a = residue_of c.args.a in
     let b = residue_of c.args.b in
     let f : FitsSigned w128 a.rem = search rules in
@@ -25,8 +26,8 @@ returns-in-Some c =
       is = subst (λ (z : ℤ). IsClassOf z c.common_step-step.result (residue_of c.of.result)) e p;
     }
 
-pub returns-in-None : goal.returns-in-None
-returns-in-None c =
+pub returns-in-None-clause-step : goal.returns-in-None-clause-step
+returns-in-None-clause-step c =
     let a = residue_of c.args.a in
     let b = residue_of c.args.b in
     let f : FitsSigned w128 a.rem = search rules in
@@ -42,3 +43,30 @@ returns-in-None c =
       common = common_wider a.modulus b.modulus c.common_step-step.result c.positive_step.result c.common_step-step.ensures.step j c.positive_step.ensures.high q r;
       is = p;
     }
+
+pub returns-in-Some-clause-bounds : goal.returns-in-Some-clause-bounds
+returns-in-Some-clause-bounds c =
+    let a = residue_of c.args.a in
+    let b = residue_of c.args.b in
+    let f : FitsSigned w128 a.rem = search rules in
+    let g : FitsSigned w128 b.rem = search rules in
+    let h : FitsSigned w128 c.in-Some.rem = search rules in
+    let i : FitsSigned w128 c.common_step-step.result = search rules in
+    let e : c.in-Some.rem ≡ a.rem +ℤ b.rem = (simp to_z-of_z at c.in-Some.ensures).1 in
+    let p : IsClassOf c.in-Some.rem c.common_step-step.result (residue_of c.of.result) = simp to_z-of_z at c.of.ensures in
+    sum_bounds a b (residue_of c.of.result) (a.rem +ℤ b.rem) c.common_step-step.result c.common_step-step.ensures.greatest
+    (λ one. subst (λ (z : ℤ). IsClassOf z c.common_step-step.result (residue_of c.of.result)) e p)
+
+pub returns-in-None-clause-bounds : goal.returns-in-None-clause-bounds
+returns-in-None-clause-bounds c =
+    let a = residue_of c.args.a in
+    let b = residue_of c.args.b in
+    let f : FitsSigned w128 a.rem = search rules in
+    let g : FitsSigned w128 b.rem = search rules in
+    let h : FitsSigned w128 c.positive_step.result = search rules in
+    let i : FitsSigned w128 c.common_step-step.result = search rules in
+    let p : IsClassOf (a.rem +ℤ b.rem) c.positive_step.result (residue_of c.wrapped_sum.result) = simp to_z-of_z at c.wrapped_sum.ensures in
+    let same : pos 1 ≤ℤ c.common_step-step.result → c.positive_step.result ≡ c.common_step-step.result = simp to_z-of_z at c.positive_step.ensures.same in
+    let step = c.common_step-step.ensures.step in
+    sum_bounds a b (residue_of c.wrapped_sum.result) (a.rem +ℤ b.rem) c.common_step-step.result c.common_step-step.ensures.greatest
+    (λ one. subst (λ (z : ℤ). IsClassOf (a.rem +ℤ b.rem) z (residue_of c.wrapped_sum.result)) (same (step_positive a b c.common_step-step.result one step.not_negative step.first step.second)) p)

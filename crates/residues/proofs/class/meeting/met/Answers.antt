@@ -7,6 +7,7 @@ use Rattle.residues.specs.Class.{residue_of, is_member}
 use Rattle.residues.proofs.Lattice.{member_true, member_from}
 use Rattle.residues.specs.Laws.{one_number}
 use Rattle.residues.proofs.Crt.{meets_point, meets_other_point}
+use Rattle.num_api.proofs.Multiples.{in_itself}
 use Rattle.residues.proofs.class.meeting.met.Goals as goal
 
 pub returns-then-has-clause-some : goal.returns-then-has-clause-some
@@ -68,3 +69,19 @@ returns-else-has-2-clause-none c =
   where
     clash : true ≡ false → ⊥
     clash q = cc
+
+pub returns-then-has-clause-common : goal.returns-then-has-clause-common
+returns-then-has-clause-common c =
+    let a = residue_of c.args.a in
+    let b = residue_of c.args.b in
+    let fa : FitsSigned w128 a.rem = search rules in
+    let f : c.has.result ≡ is_member b a.rem = simp to_z-of_z at c.has.ensures in
+    (a.rem, in_itself a.rem a.modulus, member_from b a.rem c.args.b.proper (sym f ∙ c.if-has.true))
+
+pub returns-then-has-2-clause-common : goal.returns-then-has-2-clause-common
+returns-then-has-2-clause-common c =
+    let a = residue_of c.args.a in
+    let b = residue_of c.args.b in
+    let fb : FitsSigned w128 b.rem = search rules in
+    let f : c.has-then-b-eq0.result ≡ is_member a b.rem = simp to_z-of_z at c.has-then-b-eq0.ensures in
+    (b.rem, member_from a b.rem c.args.a.proper (sym f ∙ c.if-has-2.true), in_itself b.rem b.modulus)

@@ -11,6 +11,7 @@ use Rattle.num_api.proofs.Multiples.{multiple_along, off_from_in, in_from_off}
 use Rattle.num_api.proofs.Remainders.{rem_unique}
 use Rattle.residues.proofs.Divisors.{divisor_positive}
 use Rattle.residues.proofs.Crt.{shares_from, difference_fits}
+use Rattle.residues.proofs.Crt.{some_number}
 use Rattle.residues.proofs.class.meeting.steps_met.Goals as goal
 
 pub returns-then-remainder-ne0-clause-none : goal.returns-then-remainder-ne0-clause-none
@@ -63,6 +64,29 @@ shared-requires c =
     let zero : r ≡ pos 0 = omega (arith, ints) in
     let off : IsMultiple g ((b.rem -ℤ a.rem) -ℤ pos 0) = subst (λ (t : ℤ). IsMultiple g ((b.rem -ℤ a.rem) -ℤ t)) zero (off_from_in r g (b.rem -ℤ a.rem) same) in
     moved (λ (x : ℤ). SharesBy a b x) g fg (record { first = c.requires.first; second = c.requires.second; divisor = d; shares = multiple_along g _ _ (less_zero (b.rem -ℤ a.rem)) off })
+  where
+    less_zero : (x : ℤ) → x -ℤ pos 0 ≡ x
+    less_zero x = omega (arith, ints)
+
+pub returns-clause-common : goal.returns-clause-common
+returns-clause-common c =
+    let a = residue_of c.args.a in
+    let b = residue_of c.args.b in
+    let g = c.greatest_divisor-common.result in
+    let fa : FitsSigned w128 a.rem = search rules in
+    let fb : FitsSigned w128 b.rem = search rules in
+    let fam : FitsSigned w128 a.modulus = search rules in
+    let fbm : FitsSigned w128 b.modulus = search rules in
+    let fg : FitsSigned w128 g = search rules in
+    let d : IsGreatestDivisor a.modulus b.modulus g = simp to_z-of_z at c.greatest_divisor-common.ensures in
+    let one : pos 1 ≤ℤ g = divisor_positive g a.modulus d.first c.requires.first d.not_negative in
+    let fd : FitsSigned w128 (b.rem -ℤ a.rem) = difference_fits b.rem a.rem b.modulus a.modulus (c.args.b.proper.rem_low c.requires.second) (c.args.b.proper.rem_high c.requires.second) c.args.b.proper.bounded (c.args.a.proper.rem_low c.requires.first) (c.args.a.proper.rem_high c.requires.first) c.args.a.proper.bounded in
+    let r = c.remainder.result in
+    let fr : FitsSigned w128 r = search rules in
+    let same : InResidue (class_of r g) (b.rem -ℤ a.rem) = simp to_z-of_z at c.remainder.ensures.same in
+    let zero : r ≡ pos 0 = omega (arith, ints) in
+    let off : IsMultiple g ((b.rem -ℤ a.rem) -ℤ pos 0) = subst (λ (t : ℤ). IsMultiple g ((b.rem -ℤ a.rem) -ℤ t)) zero (off_from_in r g (b.rem -ℤ a.rem) same) in
+    some_number a b g (record { first = c.requires.first; second = c.requires.second; divisor = d; shares = multiple_along g _ _ (less_zero (b.rem -ℤ a.rem)) off })
   where
     less_zero : (x : ℤ) → x -ℤ pos 0 ≡ x
     less_zero x = omega (arith, ints)

@@ -7,6 +7,7 @@ use Rattle.num_api.specs.Value.{binary_value}
 use Rattle.num_api.proofs.Multiples.{multiple_along, multiple_add, multiple_times, times_multiple}
 use Rattle.residues.specs.Class.{residue_of}
 use Rattle.residues.proofs.Operators.{at_points, fold_point, in_point}
+use Rattle.residues.proofs.ClassBounds.{value_at_points}
 use Rattle.residues.proofs.class.operators.binary.Goals as goal
 
 pub returns-in-Some-clause-fold_sum : goal.returns-in-Some-clause-fold_sum
@@ -47,3 +48,11 @@ returns-in-Some-clause-holds c =
     let told = c.in-Some.ensures.some in
     at_points c.args.op (residue_of c.args.a) (residue_of c.args.b) (residue_of c.point.result) told.0 told.1
     (λ m v. in_point (residue_of c.point.result) m (is ∙ ap (λ (z : ℤ). class_of z (pos 0)) (sym (told.2 m v))))
+
+pub returns-in-Some-clause-bounds : goal.returns-in-Some-clause-bounds
+returns-in-Some-clause-bounds c =
+    let n = c.in-Some.n in
+    let f : FitsSigned w128 n = search rules in
+    let is : residue_of c.point.result ≡ class_of n (pos 0) = rw (to_z-of_z w128 n f) at c.point.ensures in
+    let told = c.in-Some.ensures.some in
+    value_at_points c.args.op (residue_of c.args.a) (residue_of c.args.b) (residue_of c.point.result) n told.0 told.1 told.2 is

@@ -6,6 +6,8 @@ use Rattle.residues.proofs.Moves.{moved}
 use Rattle.num_api.proofs.Multiples.{multiple_along, self_multiple, multiple_neg}
 use Rattle.residues.proofs.Steps.{fold_greatest}
 use Rattle.residues.proofs.Products.{least_number, least_multiple}
+use Rattle.residues.specs.ClassBounds.{IsSize}
+use Rattle.residues.proofs.ClassBounds.{size_turned, size_least}
 use Rattle.residues.proofs.class.products.size.Goals as goal
 
 pub returns-then-n-ge0-clause-divides : goal.returns-then-n-ge0-clause-divides
@@ -34,3 +36,16 @@ returns-in-None-clause-divides c =
 
 pub returns-in-None-clause-folds : goal.returns-in-None-clause-folds
 returns-in-None-clause-folds c = λ d a h. fold_greatest d a
+
+pub returns-in-Some-clause-size : goal.returns-in-Some-clause-size
+returns-in-Some-clause-size c =
+    let f : FitsSigned w128 c.args.n = c.ranges.n in
+    let g : FitsSigned w128 c.in-Some.size = search rules in
+    let e : c.in-Some.size ≡ neg_ℤ c.args.n = (simp to_z-of_z at c.in-Some.ensures).1 in
+    moved (λ (t : ℤ). IsSize c.args.n t) c.in-Some.size g (size_turned c.args.n c.in-Some.size e)
+
+pub returns-in-None-clause-size : goal.returns-in-None-clause-size
+returns-in-None-clause-size c =
+    let f : FitsSigned w128 c.args.n = c.ranges.n in
+    let g : FitsSigned w128 (neg_ℤ c.args.n) → ⊥ = simp to_z-of_z at c.in-None.ensures in
+    size_least c.args.n (least_number c.args.n f g)

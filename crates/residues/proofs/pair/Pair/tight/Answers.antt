@@ -3,6 +3,7 @@ use Rattle.std.specs.Prelude.{IsTrue}
 use Rattle.num_api.specs.declared.message.Range.{Range}
 use Rattle.num_api.specs.Ranges.{InRange, holds_some}
 use Rattle.residues.proofs.Inward.{inward_holds, moved_not_empty, same_range}
+use Rattle.residues.proofs.Keeping.{all_keeps}
 use Rattle.residues.proofs.pair.Pair.tight.Goals as goal
 
 pub returns-in_default-clause-exact : goal.returns-in_default-clause-exact
@@ -15,3 +16,6 @@ returns-then-not-is_same-clause-exact g c = λ t.
     same_range c.ends-ends.result (g.V.ValueDomain.known c.in-Some.inside) (c.in-Some.ensures.plain t)
     (λ n i. subst (λ (r : Range). InRange r n) c.range-2.ensures.value (c.range-2.ensures.holds n (c.in-Some.ensures.some n i))) holds
     ∙ c.ends-ends.ensures.value
+
+pub returns-then-is_of_all-clause-exact : goal.returns-then-is_of_all-clause-exact
+returns-then-is_of_all-clause-exact g c = λ t. all_keeps (g.W.ValueDomain.class c.args.self.now.class) (g.V.ValueDomain.known c.args.self.now.bounds) (c.is_of_all.ensures c.if-is_of_all.true)

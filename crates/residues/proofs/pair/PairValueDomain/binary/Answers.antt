@@ -1,10 +1,13 @@
 use Rattle.std.proofs.Common.{pos, sym}
 use Rattle.residues.proofs.Inward.{no_wider_itself, point_along, point_inside, no_wider_trans}
+use Rattle.std.proofs.Common.{subst}
+use Rattle.num_api.specs.declared.message.Residue.{Residue}
+use Rattle.num_api.specs.Residues.{InResidue}
 use Rattle.residues.proofs.pair.PairValueDomain.binary.Goals as goal
 
 pub returns-clause-holds : goal.returns-clause-holds
 returns-clause-holds g c = λ x y n h k e.
-    c.kept.ensures.holds n (c.told_apart.ensures.holds x y n h.1 k.1 e (c.binary-bounds.ensures.holds x y n (c.tight.ensures.holds x h) (c.tight-2.ensures.holds y k) e), c.binary.ensures.holds x y n h.1 k.1 e)
+    c.kept.ensures.holds n (c.told_apart.ensures.holds x y n (c.residue.ensures.holds x h.1) (c.residue-2.ensures.holds y k.1) e (c.binary-bounds.ensures.holds x y n (c.tight.ensures.holds x h) (c.tight-2.ensures.holds y k) e), c.binary.ensures.holds x y n h.1 k.1 e)
 
 pub returns-clause-point : goal.returns-clause-point
 returns-clause-point g c = λ x y n t p q e f.
@@ -26,3 +29,11 @@ returns-clause-fold_left g c = λ d n t al e h p.
 pub returns-clause-fold_right : goal.returns-clause-fold_right
 returns-clause-fold_right g c = λ d n t al e h p.
     c.kept.ensures.folds d t (c.binary.ensures.fold_right d n t al e h p)
+
+pub returns-clause-apart : goal.returns-clause-apart
+returns-clause-apart g c = λ x y n t equality none h k e.
+    c.kept.ensures.point n t
+    (c.told_apart.ensures.apart x y n t equality
+    (λ m i j. none m (subst (λ (r : Residue). InResidue r m) c.residue.ensures.value i) (subst (λ (r : Residue). InResidue r m) c.residue-2.ensures.value j))
+    (c.residue.ensures.holds x h.1) (c.residue-2.ensures.holds y k.1) e
+    (c.binary-bounds.ensures.holds x y n (c.tight.ensures.holds x h) (c.tight-2.ensures.holds y k) e))

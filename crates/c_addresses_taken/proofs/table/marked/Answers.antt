@@ -1,0 +1,21 @@
+use Rattle.std.proofs.Common.{◌≡◌, true, length, ap, ◌∙◌, get_or, sym, subst, ℕ, ◌<◌, false, take, ◌+◌}
+use Rattle.std.specs.Prelude.{slice_set}
+use Rattle.std.proofs.Math.ListN.{length-set}
+use Rattle.std.proofs.lemmas.List.FromFn.{fill_by_all}
+use Rattle.c_addresses_taken.specs.Taken.{is_among}
+use Rattle.c_addresses_taken.proofs.Marks.{all_marked, marked_more}
+use Rattle.c_addresses_taken.proofs.table.marked.Goals as goal
+
+pub loop-number-preserved : goal.loop-number-preserved
+loop-number-preserved c = record {
+  size = ap length c.mark.ensures ∙ length-set c.loop-number.table.items _ true ∙ c.loop-number.invariant.size;
+  marks = λ k below.
+      ap (λ xs. get_or xs k false) c.mark.ensures
+      ∙ marked_more c.loop-number.table.items c.args.numbers.now c.loop-number.number-index c.args.count c.loop-number-test.true c.loop-number.invariant.size
+      c.loop-number.invariant.marks k below;
+}
+
+pub returns : goal.returns
+returns c =
+    all_marked c.loop-number.table.items c.args.numbers.now c.loop-number.number-index c.args.count c.loop-number-test.false c.loop-number.invariant.size
+    c.loop-number.invariant.marks

@@ -1,0 +1,3 @@
+mod Closing
+mod Gathering
+pub mod GraphCalls

@@ -1,0 +1,4 @@
+pub mod Earliest
+pub mod Outcomes
+pub mod Rules
+pub mod Sequenced

@@ -1,0 +1,3 @@
+pub mod FirstFound
+pub mod Forms
+mod Sidewise

@@ -1,0 +1,123 @@
+// Whether one of two sides writes what the other touches.
+#![tactic(auto)]
+
+ghost use Rattle.std.specs.Prelude.{◌≡◌, ◌++◌, ◌||◌, List, [], false, map, IfOk, OnOk};
+ghost use Rattle.std.specs.List.{list_any};
+ghost use Rattle.c_calls.specs.Placed.{placed};
+ghost use Rattle.c_places.specs.declared.touch.Touch.{Touch as Touching};
+ghost use Rattle.c_effects.specs.Effects.{called};
+ghost use Rattle.c_touch_sets.specs.Held.{Holds};
+ghost use Rattle.c_touch_sets.specs.Met.{met};
+ghost use Rattle.c_sides.specs.Firsts.{all_reads, all_writes, called_reads, called_writes, writes_into};
+
+use crate::known::Known;
+use crate::side::Side;
+use c_calls::Call;
+use c_effects::{Effects, add_called};
+use c_places::Touch;
+use c_touch_sets::TouchSet;
+use std::alloc::{AllocError as NoMemory, Global};
+
+/// What a side reads and writes, with what the functions do that it calls.
+pub fn effects_of_side(alloc: Global, known: &Known, side: &Side) -> Result<Effects, NoMemory>
+    ensures reads { IfOk result (λ effects. effects.reads ≡ all_reads known.now.functions.items side.now) }
+    ensures writes { IfOk result (λ effects. effects.writes ≡ all_writes known.now.functions.items side.now) }
+{
+    let mut effects = Effects::new(alloc);
+    effects.join(alloc, &side.own)?;
+    add_calls(alloc, &known.functions, side.calls.as_slice(), &mut effects)?;
+    Ok(effects)
+}
+
+fn add_calls(
+    alloc: Global,
+    known: &[Effects],
+    calls: &[Call],
+    effects: &mut Effects,
+) -> Result<(), NoMemory>
+    ensures reads { OnOk result (effects.new.reads ≡ effects.old.reads ++ called_reads known.now (map placed calls.now)) }
+    ensures writes { OnOk result (effects.new.writes ≡ effects.old.writes ++ called_writes known.now (map placed calls.now)) }
+{
+    for call in calls {
+        add_called(alloc, known, call.callee, effects)?;
+    }
+    Ok(())
+}
+
+// Whether one of two sides writes what the other touches.
+pub(crate) fn clash(
+    alloc: Global,
+    known: &Known,
+    left: &Side,
+    right: &Side,
+) -> Result<bool, NoMemory>
+    ensures { IfOk result (λ found. found ≡ writes_into known.now left.now right.now || writes_into known.now right.now left.now) }
+{
+    if !has_writes(known, left) && !has_writes(known, right) {
+        return Ok(false);
+    }
+    let a = effects_of_side(alloc, known, left)?;
+    let b = effects_of_side(alloc, known, right)?;
+    let forth = one_writes(alloc, known, &a, &b)?;
+    let back = one_writes(alloc, known, &b, &a)?;
+    Ok(forth || back)
+}
+
+// Whether a side may write anything. One that may not needs no look at what it touches.
+fn has_writes(known: &Known, side: &Side) -> bool
+    ensures { result ≡ false → all_writes known.now.functions.items side.now ≡ [] }
+{
+    !side.own.writes.as_slice().is_empty()
+        || one_has_writes(&known.functions, side.calls.as_slice())
+}
+
+fn one_has_writes(known: &[Effects], calls: &[Call]) -> bool
+    ensures { result ≡ false → called_writes known.now (map placed calls.now) ≡ [] }
+{
+    for call in calls {
+        if function_has_writes(known, call.callee) {
+            return true;
+        }
+    }
+    false
+}
+
+fn function_has_writes(known: &[Effects], function: u64) -> bool
+    ensures { result ≡ false → (called known.now function).writes ≡ [] }
+{
+    match known.get(function as usize) {
+        Some(called) => !called.writes.as_slice().is_empty(),
+        None => false,
+    }
+}
+
+// Whether a write of the first meets a touch of the second.
+fn one_writes(alloc: Global, known: &Known, a: &Effects, b: &Effects) -> Result<bool, NoMemory>
+    ensures { IfOk result (λ found. found ≡ list_any (λ s. list_any (met known.now.taken.items s) (b.now.reads ++ b.now.writes)) a.now.writes) }
+{
+    let taken = known.taken.as_slice();
+    let mut touched = TouchSet::new(alloc);
+    insert_all(taken, b.reads.as_slice(), &mut touched)?;
+    insert_all(taken, b.writes.as_slice(), &mut touched)?;
+    Ok(one_met(taken, a.writes.as_slice(), &touched))
+}
+
+fn insert_all(taken: &[bool], touches: &[Touch], set: &mut TouchSet) -> Result<(), NoMemory>
+    ensures { OnOk result ((held : List Touching) → Holds set.old taken.now held → Holds set.new taken.now (held ++ touches.now)) }
+{
+    for touch in touches {
+        set.insert(taken, touch)?;
+    }
+    Ok(())
+}
+
+fn one_met(taken: &[bool], writes: &[Touch], touched: &TouchSet) -> bool
+    ensures { (held : List Touching) → Holds touched.now taken.now held → result ≡ list_any (λ s. list_any (met taken.now s) held) writes.now }
+{
+    for write in writes {
+        if touched.meets(taken, write) {
+            return true;
+        }
+    }
+    false
+}

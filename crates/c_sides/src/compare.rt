@@ -1,0 +1,127 @@
+// The first of the comparisons that clash.
+#![tactic(auto, using(crate::proofs::FirstFound::the_firsts))]
+
+ghost use Rattle.std.specs.Prelude.{◌≡◌, ◌≤◌, length, None, IfOk, OnOk};
+ghost use Rattle.c_syntax.specs.TypedExpr.{texpr_tree, tlvalue_tree};
+ghost use Rattle.c_sides.specs.Firsts.{or_first};
+ghost use Rattle.c_sides.specs.Sides.{all_pairs, made_beside, side_of, store_of, stored_beside, two, with_each};
+
+use crate::clash::clash;
+use crate::known::Known;
+use crate::side::{Comparison, Side};
+use c_places::{Touch, place_of};
+use c_syntax::{Pos, TExpr, TLvalue};
+use std::alloc::{AllocError as NoMemory, Global};
+
+// What was found before, or else these two sides, where they clash.
+pub(crate) fn compare(
+    alloc: Global,
+    known: &Known,
+    pos: Pos,
+    left: &Side,
+    right: &Side,
+    found: &mut Option<Comparison>,
+) -> Result<(), NoMemory>
+    ensures { OnOk result (found.new ≡ or_first known.now found.old (two pos left.now right.now)) }
+{
+    match found {
+        Some(_) => Ok(()),
+        None => {
+            *found = found_here(alloc, known, pos, left, right)?;
+            Ok(())
+        }
+    }
+}
+
+fn found_here(
+    alloc: Global,
+    known: &Known,
+    pos: Pos,
+    left: &Side,
+    right: &Side,
+) -> Result<Option<Comparison>, NoMemory>
+    ensures { IfOk result (λ found. found ≡ or_first known.now None (two pos left.now right.now)) }
+{
+    if clash(alloc, known, left, right)? {
+        Ok(Some(Comparison {
+            pos,
+            left: left.copy(alloc)?,
+            right: right.copy(alloc)?,
+        }))
+    } else {
+        Ok(None)
+    }
+}
+
+// Any two of these sides.
+pub(crate) fn compare_all(
+    alloc: Global,
+    known: &Known,
+    pos: Pos,
+    sides: &[Side],
+    found: &mut Option<Comparison>,
+) -> Result<(), NoMemory>
+    ensures { OnOk result (found.new ≡ or_first known.now found.old (all_pairs pos sides.now)) }
+{
+    for (at, side) in sides.iter().enumerate() {
+        compare_with(alloc, known, pos, &sides[..at], side, found)?;
+    }
+    Ok(())
+}
+
+// A side with each that stands before it.
+fn compare_with(
+    alloc: Global,
+    known: &Known,
+    pos: Pos,
+    earlier: &[Side],
+    side: &Side,
+    found: &mut Option<Comparison>,
+) -> Result<(), NoMemory>
+    ensures { OnOk result (found.new ≡ or_first known.now found.old (with_each pos earlier.now side.now)) }
+{
+    for before in earlier {
+        compare(alloc, known, pos, before, side, found)?;
+    }
+    Ok(())
+}
+
+// The place that an `=` stores, with the writes that its right side makes itself, of which these are the effects.
+pub(crate) fn compare_stored(
+    alloc: Global,
+    known: &Known,
+    pos: Pos,
+    place: &TLvalue,
+    value: &TExpr,
+    right: &Side,
+    found: &mut Option<Comparison>,
+) -> Result<(), NoMemory>
+    requires { right.now ≡ side_of (texpr_tree value.now) }
+    ensures { OnOk result (found.new ≡ or_first known.now found.old (stored_beside pos (tlvalue_tree place.now) (texpr_tree value.now))) }
+{
+    let stored = Side::writing(alloc, place_of(alloc, place)?)?;
+    let made = Side::writing_all(alloc, made_beside(value, right))?;
+    compare(alloc, known, pos, &stored, &made, found)
+}
+
+// The writes that a right side makes itself, without its own store.
+fn made_beside<'a>(value: &TExpr, right: &'a Side) -> &'a [Touch]
+    requires { right.now ≡ side_of (texpr_tree value.now) }
+    ensures { result.now ≡ made_beside (texpr_tree value.now) }
+{
+    let writes = right.own.writes.as_slice();
+    &writes[..writes.len() - own_stores(value, right)]
+}
+
+// How many of its writes are the store that an `=` ends with.
+fn own_stores(value: &TExpr, right: &Side) -> usize
+    requires { right.now ≡ side_of (texpr_tree value.now) }
+    ensures count { result ≡ length (store_of (texpr_tree value.now)) }
+    ensures inside { result ≤ length right.now.own.writes }
+{
+    match value {
+        TExpr::Assign { .. } => 1,
+        TExpr::AssignStruct { .. } => 1,
+        _ => 0,
+    }
+}

@@ -1,0 +1,13 @@
+pub mod Work
+pub mod States
+pub mod Marks
+pub mod Jumps
+pub mod Changes
+pub mod Calls
+pub mod Expressions
+pub mod Statements
+pub mod Steps
+pub mod Runs
+pub mod Bounds
+pub mod Laws
+pub mod Samples

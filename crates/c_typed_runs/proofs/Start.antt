@@ -1,0 +1,148 @@
+-- The start of a run of a well typed program.
+use Rattle.std.proofs.Common.{◌≡◌, ◌<◌, ◌+◌, ◌⊎◌, inl, inr, ℕ, suc, ℤ, Bool, true, false, List, [], ◌∷◌, map, length, Option, Some, None, refl, sym, ap, ◌∙◌, subst, arith}
+use Rattle.std.specs.Prelude.{if◌then◌else◌, Contains, IsSome, IsSomeAnd, IsTrue, slice_get, slice_index_or}
+use Rattle.std.proofs.lemmas.Bool.{cases_eq}
+use Rattle.std.proofs.lemmas.List.Elements.{All-contains}
+use Rattle.std.proofs.lemmas.Option.{slice_get_within}
+use Rattle.c_written.specs.declared.int_type.IntType.TheVariants as ints
+use Rattle.c_syntax.specs.declared.program.Initial.{Initial}
+use Rattle.c_syntax.specs.declared.program.InitByte.{InitByte}
+use Rattle.c_syntax.specs.declared.program.Plan.{Plan}
+use Rattle.c_syntax.specs.Types.{Int, ObjectTree}
+use Rattle.c_syntax.specs.TypedStmt.{TStmtTree}
+use Rattle.c_syntax.specs.Program.{TFunctionTree, TProgramTree}
+use Rattle.c_layout.specs.Calls.{PlacedCall, function_calls, IsChain, chain_end}
+use Rattle.c_layout.specs.Plans.{HasBody, IsStart}
+use Rattle.c_layout.specs.WellTyped.{IsAutomaticObject, IsStaticObject, listed_by, listed}
+use Rattle.c_values.specs.Places.{ObjectMemory, place_of}
+use Rattle.c_objects.specs.Opening.{no_objects, opened}
+use Rattle.c_objects.specs.Statics as statics
+use Rattle.c_objects.specs.Statics.{open_statics, opened_statics, with_initial, initial_at, with_initials}
+use Rattle.c_objects.proofs.Keeping.{none_lives}
+use Rattle.c_objects.proofs.Starting.{start_is_kept, start_placed}
+use Rattle.c_steps.specs.Work.{Enter, GivesZero, Finish}
+use Rattle.c_steps.specs.Runs.{start, after}
+use Rattle.c_layout.specs.TypedNodes.{object_type}
+use Rattle.c_typed_runs.specs.Takes as rules
+use Rattle.c_typed_runs.specs.Takes.{args_on, param_wants, Takes}
+use Rattle.c_typed_runs.specs.Wants.{want_of, bottom}
+use Rattle.c_typed_runs.specs.Opens.{Use, Object, Function, OpensCall}
+use Rattle.c_typed_runs.specs.Fits.{IsReady, Fits, Runs, RunsFit, RunsNeverStand}
+use Rattle.c_typed_runs.proofs.Listing.{contains_flat}
+use Rattle.c_typed_runs.proofs.Lives.{by_sum, open_only, some_not_none}
+use Rattle.c_typed_runs.proofs.Runs.{is_runnable}
+use Rattle.c_typed_runs.proofs.Steps.{steps_keep, fits_goes}
+
+-- ---- which objects live at the start
+
+-- an object among these, from a number on, that is static
+abbrev IsStaticFrom : List ObjectTree → ℕ → ℕ → Type 0
+IsStaticFrom os x y = (j : ℕ) × (y ≡ x + j) × IsSomeAnd (slice_get os j) (λ o. IsTrue o.is_static)
+
+later : (o : ObjectTree) (os : List ObjectTree) (x y : ℕ) → IsStaticFrom os (suc x) y → IsStaticFrom (o ∷ os) x y
+later o os x y (j, e, h) = (suc j, omega (arith, e), h)
+
+open_if : (objects : List ObjectTree) (o : ObjectTree) (os : List ObjectTree) (x y : ℕ) (m : ObjectMemory) (z : Bool) → o.is_static ≡ z
+    → IsSome (place_of (if z then opened objects m x else m) y) → IsSome (place_of m y) ⊎ IsStaticFrom (o ∷ os) x y
+open_if objects o os x y m true e h = by_sum (open_only objects m x y (cases_eq y x) h) (λ a. inl a) (λ f. inr (0, omega (arith, f), e))
+open_if objects o os x y m false e h = inl h
+
+statics_only : (objects os : List ObjectTree) (x y : ℕ) (m : ObjectMemory) → IsSome (place_of (open_statics objects os x m) y) → IsSome (place_of m y) ⊎ IsStaticFrom os x y
+statics_only objects [] x y m h = inl h
+statics_only objects (o ∷ os) x y m h =
+    by_sum (statics_only objects os (suc x) y (if o.is_static then opened objects m x else m) h)
+    (λ a. open_if objects o os x y m o.is_static refl a) (λ f. inr (later o os x y f))
+
+initial_places : (m : ObjectMemory) (b : Option ℕ) (bytes : List InitByte) → (initial_at m b bytes).places ≡ m.places
+initial_places m None bytes = refl
+initial_places m (Some b) bytes = refl
+
+initials_places : (m : ObjectMemory) (is : List Initial) → (with_initials m is).places ≡ m.places
+initials_places m [] = refl
+initials_places m (i ∷ is) = initials_places (with_initial m i) is ∙ initial_places m (place_of m i.object) i.bytes
+
+static_at : (p : TProgramTree) (y : ℕ) → IsStaticFrom p.objects 0 y → IsStaticObject p y
+static_at p y (j, e, h) = let same : y ≡ j = omega (arith, e) in subst (λ z. IsSomeAnd (slice_get p.objects z) (λ o. IsTrue o.is_static)) (sym same) h
+
+start_only : (p : TProgramTree) (y : ℕ) → IsSome (place_of (statics.start p.objects p.initial) y) → IsStaticObject p y
+start_only p y h =
+    let before = subst (λ (ps : List (Option ℕ)). IsSome (slice_index_or ps y None)) (initials_places (opened_statics p.objects) p.initial) h in
+    by_sum (statics_only p.objects p.objects 0 y (no_objects (length p.objects)) before)
+    (λ a. absurd (some_not_none (place_of (no_objects (length p.objects)) y) (none_lives (length p.objects) y) a)) (λ f. static_at p y f)
+
+-- ---- what main uses
+
+not_static : (o : Option ObjectTree) → IsSomeAnd o (λ x. x.is_static ≡ false) → IsSomeAnd o (λ x. IsTrue x.is_static) → ⊥
+not_static None h g = h
+not_static (Some x) h g = let no : true ≡ false = sym g ∙ h in absurd (cc)
+
+object_there : (o : Option ObjectTree) (objects : List ObjectTree) (y : ℕ) → slice_get objects y ≡ o → IsSomeAnd o (λ x. x.is_static ≡ false) → y < length objects
+object_there None objects y e h = absurd h
+object_there (Some x) objects y e h = slice_get_within objects y x e
+
+module _ (p : TProgramTree) (plan : Plan) (runs : Runs p plan) where
+  automatic_case : (g y : ℕ) (o : Option TFunctionTree) → slice_get p.functions g ≡ o → IsSomeAnd o (λ function. Contains (listed_by function) y) → IsAutomaticObject p y
+  automatic_case g y None e c = absurd c
+  automatic_case g y (Some function) e c =
+      All-contains (IsAutomaticObject p) (listed p) y runs.typed.listed_objects (contains_flat listed_by y p.functions g function e c)
+
+  -- each function that calls from one with a body lead to has a body
+  lead_body : (f : ℕ) (chain : List PlacedCall) → IsChain p f chain → HasBody p f → HasBody p (chain_end f chain)
+  lead_body f [] t h = h
+  lead_body f (call ∷ rest) (made, t) h =
+      lead_body call.callee rest t (All-contains (λ c. HasBody p c.callee) (function_calls p f) call (runs.planned.called_bodies f) made)
+
+  start_case : (o : Option TFunctionTree) → IsSomeAnd o IsStart → IsSomeAnd o (λ function. IsSome function.body)
+  start_case None h = h
+  start_case (Some function) h = h.body
+
+  main_uses : (u : Use) → OpensCall p plan.main u → IsReady p (Finish ∷ []) u
+  main_uses (Object y) (g, leads, there) =
+      let automatic = automatic_case g y (slice_get p.functions g) refl there in (
+        object_there (slice_get p.objects y) p.objects y refl automatic,
+        (λ o. by_sum o (λ s. not_static (slice_get p.objects y) automatic s) (λ c. c)),
+      )
+  main_uses (Function g) leads = subst (λ z. HasBody p z) leads.ends (lead_body plan.main leads.chain leads.calls (start_case (slice_get p.functions plan.main) runs.planned.start))
+
+  -- ---- the start
+
+  record IsMain : Type 0 where
+    function : TFunctionTree
+    body : TStmtTree
+    found : slice_get p.functions plan.main ≡ Some function
+    is : function.body ≡ Some body
+    params : function.params ≡ []
+    result : function.result ≡ Int ints.Int
+
+  main_body : (function : TFunctionTree) (o : Option TStmtTree) → slice_get p.functions plan.main ≡ Some function → function.body ≡ o → IsSome o → IsStart function → IsMain
+  main_body function None found e h start_of = absurd (cc)
+  main_body function (Some body) found e h start_of =
+      record { function = function; body = body; found = found; is = e; params = start_of.params; result = start_of.result }
+
+  main_case : (o : Option TFunctionTree) → slice_get p.functions plan.main ≡ o → IsSomeAnd o IsStart → IsMain
+  main_case None e h = absurd h
+  main_case (Some function) e h = main_body function function.body e refl h.body h
+
+  main_takes : (main : IsMain) → Takes p (Int ints.Int) (Enter None plan.main GivesZero ∷ Finish ∷ []) []
+  main_takes main =
+      subst (λ ws. Takes p (Int ints.Int) (Enter None plan.main GivesZero ∷ Finish ∷ []) (args_on ws [])) (ap (λ xs. map (λ x. want_of (object_type p x)) xs) main.params)
+      (rules.enter main.found main.is (subst (λ r. rules.GivesAtEnd r None GivesZero (want_of (Int ints.Int))) (sym main.result) rules.zero) rules.finish)
+
+  pub fits_start : (inputs : List ℤ) → Fits p (start p plan.main inputs)
+  fits_start inputs =
+      let main = main_case (slice_get p.functions plan.main) refl runs.planned.start in
+      record {
+        result = Int ints.Int;
+        wants = [];
+        takes = main_takes main;
+        stacked = bottom;
+        parted = (main_uses, tt, ((λ u o. absurd o), tt, tt));
+        live = ((λ y o. start_placed p runs.typed runs.bits y (by_sum o (λ s. s) (λ c. absurd c))), (λ y h. inl (start_only p y h)));
+        kept = start_is_kept p runs.typed runs.bits runs.whole;
+      }
+
+pub runs_fit : RunsFit
+runs_fit p plan runs inputs n = steps_keep p (is_runnable p plan runs.typed runs.planned) n (start p plan.main inputs) (fits_start p plan runs inputs)
+
+pub runs_never_stand : RunsNeverStand
+runs_never_stand p plan runs inputs n = fits_goes p (is_runnable p plan runs.typed runs.planned) (after p plan.main inputs n) (runs_fit p plan runs inputs n)

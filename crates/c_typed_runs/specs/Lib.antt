@@ -1,0 +1,5 @@
+pub mod Wants
+pub mod Surroundings
+pub mod Takes
+pub mod Opens
+pub mod Fits
