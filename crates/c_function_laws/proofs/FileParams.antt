@@ -1,20 +1,20 @@
 -- The functions of a file take scalars, and give one or nothing.
 use Rattle.std.proofs.Common.{◌≡◌, ℕ, zero, suc, ◌<◌, true, List, [], ◌∷◌, ◌++◌, length, refl, ap, sym, subst, arith}
-use Rattle.std.specs.Prelude.{Option, None, Some, option_map, unwrap_or, IsSomeAnd, All, map, set, slice_get, ⊤}
+use Rattle.std.specs.Prelude.{Option, None, Some, option_map, unwrap_or, IsSomeAnd, IfSome, All, map, set, slice_get, ⊤}
 use Rattle.std.proofs.lemmas.Option.{same_Some}
 use Rattle.std.proofs.lemmas.List.Elements.{All-nil, All-weaker, All-map, All-head, All-tail, All-set}
 use Rattle.c_written.specs.declared.place.Pos.{Pos}
-use Rattle.c_written.specs.WrittenFile.{OuterTree}
+use Rattle.c_written.specs.WrittenFile.{OuterTree, FileTree}
 use Rattle.c_syntax.specs.declared.statement.BlockKind.TheVariants as kinds
 use Rattle.c_syntax.specs.Types.{CTypeTree, Void, ObjectTree}
-use Rattle.c_syntax.specs.TypedStmt.{Block}
+use Rattle.c_syntax.specs.TypedStmt.{TStmtTree, Block}
 use Rattle.c_syntax.specs.Program.{TFunctionTree, TProgramTree}
 use Rattle.c_layout.specs.RowTypes.{IsScalar}
-use Rattle.c_layout.specs.TypedNodes.{object_type}
+use Rattle.c_layout.specs.TypedNodes.{object_type, IsBlock}
 use Rattle.c_typing.specs.World.{World, Form, Outcome, Typed, Refused}
 use Rattle.c_typing.specs.Names.{closed}
 use Rattle.c_typing.specs.Formed.{IsFormedForm}
-use Rattle.c_typing.specs.Settled.{settled_function}
+use Rattle.c_typing.specs.Settled.{settled_function, settled_stmt}
 use Rattle.c_typing.specs.Declarators.{DeclaredName, ParameterTree, Step}
 use Rattle.c_typing.specs.Context.{Context, file_context, has_name}
 use Rattle.c_typing.specs.Decls.{Made, numbers_from, parameter_object}
@@ -32,7 +32,7 @@ use Rattle.c_typing_steps.proofs.Reached.{good_by, head_facts, outer_reach, oute
 use Rattle.c_typing_steps.proofs.Scalars.{IsScalarForm, IsScalarMeaning, AreScalarSteps, ScalarNames}
 use Rattle.c_typing_steps.proofs.Keeps.{decl_keeps, items_keep}
 use Rattle.c_typing_steps.proofs.FileKeeps.{head_scalar, body_scalar, outer_scalar}
-use Rattle.c_function_laws.specs.FunctionLaws.{TakesScalars, FunctionsTakeScalars}
+use Rattle.c_function_laws.specs.FunctionLaws.{TakesScalars, FunctionsTakeScalars, BodiesAreBlocks}
 use Rattle.c_function_laws.proofs.Params.{HasScalar, IsFunctionIn, AreIn, in_same, in_calm, in_parameters, numbers_scalar, given_scalar, new_in, FunctionForm, function_form, functions_kept}
 
 -- ---- one function changes
@@ -69,13 +69,13 @@ head_in {w = w} {y = y} {steps = steps} {base = base} {named = named} s f t b (h
     let x = record v { objects = v.objects ++ map (parameter_object v) params; total = total } in
     in_same (with_function_at x n (defined_function named (numbers_from (length v.objects) (length params)))) y refl refl refl
     (changed_in x n (defined_function named (numbers_from (length v.objects) (length params)))
-    (λ g i. record { result = i.result; formed = i.formed; params = numbers_scalar v params v.objects scalar })
+    (λ g i. record { result = i.result; formed = i.formed; params = numbers_scalar v params v.objects scalar; block = i.block })
     (in_parameters v params x refl refl refl (function_in scalar form is all)))
 
 ended_in : (begun : Begun) (brace : Pos) (made : Made) (z : World) → AreIn z → AreIn (definition_ends begun brace made z)
 ended_in begun brace made z all =
     let shut = record (closed begun.outside z) { labels = []; cases = []; default = None } in
-    changed_in shut begun.number (with_body (Block brace kinds.Written made.objects made.items)) (λ f i. record { result = i.result; formed = i.formed; params = i.params }) (in_same z shut refl refl refl all)
+    changed_in shut begun.number (with_body (Block brace kinds.Written made.objects made.items)) (λ f i. record { result = i.result; formed = i.formed; params = i.params; block = tt }) (in_same z shut refl refl refl all)
 
 outer_in : {w v : World} {around : Context} {tree : OuterTree} → Good w → ScalarNames w → MakesOuter w around tree v → AreIn w → AreIn v
 outer_in {around = around} good names (outers.declares d) all = (decl_keeps (functions_kept around.functions around.objects) refl refl good d (record { names = names; has = all })).has
@@ -122,11 +122,38 @@ takes w good f i = record {
   result_proper = proper w.structs (typed_table w.structs good.made good.sound).told f.result i.formed;
 }
 
+settled_block : (objects : List ObjectTree) (s : TStmtTree) → IsBlock s → IsBlock (settled_stmt objects s)
+unfolding settled_stmt
+settled_block objects (Block at kind numbers items) h = tt
+settled_block objects s h = absurd h
+
+block_settled : (objects : List ObjectTree) (body : Option TStmtTree) → IfSome body IsBlock → IfSome (option_map (settled_stmt objects) body) IsBlock
+block_settled objects None h = tt
+block_settled objects (Some s) h = settled_block objects s h
+
+-- ---- the world at the end of a file
+
+pub record AtEnd (w : World) : Type 0 where
+  pub good : Good w
+  pub all : AreIn w
+
+at_end : (file : FileTree) (w : World) → TypesOuters nothing_yet (file_context file) file.outers (Typed tt w) → AtEnd w
+at_end file w t =
+    let made = typed_from (outers_as nothing_yet (file_context file) file.outers (Typed tt w) t) in record {
+      good = good_by nothing_good (outers_reach nothing_good made);
+      all = outers_in nothing_good (All-nil (λ b. IsScalarMeaning b.meaning)) made (All-nil (IsFunctionIn [] []));
+    }
+
 pub functions_take_scalars : FunctionsTakeScalars
 functions_take_scalars file program types =
     of_last (λ p. All (TakesScalars p) p.functions) program types.last types.is (λ w e.
-    let made = typed_from (outers_as nothing_yet (file_context file) file.outers (Typed tt w) (subst (λ o. TypesOuters nothing_yet (file_context file) file.outers o) e types.types)) in
-    let good = good_by nothing_good (outers_reach nothing_good made) in
-    let all = outers_in nothing_good (All-nil (λ b. IsScalarMeaning b.meaning)) made (All-nil (IsFunctionIn [] [])) in
+    let end = at_end file w (subst (λ o. TypesOuters nothing_yet (file_context file) file.outers o) e types.types) in
     All-map (TakesScalars (program_of w)) (settled_function w.objects) w.functions
-    (All-weaker (IsFunctionIn w.structs w.objects) (λ f. TakesScalars (program_of w) (settled_function w.objects f)) (λ f i. takes w good f i) w.functions all))
+    (All-weaker (IsFunctionIn w.structs w.objects) (λ f. TakesScalars (program_of w) (settled_function w.objects f)) (λ f i. takes w end.good f i) w.functions end.all))
+
+pub bodies_are_blocks : BodiesAreBlocks
+bodies_are_blocks file program types =
+    of_last (λ p. All (λ f. IfSome f.body IsBlock) p.functions) program types.last types.is (λ w e.
+    let end = at_end file w (subst (λ o. TypesOuters nothing_yet (file_context file) file.outers o) e types.types) in
+    All-map (λ f. IfSome f.body IsBlock) (settled_function w.objects) w.functions
+    (All-weaker (IsFunctionIn w.structs w.objects) (λ f. IfSome (settled_function w.objects f).body IsBlock) (λ f i. block_settled w.objects f.body i.block) w.functions end.all))

@@ -1,6 +1,6 @@
 -- Functions between declarations: their results, and the objects of their parameters.
 use Rattle.std.proofs.Common.{◌≡◌, ℕ, zero, suc, ◌+◌, true, false, List, [], ◌∷◌, ◌++◌, length, refl, ap, sym, subst, ◌∙◌}
-use Rattle.std.specs.Prelude.{◌⊎◌, Bool, not, ◌&&◌, if◌then◌else◌, Option, None, Some, option_map, unwrap_or, IsSomeAnd, All, map, set, slice_get}
+use Rattle.std.specs.Prelude.{◌⊎◌, Bool, not, ◌&&◌, if◌then◌else◌, Option, None, Some, option_map, unwrap_or, IsSomeAnd, IfSome, All, map, set, slice_get}
 use Rattle.std.proofs.lemmas.Bool.{and_parts}
 use Rattle.std.proofs.lemmas.Option.{same_Some}
 use Rattle.std.proofs.lemmas.List.{length_push, append_assoc}
@@ -10,6 +10,7 @@ use Rattle.c_written.specs.WrittenDecl.{InitTree}
 use Rattle.c_syntax.specs.Types.{CTypeTree, Void, Int, Pointer, Array, ObjectTree}
 use Rattle.c_syntax.specs.Program.{TFunctionTree, StructDefTree}
 use Rattle.c_layout.specs.RowTypes.{IsScalar}
+use Rattle.c_layout.specs.TypedNodes.{IsBlock}
 use Rattle.c_typing.specs.World.{World, Form, Callable, Object, Linked, Typed}
 use Rattle.c_typing.specs.Names.{with_initial}
 use Rattle.c_typing.specs.Formed.{IsFormed, IsFormedForm}
@@ -42,6 +43,7 @@ pub record IsFunctionIn (structs : List StructDefTree) (objects : List ObjectTre
   pub result : IsScalar f.result ⊎ (f.result ≡ Void)
   pub formed : IsFormed structs f.result
   pub params : All (HasScalar objects) f.params
+  pub block : IfSome f.body IsBlock
 
 abbrev pub AreIn : World → Type 0
 AreIn w = All (IsFunctionIn w.structs w.objects) w.functions
@@ -77,6 +79,7 @@ in_after w v s all =
       result = i.result;
       formed = s.formed f.result i.formed;
       params = All-weaker (HasScalar w.objects) (HasScalar v.objects) (λ o h. s.objects o h) f.params i.params;
+      block = i.block;
     }) w.functions all)
 
 pub in_same : (w v : World) → v.structs ≡ w.structs → v.objects ≡ w.objects → v.functions ≡ w.functions → AreIn w → AreIn v
@@ -145,12 +148,12 @@ pub new_in :
 new_in w named true params types result scalar r f all =
     let v = new_function w named true params types result in
     All-push (IsFunctionIn v.structs v.objects) w.functions (function_tree named [] result) (in_same w (record v { functions = w.functions }) refl refl refl all)
-    (record { result = r; formed = f; params = All-nil (HasScalar w.objects) })
+    (record { result = r; formed = f; params = All-nil (HasScalar w.objects); block = tt })
 new_in w named false params types result scalar r f all =
     let v = new_function w named false params types result in
     All-push (IsFunctionIn v.structs v.objects) w.functions (function_tree named (numbers_from (length w.objects) (length params)) result)
     (in_parameters w params (record v { functions = w.functions }) refl refl refl all)
-    (record { result = r; formed = f; params = numbers_scalar w params w.objects scalar })
+    (record { result = r; formed = f; params = numbers_scalar w params w.objects scalar; block = tt })
 
 -- the parameters that a declarator writes, or those that a typedef name gives
 pub given_scalar : (params : List ParameterTree) (names tags : _) (rest : List Step) → AreScalarSteps (FunctionOf params names tags ∷ rest) → All (λ p. IsScalar p.ty) params

@@ -10,9 +10,14 @@
 //! without size has another behind its initialiser.
 #![tactic(auto)]
 
-ghost use Rattle.c_function_laws.specs.FunctionLaws.{FunctionsTakeScalars};
+ghost use Rattle.c_function_laws.specs.FunctionLaws.{FunctionsTakeScalars, BodiesAreBlocks};
 
 /// Each function takes scalars, by objects of its own, and gives one or nothing.
 pub fn functions_take_scalars()
     ensures { FunctionsTakeScalars }
+{}
+
+/// The body of each function is a block.
+pub fn bodies_are_blocks()
+    ensures { BodiesAreBlocks }
 {}

@@ -112,7 +112,7 @@ continued : {may : Changes} (w v : World) → Reaches may w v → Continued w v
 continued w v (stays _) = all_same w w refl refl refl
 continued w v (after _ u _ r s) = continued_then w u v (continued w u r) (continued u v s)
 continued w v (named _ at name meaning f h) = all_same w _ refl refl refl
-continued w v (literal _ at bytes) = same_functions w _ refl refl (keep_append objects_order w.objects _)
+continued w v (literal _ at bytes small) = same_functions w _ refl refl (keep_append objects_order w.objects _)
 continued w v (struct _ tag) = all_same w _ refl refl refl
 continued w v (new_struct _ tag d) = all_same w _ refl refl refl
 continued w v (enumeration _ tag d) = all_same w _ refl refl refl

@@ -1,13 +1,15 @@
 -- Nodes of expressions leave the world as it is, but for literals.
-use Rattle.std.specs.Prelude.{ℕ, ◌+◌, nat_lt, length, Option, Some, None, List}
+use Rattle.std.proofs.Common.{◌≡◌, refl}
+use Rattle.std.specs.Prelude.{ℕ, ◌+◌, nat_lt, length, Bool, true, false, Option, Some, None, List}
+use Rattle.std.proofs.lemmas.Bool.{ltb-false}
 use Rattle.c_written.specs.declared.place.Pos.{Pos}
 use Rattle.c_written.specs.declared.int_type.IntType.{IntType}
 use Rattle.c_written.specs.declared.written.UnaryOp.{UnaryOp}
 use Rattle.c_written.specs.declared.written.UnaryOp.TheVariants as prefixes
 use Rattle.c_syntax.specs.Types.{CTypeTree}
-use Rattle.c_syntax.specs.TypedExpr.{TExprTree, Assume, Assert, TLvalueTree, TExprTrees, none, more}
+use Rattle.c_syntax.specs.TypedExpr.{TExprTree, Assume, Assert, TLvalueTree, Var, TExprTrees, none, more}
 use Rattle.c_typing.proofs.Changes.{Changes}
-use Rattle.c_typing.specs.World.{World, Form, Plain, Unsized, Callable, Meaning, Object, Missing, Parameter, TypeName, Enumeration, Refusal, ObjectTooLarge, TotalTooLarge, Outcome, Typed, Refused}
+use Rattle.c_typing.specs.World.{World, Form, Plain, Unsized, Callable, Meaning, Object, Missing, Parameter, TypeName, Enumeration, Refusal, ObjectTooLarge, TotalTooLarge, Outcome, Typed, Refused, unless}
 use Rattle.c_typing.specs.Names as names
 use Rattle.c_typing.specs.World as world
 use Rattle.c_typing.specs.Operands.{OperandTree, Place, Value}
@@ -41,7 +43,13 @@ within_limits at size w p =
     (goes_unless (nat_lt names.total_limit (w.total + size)) (TotalTooLarge at (w.total + size)) p)
 
 pub literal_node : {may : Changes} (w : World) (at : Pos) (bytes : List ℕ) → Goes may w (nodes.literal w at bytes)
-literal_node w at bytes = within_limits at (length bytes + 1) w (typed (literal w at bytes))
+literal_node {may = may} w at bytes = by (nat_lt names.object_limit (length bytes + 1)) refl
+  where
+    by : (large : Bool) → nat_lt names.object_limit (length bytes + 1) ≡ large
+        → Goes may w (unless large (ObjectTooLarge at (length bytes + 1)) (unless (nat_lt names.total_limit (w.total + (length bytes + 1))) (TotalTooLarge at (w.total + (length bytes + 1)))
+        (Typed (Place (Var at (length w.objects) (names.literal_type (length bytes + 1)) false)) (names.with_literal w at bytes))))
+    by true e = refused
+    by false e = goes_unless _ _ (typed (literal w at bytes (ltb-false names.object_limit (length bytes + 1) e)))
 
 pub address : {may : Changes} (w : World) (at : Pos) (x : OperandTree) → Goes may w (nodes.address w at x)
 address w at (Value e) = refused

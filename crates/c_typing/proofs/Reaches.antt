@@ -1,6 +1,6 @@
 -- How a world goes on: each change that typing makes, and what parts of the text it makes it for.
 use Rattle.std.proofs.Common.{◌≡◌, refl, ap, sym, subst, ◌∙◌}
-use Rattle.std.specs.Prelude.{ℕ, slice_get, Bool, true, false, if◌then◌else◌, Option, None, Some, List, [], ◌∷◌, ◌++◌, map, take, length, All}
+use Rattle.std.specs.Prelude.{ℕ, ◌+◌, ◌≤◌, slice_get, Bool, true, false, if◌then◌else◌, Option, None, Some, List, [], ◌∷◌, ◌++◌, map, take, length, All}
 use Rattle.c_written.specs.declared.place.Pos.{Pos}
 use Rattle.c_written.specs.declared.written.Tag.{Tag}
 use Rattle.c_syntax.specs.Types.{CTypeTree}
@@ -10,7 +10,7 @@ use Rattle.c_syntax.specs.Program.{MemberTree, StructDefTree}
 use Rattle.c_typing.proofs.Changes.{Changes, Constants, Names, Any, within, MayName}
 use Rattle.c_typing.specs.World as world
 use Rattle.c_typing.specs.World.{World, Meaning, Object, Missing, Parameter, TypeName, Enumeration, TagMeaning, OpenEnumTag, Outcome, Typed, Refused, Refusal, Then, goes_on, stops, Is, unless}
-use Rattle.c_typing.specs.Names.{linked_as, opened, closed, with_name, with_struct, with_tag, with_tag_become, with_members, with_literal, with_initial}
+use Rattle.c_typing.specs.Names.{linked_as, opened, closed, with_name, with_struct, with_tag, with_tag_become, with_members, with_literal, with_initial, object_limit}
 use Rattle.c_syntax.specs.declared.program.InitByte.{InitByte}
 use Rattle.c_syntax.specs.Types.{ObjectTree}
 use Rattle.c_syntax.specs.Program.{TFunctionTree}
@@ -29,7 +29,7 @@ pub data Reaches : Changes → World → World → Type 0 where
   stays : {may : Changes} (w : World) → Reaches may w w
   after : {may : Changes} (u v w : World) → Reaches may u v → Reaches may v w → Reaches may u w
   named : {may : Changes} (w : World) (at : Pos) (name : List ℕ) (meaning : Meaning) → IsFormedMeaning w.structs meaning → MayName may meaning → Reaches may w (with_name w at name meaning)
-  literal : {may : Changes} (w : World) (at : Pos) (bytes : List ℕ) → Reaches may w (with_literal w at bytes)
+  literal : {may : Changes} (w : World) (at : Pos) (bytes : List ℕ) → length bytes + 1 ≤ object_limit → Reaches may w (with_literal w at bytes)
   struct : {may : Changes} (w : World) (tag : List ℕ) → Reaches may w (with_struct w tag)
   new_struct : {may : Changes} (w : World) (tag : Tag) (defined : Option Pos) → Reaches may w (with_new w tag defined)
   enumeration : {may : Changes} (w : World) (tag : Tag) (defined : Option Pos) → Reaches may w (with_tag w tag defined OpenEnumTag)
@@ -82,7 +82,7 @@ kept w v (stays _) good = kept_same w w refl refl refl good
 kept w v (after _ u _ r s) good =
     let one = kept w u r good in let two = kept u v s one.good in record { good = two.good; frame = frame_then w u v one.frame two.frame }
 kept w v (named _ at name meaning f m) good = record { good = good_named w at name meaning f good; frame = frame_same w _ refl refl }
-kept w v (literal _ at bytes) good = kept_same w _ refl refl refl good
+kept w v (literal _ at bytes small) good = kept_same w _ refl refl refl good
 kept w v (struct _ tag) good = record { good = good_struct w tag good; frame = frame_struct w tag }
 kept w v (new_struct _ tag d) good = record { good = good_new w tag d good; frame = frame_new w tag d }
 kept w v (enumeration _ tag d) good = record { good = good_enum w tag d good; frame = frame_enum w tag d }
@@ -206,7 +206,7 @@ pub quiet : (may : Changes) (w v : World) → Reaches may w v → IsQuiet may w 
 quiet may w v (stays _) = quiet_same may w w refl refl refl refl
 quiet may w v (after _ u _ r s) = quiet_then may w u v (quiet may w u r) (quiet may u v s)
 quiet may w v (named _ at name meaning f h) = quiet_named may w at name meaning h
-quiet may w v (literal _ at bytes) = quiet_more may w _ _ refl refl refl refl
+quiet may w v (literal _ at bytes small) = quiet_more may w _ _ refl refl refl refl
 quiet may w v (struct _ tag) = quiet_same may w _ refl refl refl refl
 quiet may w v (new_struct _ tag d) = quiet_same may w _ refl refl refl refl
 quiet may w v (enumeration _ tag d) = quiet_same may w _ refl refl refl refl

@@ -117,7 +117,7 @@ names_kept : {may : Changes} (w v : World) → Reaches may w v → AreNamed w �
 names_kept w v (stays _) h = h
 names_kept w v (after _ u _ r s) h = names_kept u v s (names_kept w u r h)
 names_kept w v (named _ at name meaning f m) h = h
-names_kept w v (literal _ at bytes) h = h
+names_kept w v (literal _ at bytes small) h = h
 names_kept w v (struct _ tag) h = h
 names_kept w v (new_struct _ tag d) h = h
 names_kept w v (enumeration _ tag d) h = h

@@ -1,12 +1,12 @@
 -- What an expression, a type or an initialiser leaves as it is: all but constants, structs and literals.
 use Rattle.std.proofs.Common.{◌≡◌, ℕ, List, [], ◌∷◌, ◌++◌, length, refl, sym, ◌∙◌, ap}
-use Rattle.std.specs.Prelude.{◌+◌, All}
+use Rattle.std.specs.Prelude.{◌+◌, ◌≤◌, All}
 use Rattle.std.proofs.lemmas.List.{append-nil, append_assoc}
 use Rattle.std.proofs.lemmas.List.Elements.{All-nil, All-append, All-push}
 use Rattle.c_written.specs.declared.place.Pos.{Pos}
 use Rattle.c_syntax.specs.Types.{ObjectTree}
 use Rattle.c_typing.specs.World.{World}
-use Rattle.c_typing.specs.Names.{literal_object}
+use Rattle.c_typing.specs.Names.{literal_object, object_limit}
 use Rattle.c_typing.proofs.Changes.{Changes, Constants, Names, Any, within}
 use Rattle.c_typing.proofs.Reaches.{Reaches, stays, after, named, literal, struct, new_struct, enumeration, tag_changed, body, opens, scoped, object, counted, sized, initial, linked, defined, retyped, parameters, function, function_changed, labelled, cased, in_body}
 
@@ -15,6 +15,7 @@ pub record IsLiteral (x : ObjectTree) : Type 0 where
   pub at : Pos
   pub bytes : List ℕ
   pub is : x ≡ literal_object at (length bytes + 1)
+  pub small : length bytes + 1 ≤ object_limit
 
 -- nothing but literals is added, and what labels, cases and names of the file there are stays
 pub record Calm (w v : World) : Type 0 where
@@ -67,15 +68,15 @@ in_scope Constants w o v x a b c d e f g h i j k = calm_then w o x (calm_same w 
 in_scope Names w o v x a b c d e f g h i j k = calm_then w o x (calm_same w o a b c d e) (shut o v x f g h i j k)
 in_scope Any w o v x a b c d e f g h i j k = tt
 
-with_literal : (may : Changes) (w v : World) (at : Pos) (bytes : List ℕ) → v.objects ≡ w.objects ++ literal_object at (length bytes + 1) ∷ [] → v.labels ≡ w.labels → v.cases ≡ w.cases
+with_literal : (may : Changes) (w v : World) (at : Pos) (bytes : List ℕ) → length bytes + 1 ≤ object_limit → v.objects ≡ w.objects ++ literal_object at (length bytes + 1) ∷ [] → v.labels ≡ w.labels → v.cases ≡ w.cases
     → v.default ≡ w.default → v.linked ≡ w.linked → IsCalm may w v
-with_literal may w v at bytes o l c d n = by may
+with_literal may w v at bytes small o l c d n = by may
   where
     one : Calm w v
     one = record {
       extra = literal_object at (length bytes + 1) ∷ [];
       objects = o;
-      literals = All-push IsLiteral [] (literal_object at (length bytes + 1)) (All-nil IsLiteral) (record { at = at; bytes = bytes; is = refl });
+      literals = All-push IsLiteral [] (literal_object at (length bytes + 1)) (All-nil IsLiteral) (record { at = at; bytes = bytes; is = refl; small = small });
       labels = l;
       cases = c;
       default = d;
@@ -91,7 +92,7 @@ calm_by : (may : Changes) (w v : World) → Reaches may w v → IsCalm may w v
 calm_by may w v (stays _) = same may w w refl refl refl refl refl
 calm_by may w v (after _ u _ r s) = next may w u v (calm_by may w u r) (calm_by may u v s)
 calm_by may w v (named _ at name meaning f h) = same may w _ refl refl refl refl refl
-calm_by may w v (literal _ at bytes) = with_literal may w _ at bytes refl refl refl refl refl
+calm_by may w v (literal _ at bytes small) = with_literal may w _ at bytes small refl refl refl refl refl
 calm_by may w v (struct _ tag) = same may w _ refl refl refl refl refl
 calm_by may w v (new_struct _ tag d) = same may w _ refl refl refl refl refl
 calm_by may w v (enumeration _ tag d) = same may w _ refl refl refl refl refl

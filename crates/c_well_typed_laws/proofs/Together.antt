@@ -1,0 +1,48 @@
+-- What is proved of typed files, together.
+use Rattle.std.proofs.Common.{List, ⊎_elim}
+use Rattle.std.specs.Prelude.{◌⊎◌, Option, None, Some, IfSome}
+use Rattle.c_syntax.specs.TypedStmt.{TStmtTree}
+use Rattle.c_syntax.specs.Types.{ObjectTree}
+use Rattle.c_syntax.specs.Program.{StructDefTree, TFunctionTree, TProgramTree}
+use Rattle.c_layout.specs.TypedNodes.{IsBlock, IsTypedStmt}
+use Rattle.c_layout.specs.WellTyped.{IsTypedObject, IsTypedBody, body_standing}
+use Rattle.c_typing_laws.proofs.WholePrograms.{tables_are_typed, initials_are_given}
+use Rattle.c_typing_laws.proofs.DistinctNames.{names_are_distinct}
+use Rattle.c_block_laws.specs.JumpLaws.{HasItsLabels}
+use Rattle.c_block_laws.proofs.Programs.{labels_are_there, objects_are_listed}
+use Rattle.c_function_laws.proofs.FileParams.{functions_take_scalars, bodies_are_blocks}
+use Rattle.c_object_laws.specs.ObjectLaws.{IsOpenArray}
+use Rattle.c_object_laws.proofs.FileObjects.{objects_are_typed}
+use Rattle.c_piece_laws.proofs.FilePieces.{pieces_are_static}
+use Rattle.c_well_typed_laws.specs.WhatIsLeft.{WhatIsLeft}
+
+body_typed : (program : TProgramTree) (f : TFunctionTree) (body : Option TStmtTree) → IfSome body IsBlock → IfSome body (IsTypedStmt (body_standing program f)) → IfSome body HasItsLabels → IfSome body (IsTypedBody program f)
+body_typed program f None b t l = tt
+body_typed program f (Some s) b t l = record { block = b; typed = t; labels_distinct = l.distinct; gotos_there = l.there }
+
+object_is : (structs : List StructDefTree) (x : ObjectTree) → IsTypedObject structs x ⊎ IsOpenArray x → (IsOpenArray x → ⊥) → IsTypedObject structs x
+object_is structs x t no_open = ⊎_elim (λ i. i) (λ o. absurd (no_open o)) t
+
+pub what_is_left : WhatIsLeft
+what_is_left file program types left =
+    let takes = functions_take_scalars file program types in
+    let blocks = bodies_are_blocks file program types in
+    let labels = labels_are_there file program types in
+    let lists = objects_are_listed file program types in
+    let objects = objects_are_typed file program types in
+    let given = initials_are_given file program types in
+    let pieces = pieces_are_static file program types in record {
+      structs = tables_are_typed file program types;
+      objects = λ k d h. object_is program.structs _ (objects k d h) (left.sizes_told k d h);
+      functions = λ k d h. record {
+        params = (takes k d h).params;
+        result = (takes k d h).result;
+        result_proper = (takes k d h).result_proper;
+        body = body_typed program _ _ (blocks k d h) (left.bodies k d h) (labels k d h);
+      };
+      names_distinct = names_are_distinct file program types;
+      listed_objects = lists.automatic;
+      listed_once = lists.once;
+      initial = λ k d h. record { object = given.are_static k d h; size = left.sizes k d h; bytes = pieces k d h };
+      initial_once = given.once;
+    }
