@@ -1,3 +1,4 @@
 pub mod FirstFound
 pub mod Forms
 mod Sidewise
+mod Together

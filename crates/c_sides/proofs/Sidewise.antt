@@ -1,5 +1,5 @@
 -- What several sides do, and the store that an `=` ends with.
-use Rattle.std.proofs.Common.{◌≡◌, ℕ, ◌+◌, ◌-◌, ◌<◌, ◌≤◌, Bool, true, false, List, [], ◌∷◌, ◌++◌, length, get_or, take, refl, sym, subst, ap, ◌∙◌, arith, append_assoc, append-nil, length-append}
+use Rattle.std.proofs.Common.{◌≡◌, ℕ, ◌+◌, ◌-◌, ◌<◌, ◌≤◌, Bool, true, false, List, [], ◌∷◌, ◌++◌, length, get_or, take, refl, sym, ap, ◌∙◌, arith, append_assoc, append-nil, length-append}
 use Rattle.std.specs.Prelude.{◌==◌, not}
 use Rattle.std.specs.List.{list_any}
 use Rattle.std.proofs.lemmas.Bool.Decides.{nat_tests}
@@ -18,7 +18,7 @@ use Rattle.c_layout.specs.Calls.{PlacedCall}
 use Rattle.c_places.specs.declared.touch.Touch.{Touch}
 use Rattle.c_effects.specs.declared.effects.Effects.{Effects}
 use Rattle.c_effects.specs.Effects.{called, effects_of}
-use Rattle.c_effects.specs.Joined.{joined, nothing}
+use Rattle.c_effects.specs.Joined.{nothing}
 use Rattle.c_effects.proofs.Joins.{joined_nothing, three}
 use Rattle.c_touch_sets.specs.Met.{met}
 use Rattle.c_sides.specs.declared.side.Side.{Side}

@@ -1,5 +1,5 @@
 -- The first two sides of which one writes what the other touches, as tests.
-use Rattle.std.specs.Prelude.{◌||◌, ℕ, Option, None, Some, Bool, List, ◌++◌, slice_get}
+use Rattle.std.specs.Prelude.{◌||◌, Option, None, Some, Bool, List, ◌++◌, slice_get}
 use Rattle.std.specs.List.{filter, flat_map, list_any}
 use Rattle.c_layout.specs.Calls.{PlacedCall}
 use Rattle.c_places.specs.declared.touch.Touch.{Touch}

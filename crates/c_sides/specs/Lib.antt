@@ -1,3 +1,4 @@
+pub mod Earlier
 pub mod Firsts
 pub mod Made
 pub mod Sides

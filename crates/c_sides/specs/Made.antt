@@ -1,7 +1,6 @@
 -- What a part of an expression does: what it touches itself, and which functions it calls.
 use Rattle.std.specs.Prelude.{ℕ, List, [], ◌∷◌, ◌++◌}
 use Rattle.c_written.specs.declared.place.Pos.{Pos}
-use Rattle.c_layout.specs.Calls.{PlacedCall}
 use Rattle.c_effects.specs.declared.effects.Effects.{Effects}
 use Rattle.c_effects.specs.Joined.{joined, nothing}
 use Rattle.c_sides.specs.declared.side.Side.{Side}

@@ -102,7 +102,11 @@ fn one_writes(alloc: Global, known: &Known, a: &Effects, b: &Effects) -> Result<
     Ok(one_met(taken, a.writes.as_slice(), &touched))
 }
 
-fn insert_all(taken: &[bool], touches: &[Touch], set: &mut TouchSet) -> Result<(), NoMemory>
+pub(crate) fn insert_all(
+    taken: &[bool],
+    touches: &[Touch],
+    set: &mut TouchSet,
+) -> Result<(), NoMemory>
     ensures { OnOk result ((held : List Touching) → Holds set.old taken.now held → Holds set.new taken.now (held ++ touches.now)) }
 {
     for touch in touches {
@@ -111,7 +115,7 @@ fn insert_all(taken: &[bool], touches: &[Touch], set: &mut TouchSet) -> Result<(
     Ok(())
 }
 
-fn one_met(taken: &[bool], writes: &[Touch], touched: &TouchSet) -> bool
+pub(crate) fn one_met(taken: &[bool], writes: &[Touch], touched: &TouchSet) -> bool
     ensures { (held : List Touching) → Holds touched.now taken.now held → result ≡ list_any (λ s. list_any (met taken.now s) held) writes.now }
 {
     for write in writes {

@@ -6,7 +6,8 @@ ghost use Rattle.c_syntax.specs.TypedExpr.{texpr_tree, tlvalue_tree};
 ghost use Rattle.c_sides.specs.Firsts.{or_first};
 ghost use Rattle.c_sides.specs.Sides.{all_pairs, made_beside, side_of, store_of, stored_beside, two, with_each};
 
-use crate::clash::clash;
+use crate::clash::{clash, effects_of_side};
+use crate::earlier::Earlier;
 use crate::known::Known;
 use crate::side::{Comparison, Side};
 use c_places::{Touch, place_of};
@@ -53,7 +54,7 @@ fn found_here(
     }
 }
 
-// Any two of these sides.
+// Any two of these sides. Each is compared with all before it at once, and one by one only where that finds something.
 pub(crate) fn compare_all(
     alloc: Global,
     known: &Known,
@@ -63,8 +64,14 @@ pub(crate) fn compare_all(
 ) -> Result<(), NoMemory>
     ensures { OnOk result (found.new ≡ or_first known.now found.old (all_pairs pos sides.now)) }
 {
+    let taken = known.taken.as_slice();
+    let mut earlier = Earlier::new(alloc);
     for (at, side) in sides.iter().enumerate() {
-        compare_with(alloc, known, pos, &sides[..at], side, found)?;
+        let effects = effects_of_side(alloc, known, side)?;
+        if earlier.clashes(taken, &effects) {
+            compare_with(alloc, known, pos, &sides[..at], side, found)?;
+        }
+        earlier.add(taken, &effects)?;
     }
     Ok(())
 }

@@ -16,6 +16,7 @@
 
 mod clash;
 mod compare;
+mod earlier;
 mod exprs;
 mod known;
 mod side;

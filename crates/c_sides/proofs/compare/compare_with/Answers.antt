@@ -1,4 +1,3 @@
-use Rattle.std.proofs.Common.{arith}
 use Rattle.c_sides.proofs.FirstFound.{more_each}
 use Rattle.c_sides.proofs.compare.compare_with.Goals as goal
 

@@ -1,4 +1,4 @@
-use Rattle.std.proofs.Common.{◌≡◌, ◌-◌, length, take, ap, ◌∙◌}
+use Rattle.std.proofs.Common.{◌-◌, length, take, ap, ◌∙◌}
 use Rattle.c_syntax.specs.TypedExpr.{texpr_tree}
 use Rattle.c_sides.proofs.Sidewise.{front_is_made}
 use Rattle.c_sides.proofs.compare.made_beside.Goals as goal

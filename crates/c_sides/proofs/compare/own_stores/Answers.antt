@@ -1,4 +1,4 @@
-use Rattle.std.proofs.Common.{◌≡◌, ◌≤◌, length, sym, subst, arith}
+use Rattle.std.proofs.Common.{◌≤◌, length, sym, subst, arith}
 use Rattle.c_syntax.specs.TypedExpr.{texpr_tree}
 use Rattle.c_sides.proofs.Sidewise.{no_store, one_store, one_struct_store, store_inside}
 use Rattle.c_sides.proofs.compare.own_stores.Goals as goal
