@@ -34,6 +34,8 @@ mod loading;
 mod moving;
 mod numbers;
 mod pieces;
+#[cfg(test)]
+mod tests;
 mod types;
 
 pub use blocks::Memory;

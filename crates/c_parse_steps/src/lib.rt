@@ -21,6 +21,8 @@ mod fault;
 mod kind;
 mod level;
 mod look;
+#[cfg(test)]
+mod tests;
 mod token;
 mod type_kind;
 mod type_names;

@@ -14,5 +14,7 @@
 
 mod outer;
 mod parsing;
+#[cfg(test)]
+mod tests;
 
 pub use parsing::{ParseError, parse};

@@ -21,6 +21,8 @@ mod op;
 mod operator;
 mod program;
 mod statement;
+#[cfg(test)]
+mod tests;
 mod typed;
 mod types;
 mod value_type;

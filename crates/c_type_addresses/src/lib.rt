@@ -17,6 +17,8 @@
 
 mod addresses;
 mod moves;
+#[cfg(test)]
+mod tests;
 
 pub use addresses::{static_address, static_place};
 pub use moves::Address;

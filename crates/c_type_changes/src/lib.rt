@@ -14,5 +14,7 @@
 
 mod changes;
 mod place;
+#[cfg(test)]
+mod tests;
 
 pub use changes::{assigned, compound, stepped};

@@ -15,6 +15,8 @@
 #![tactic(auto)]
 
 mod operators;
+#[cfg(test)]
+mod tests;
 mod values;
 
 pub use values::{constant_value, is_null_constant};

@@ -13,6 +13,8 @@
 
 mod error;
 mod refusals;
+#[cfg(test)]
+mod tests;
 
 pub use error::TypeError;
 pub use refusals::no_rule;

@@ -13,5 +13,7 @@
 #![tactic(auto)]
 
 mod places;
+#[cfg(test)]
+mod tests;
 
 pub use places::{index_row, star_row};

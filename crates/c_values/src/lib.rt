@@ -24,6 +24,8 @@ mod laws;
 mod numbers;
 mod pointers;
 mod spots;
+#[cfg(test)]
+mod tests;
 mod values;
 
 pub use laws::{

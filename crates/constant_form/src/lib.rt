@@ -9,6 +9,8 @@
 #![tactic(auto)]
 
 mod form;
+#[cfg(test)]
+mod tests;
 mod tree;
 mod walk;
 

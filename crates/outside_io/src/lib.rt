@@ -15,6 +15,8 @@ mod memory_files;
 mod memory_sink;
 mod reading;
 mod sink;
+#[cfg(test)]
+mod tests;
 mod writing;
 
 pub use files::{Failed, Files};
