@@ -1,9 +1,16 @@
--- What lies between the ends of a type is a number of it.
-use Rattle.std.proofs.Common.{ℤ, pos, ◌≤ℤ◌, arith}
+-- What lies between the ends of a type is a number of it, and so is what a shift takes there.
+use Rattle.std.proofs.Common.{◌≡◌, ◌^◌, ◌-ℤ◌, ◌*ℤ◌, ℤ, pos, ◌≤ℤ◌, arith, sym, subst}
+use Rattle.std.specs.Prelude.{Option, Some, None, IfSome}
 use Rattle.std.proofs.lemmas.Int.{ints}
 use Rattle.c_written.specs.declared.int_type.IntType.{IntType}
 use Rattle.c_written.specs.declared.int_type.IntType.TheVariants.{Char, SChar, UChar, Short, UShort, Int, UInt, Long, ULong, LLong, ULLong}
-use Rattle.c_written.specs.Integer.{HasNumber, least, greatest}
+use Rattle.c_written.specs.Integer.{HasNumber, width, least, greatest}
+use Rattle.ext_int.specs.Ext.{Below, Above}
+use Rattle.ext_int.specs.declared.Ext.{Ext}
+use Rattle.ext_int.specs.declared.Ext.TheVariants.{Fin}
+use Rattle.num_api.specs.declared.message.Range.{Range}
+use Rattle.num_api.specs.Ranges.{InRange}
+use Rattle.num_api.specs.Residues.{IsMultiple}
 
 pub has_between : (t : IntType) (n : ℤ) → least t ≤ℤ n → n ≤ℤ pos (greatest t) → HasNumber t n
 has_between Char n low high = omega (arith, ints)
@@ -18,41 +25,20 @@ has_between ULong n low high = (omega (arith, ints), omega (arith, ints))
 has_between LLong n low high = omega (arith, ints)
 has_between ULLong n low high = (omega (arith, ints), omega (arith, ints))
 
-pub least_has : (t : IntType) (n : ℤ) → HasNumber t n → least t ≤ℤ n
-least_has Char n h = omega (arith, ints)
-least_has SChar n h = omega (arith, ints)
-least_has UChar n h = omega (arith, ints, h.0)
-least_has Short n h = omega (arith, ints)
-least_has UShort n h = omega (arith, ints, h.0)
-least_has Int n h = omega (arith, ints)
-least_has UInt n h = omega (arith, ints, h.0)
-least_has Long n h = omega (arith, ints)
-least_has ULong n h = omega (arith, ints, h.0)
-least_has LLong n h = omega (arith, ints)
-least_has ULLong n h = omega (arith, ints, h.0)
+past : (a b n s : ℤ) → a ≤ℤ (b -ℤ s) → b ≤ℤ n → a ≤ℤ (n -ℤ s)
+past a b n s h i = omega (arith, ints)
 
-pub greatest_has : (t : IntType) (n : ℤ) → HasNumber t n → n ≤ℤ pos (greatest t)
-greatest_has Char n h = omega (arith, ints)
-greatest_has SChar n h = omega (arith, ints)
-greatest_has UChar n h = omega (arith, ints, h.1)
-greatest_has Short n h = omega (arith, ints)
-greatest_has UShort n h = omega (arith, ints, h.1)
-greatest_has Int n h = omega (arith, ints)
-greatest_has UInt n h = omega (arith, ints, h.1)
-greatest_has Long n h = omega (arith, ints)
-greatest_has ULong n h = omega (arith, ints, h.1)
-greatest_has LLong n h = omega (arith, ints)
-greatest_has ULLong n h = omega (arith, ints, h.1)
+before : (a b n s : ℤ) → (b -ℤ s) ≤ℤ a → n ≤ℤ b → (n -ℤ s) ≤ℤ a
+before a b n s h i = omega (arith, ints)
 
-pub some_between : (t : IntType) → least t ≤ℤ pos (greatest t)
-some_between Char = omega (arith, ints)
-some_between SChar = omega (arith, ints)
-some_between UChar = omega (arith, ints)
-some_between Short = omega (arith, ints)
-some_between UShort = omega (arith, ints)
-some_between Int = omega (arith, ints)
-some_between UInt = omega (arith, ints)
-some_between Long = omega (arith, ints)
-some_between ULong = omega (arith, ints)
-some_between LLong = omega (arith, ints)
-some_between ULLong = omega (arith, ints)
+-- what takes both ends of a range into the type takes all its numbers there
+pub taken_in : (t : IntType) (r : Range) (lo hi low high k : ℤ) (o : Option ℤ) → r.lo ≡ Fin lo → r.hi ≡ Fin hi → low ≡ lo → high ≡ hi
+    → IfSome o (λ s. (s ≡ k *ℤ pos (2 ^ width t)) × (least t ≤ℤ (low -ℤ s)) × ((high -ℤ s) ≤ℤ pos (greatest t)))
+    → IfSome o (λ s. IsMultiple (pos (2 ^ width t)) s × ((n : ℤ) → InRange r n → HasNumber t (n -ℤ s)))
+taken_in t r lo hi low high k None is also e f h = h
+taken_in t r lo hi low high k (Some s) is also e f h = (
+  (k, h.0),
+  λ n i. has_between t (n -ℤ s)
+      (past (least t) low n s h.1 (subst (λ (m : ℤ). m ≤ℤ n) (sym e) (subst (λ (x : Ext). Below x n) is i.low)))
+      (before (pos (greatest t)) high n s h.2 (subst (λ (m : ℤ). n ≤ℤ m) (sym f) (subst (λ (x : Ext). Above x n) also i.high))),
+)

@@ -6,9 +6,10 @@
 //! lies in [0, 100], `set` of y to `x + 1` at `int` keeps that y is x + 1; where nothing is known of x, y gets
 //! the range of `int`, since the sum may wrap.
 //!
-//! Wherever the domain's ranges show that each operand's exact result fits its type, the expression goes to the
-//! domain without its types, and the domain keeps what it can of it. Else a variable that is set gets the
-//! range of the type, and a test cuts nothing.
+//! Wherever the domain's ranges show that one shift by a multiple of 2 to the width takes the exact results of
+//! each part into its type, the expression goes to the domain without its types and with those shifts, and the
+//! domain keeps what it can of it. Else a variable that is set gets the range of the type, and a test cuts
+//! nothing.
 //!
 //! specs/Machines.antt has the state behind a machine and what lies in a type. What an expression means is
 //! `machine_exprs`' own. The laws are clauses of the calls of `Machine`.

@@ -3,7 +3,7 @@
 
 ghost use Rattle.std.specs.Prelude.{◌≡◌, ◌≢◌, ℕ, ℤ, List, ◌≤◌, ◌<◌, IsTrue, false, IfSome, IfOk, OnOk, Some};
 ghost use Rattle.ramps.specs.Told.{Keeps};
-ghost use Rattle.num_api.specs.Exprs.{nexpr_tree};
+ghost use Rattle.num_api.specs.Exprs.{nexpr_tree, Const, Binary};
 ghost use Rattle.num_api.specs.Ranges.{InRange, IsPoint, NoWider, IsUnder, with_range, all_numbers, holds_some, hull};
 ghost use Rattle.num_api.specs.Residues.{InResidue, IsResidue};
 ghost use Rattle.num_api.specs.Valuation.{SetTo};
@@ -13,20 +13,31 @@ ghost use Rattle.num_api.specs.Known.{IsSharp};
 ghost use Rattle.num_api.specs.Lives.{is_live};
 ghost use Rattle.num_api.specs.declared.message.Range.{Range};
 ghost use Rattle.num_api.specs.declared.message.Message.TheVariants.{Between};
+ghost use Rattle.num_api.specs.declared.expr.NExpr.{NExpr};
+ghost use Rattle.num_api.specs.declared.expr.NOp.TheVariants.{Sub};
 ghost use Rattle.num_api.specs.declared.expr.Var.{Var as Variable};
 ghost use Rattle.c_written.specs.Integer.{HasNumber};
 ghost use Rattle.machine_exprs.specs.MExprs.{mexpr_tree};
-ghost use Rattle.machine_exprs.specs.Machine.{exact_value, machine_value};
+ghost use Rattle.machine_exprs.specs.Machine.{wrapped_value, exact_value, machine_value};
 ghost use Rattle.machine_nums.specs.Machines.{state_of};
 
-use crate::types::{is_within, range_of};
+use crate::types::{range_of, shift_into};
 use c_written::IntType;
 use machine_exprs::MExpr;
 use num_api::{
-    Live, Message, Messages, NExpr, NumDomain, NumFacts, Range, Residue, Unknowing, Var,
+    Live, Message, Messages, NExpr, NOp, NumDomain, NumFacts, Range, Residue, Unknowing, Var,
 };
 use ramps::{Ramp, Steps};
 use std::alloc::{AllocError as NoMemory, Global};
+
+// The expression less the number.
+fn less(alloc: Global, plain: NExpr, shift: i128) -> Result<NExpr, NoMemory>
+    ensures { IfOk result (λ p. nexpr_tree p ≡ Binary Sub (nexpr_tree plain) (Const shift)) }
+{
+    let plain = Box::new(alloc, plain)?;
+    let shift = Box::new(alloc, NExpr::Const(shift))?;
+    Ok(NExpr::Binary(NOp::Sub, plain, shift))
+}
 
 /// A state of a numeric domain over numbers of C's integer types.
 #[derive(Drop)]
@@ -158,7 +169,7 @@ impl<D: NumDomain> Machine<D> {
         self.state.facts(out)
     }
 
-    // The expression without its types, where each operand's exact result fits its type.
+    // The expression without its types, where each operand's exact results are wrapped by one shift.
     fn fitted(&self, e: &MExpr) -> Result<Option<NExpr>, NoMemory>
         ensures { IfOk result (λ found. IfSome found (λ plain. (v : List ℤ) → D.admits (state_of self.now) v
             → value_of v (nexpr_tree plain) ≡ exact_value v (mexpr_tree e.now))) }
@@ -168,11 +179,11 @@ impl<D: NumDomain> Machine<D> {
             MExpr::Read(x, _) => Ok(Some(NExpr::Read(*x))),
             MExpr::Convert(_, a) => {
                 let found = self.fitted(a)?;
-                Ok(self.within(found, a.int_type()))
+                self.within(found, a.int_type())
             }
             MExpr::Unary(op, _, a) => {
                 let found = self.fitted(a)?;
-                match self.within(found, a.int_type()) {
+                match self.within(found, a.int_type())? {
                     Some(a) => {
                         let a = Box::new(self.alloc, a)?;
                         Ok(Some(NExpr::Unary(*op, a)))
@@ -182,11 +193,10 @@ impl<D: NumDomain> Machine<D> {
             }
             MExpr::Binary(op, _, a, b) => {
                 let first = self.fitted(a)?;
+                let left = self.within(first, a.int_type())?;
                 let second = self.fitted(b)?;
-                match (
-                    self.within(first, a.int_type()),
-                    self.within(second, b.int_type()),
-                ) {
+                let right = self.within(second, b.int_type())?;
+                match (left, right) {
                     (Some(a), Some(b)) => {
                         let a = Box::new(self.alloc, a)?;
                         let b = Box::new(self.alloc, b)?;
@@ -198,25 +208,29 @@ impl<D: NumDomain> Machine<D> {
         }
     }
 
-    // The expression, where there is one whose numbers the type has.
-    fn within(&self, found: Option<NExpr>, t: IntType) -> Option<NExpr>
-        ensures { IfSome result (λ plain. (found ≡ Some plain)
-            × ((v : List ℤ) (n : ℤ) → D.admits (state_of self.now) v → value_of v (nexpr_tree plain) ≡ Some n → HasNumber t n)) }
+    // The expression wrapped into the type, where one shift does so to all its numbers.
+    fn within(&self, found: Option<NExpr>, t: IntType) -> Result<Option<NExpr>, NoMemory>
+        ensures { IfOk result (λ made. IfSome made (λ p. (q : NExpr) × (found ≡ Some q)
+            × ((v : List ℤ) → D.admits (state_of self.now) v → value_of v (nexpr_tree p) ≡ wrapped_value t (value_of v (nexpr_tree q))))) }
     {
-        let plain = found?;
-        if is_within(self.state.range(&plain), t) {
-            Some(plain)
-        } else {
-            None
+        let Some(plain) = found else {
+            return Ok(None);
+        };
+        let Some(shift) = shift_into(self.state.range(&plain), t) else {
+            return Ok(None);
+        };
+        if shift == 0 {
+            return Ok(Some(plain));
         }
+        Ok(Some(less(self.alloc, plain, shift)?))
     }
 
-    // The same, where the outermost node's exact result fits its type too.
+    // The same of the value, where the outermost node's exact results are wrapped by one shift too.
     fn inside(&self, e: &MExpr) -> Result<Option<NExpr>, NoMemory>
         ensures { IfOk result (λ found. IfSome found (λ plain. (v : List ℤ) → D.admits (state_of self.now) v
             → value_of v (nexpr_tree plain) ≡ machine_value v (mexpr_tree e.now))) }
     {
         let found = self.fitted(e)?;
-        Ok(self.within(found, e.int_type()))
+        self.within(found, e.int_type())
     }
 }
