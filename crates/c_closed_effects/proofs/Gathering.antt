@@ -1,5 +1,5 @@
 -- Lists of touches, item by item.
-use Rattle.std.proofs.Common.{◌≡◌, ◌⊎◌, inl, inr, ℕ, ◌+◌, ◌<◌, List, [], ◌∷◌, ◌++◌, map, length, get_or, take, refl, sym, subst, ap, ◌∙◌, arith}
+use Rattle.std.proofs.Common.{◌≡◌, ◌⊎◌, inl, inr, ℕ, ◌+◌, ◌<◌, List, [], ◌∷◌, ◌++◌, map, length, get_or, take, refl, sym, subst, ap, ◌∙◌}
 use Rattle.std.specs.Prelude.{◌↔◌, Contains, Err, IfOk, Ok, Result}
 use Rattle.std.proofs.lemmas.List.{take_more}
 use Rattle.std.proofs.lemmas.List.Elements.{Contains-append_left, Contains-push, Contains-push_cases}
@@ -9,10 +9,8 @@ use Rattle.c_calls.specs.declared.call.Call.{Call}
 use Rattle.c_calls.specs.Placed.{placed}
 use Rattle.c_layout.specs.Calls.{PlacedCall}
 use Rattle.c_places.specs.declared.touch.Touch.{Touch}
-use Rattle.c_effects.specs.declared.effects.Effects.{Effects}
-use Rattle.c_effects.specs.Effects.{called}
 use Rattle.c_touch_sets.specs.Held.{Adds}
-use Rattle.c_closed_effects.specs.Gathered.{HasCalledReads, HasCalledWrites, IsSeenObject}
+use Rattle.c_closed_effects.specs.Gathered.{IsSeenObject}
 
 -- one item more of a list
 front_is : {A : Type 0} (items : List A) (i : ℕ) (item : A) → i < length items → item ≡ get_or items i item → take (i + 1) items ≡ take i items ++ item ∷ []

@@ -1,10 +1,10 @@
 -- The calls of a program's graph are those of its functions.
-use Rattle.std.proofs.Common.{◌≡◌, ℕ, List, [], map, Some, None, refl, sym, ap, ◌∙◌}
-use Rattle.std.specs.Prelude.{Option, option_and_then, option_map, unwrap_or, slice_get, IsSome}
+use Rattle.std.proofs.Common.{◌≡◌, ℕ, [], Some, None, refl, ap, ◌∙◌}
+use Rattle.std.specs.Prelude.{Option, option_and_then, option_map, unwrap_or, slice_get}
 use Rattle.std.proofs.lemmas.Option.{slice_get-map}
 use Rattle.c_syntax.specs.TypedStmt.{TStmtTree}
 use Rattle.c_syntax.specs.Program.{TFunctionTree, TProgramTree}
-use Rattle.c_layout.specs.Calls.{PlacedCall, function_calls, stmt_calls}
+use Rattle.c_layout.specs.Calls.{function_calls, stmt_calls}
 use Rattle.c_calls.specs.Graph.{calls_from, calls_in, calls_or_none, graph_of}
 
 by_body : (body : Option TStmtTree) → calls_or_none (Some (option_map stmt_calls body)) ≡ unwrap_or (option_map stmt_calls body) []

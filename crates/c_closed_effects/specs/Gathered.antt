@@ -1,5 +1,5 @@
 -- What is gathered of touches where the objects of a program, and what functions do, are at hand.
-use Rattle.std.specs.Prelude.{ℕ, IsTrue, IsSomeAnd, List, Contains, slice_get}
+use Rattle.std.specs.Prelude.{IsTrue, IsSomeAnd, List, Contains, slice_get}
 use Rattle.c_syntax.specs.Types.{ObjectTree}
 use Rattle.c_layout.specs.Calls.{PlacedCall}
 use Rattle.c_places.specs.declared.touch.Touch.{Touch}

@@ -1,7 +1,7 @@
 -- What the tests of c_sides tell of two sides of a node.
-use Rattle.std.proofs.Common.{◌≡◌, ◌⊎◌, inl, inr, ℕ, ◌≤◌, Bool, true, false, ◌||◌, List, [], ◌∷◌, ◌++◌, length, Some, None, refl, sym, subst, ap, ◌∙◌, arith}
-use Rattle.std.specs.Prelude.{◌↔◌, Err, IfOk, Ok, Result, Option, option_and_then, option_map, unwrap_or, All, Contains, MatchOption, slice_get}
-use Rattle.std.specs.List.{filter, flat_map, list_any}
+use Rattle.std.proofs.Common.{◌≡◌, ◌⊎◌, inl, inr, ℕ, Bool, true, false, ◌||◌, List, Some, None, refl, sym, subst}
+use Rattle.std.specs.Prelude.{◌↔◌, Err, IfOk, Ok, Result, Option, All, Contains, MatchOption}
+use Rattle.std.specs.List.{list_any}
 use Rattle.std.proofs.lemmas.Bool.{or_cases}
 use Rattle.std.proofs.lemmas.List.Elements.{Contains-append_cases, Contains-append_left, Contains-append_right}
 use Rattle.c_syntax.specs.Program.{TProgramTree}

@@ -1,5 +1,5 @@
 -- The functions of a program, one by one.
-use Rattle.std.proofs.Common.{◌≡◌, ℕ, ◌<◌, ◌≤◌, List, [], ◌∷◌, map, length, get_or, Some, None, refl, sym, subst, ap, ◌∙◌, arith}
+use Rattle.std.proofs.Common.{◌≡◌, ℕ, ◌<◌, ◌≤◌, List, [], ◌∷◌, map, length, get_or, Some, None, refl, sym, ap, ◌∙◌, arith}
 use Rattle.std.specs.Prelude.{Option, MatchOption, option_and_then, option_map, slice_get, unwrap_or}
 use Rattle.std.proofs.lemmas.List.{length-map}
 use Rattle.std.proofs.lemmas.Option.{slice_get-map, slice_get-get_or, slice_get_past}
@@ -8,7 +8,6 @@ use Rattle.c_syntax.specs.declared.program.TFunction.{TFunction}
 use Rattle.c_syntax.specs.TypedStmt.{TStmtTree}
 use Rattle.c_syntax.specs.Program.{TFunctionTree, TProgramTree, tfunction_tree}
 use Rattle.c_gotos.specs.Gotos.{strays}
-use Rattle.c_sides.specs.declared.side.Comparison.{Comparison}
 use Rattle.c_sides.specs.Sides.{compared_in_stmt}
 use Rattle.c_rules.specs.Earliest.{IsEarliest}
 use Rattle.c_rules.specs.Rules.{IsFirstStray, IsStrayOf, strays_by}

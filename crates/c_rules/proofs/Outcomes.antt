@@ -1,8 +1,8 @@
 -- A program has one outcome at most.
-use Rattle.std.proofs.Common.{add-one, ◌≡◌, ◌≢◌, ◌⊎◌, inl, inr, ℕ, zero, suc, ◌+◌, ◌<◌, ◌≤◌, List, [], ◌∷◌, length, get_or, take, Some, None, refl, sym, subst, ap, ◌∙◌, arith}
+use Rattle.std.proofs.Common.{add-one, ◌≡◌, ◌≢◌, inl, inr, ℕ, zero, suc, ◌+◌, ◌<◌, ◌≤◌, List, [], ◌∷◌, length, get_or, take, Some, None, refl, sym, subst, ap, ◌∙◌, arith}
 use Rattle.std.specs.Prelude.{Option, All, Contains, slice_get}
 use Rattle.std.specs.List.{sum_by}
-use Rattle.std.proofs.lemmas.Bool.{cases_eq, cases_lt, cases_order}
+use Rattle.std.proofs.lemmas.Bool.{cases_eq, cases_order}
 use Rattle.std.proofs.lemmas.List.{take_all, take_more}
 use Rattle.std.proofs.lemmas.List.Elements.{All-contains, All-head, All-nil, All-push, All-tail}
 use Rattle.std.proofs.lemmas.List.Sums.{sum_by-cons}
@@ -10,16 +10,14 @@ use Rattle.std.proofs.lemmas.Option.{slice_get-get_or}
 use Rattle.c_written.specs.declared.place.Pos.{Pos}
 use Rattle.c_syntax.specs.Program.{TProgramTree}
 use Rattle.c_layout.specs.Calls.{PlacedCall, IsBefore}
-use Rattle.c_layout.specs.WellTyped.{EachOf}
-use Rattle.c_calls.specs.Graph.{AreDefined, calls_from, graph_of, IsClosedList, IsDefined, IsOrderOf, OrdersExcludeClosedLists}
-use Rattle.c_calls.specs.Inlined.{AreInlined, IsInlinedSize, ended, sizes_of}
+use Rattle.c_calls.specs.Graph.{calls_from, graph_of, IsDefined, IsOrderOf, OrdersExcludeClosedLists}
+use Rattle.c_calls.specs.Inlined.{AreInlined, ended, sizes_of}
 use Rattle.c_calls.proofs.Orders.{contains_counted}
 use Rattle.c_rules.specs.declared.error.RuleError.{RuleError}
 use Rattle.c_rules.specs.declared.error.RuleError.TheVariants as errors
-use Rattle.c_rules.specs.Earliest.{IsEarliest}
 use Rattle.c_rules.specs.Outcomes.{IsSameRefusal, question, told_place, told_size}
-use Rattle.c_rules.specs.Rules.{Begins, HasOrder, HasSize, IsAdmitted, IsComplete, IsFirstStray, IsMain, IsRefused, IsShallow, IsSmall, IsStrayOf, IsUndefinedAt, KeepsGotos, strays_by}
-use Rattle.c_rules.specs.Sequenced.{compared_by, Clash, IsClashOf, IsSequenced, IsUnsequencedAt}
+use Rattle.c_rules.specs.Rules.{Begins, HasOrder, HasSize, IsAdmitted, IsComplete, IsFirstStray, IsMain, IsRefused, IsShallow, IsSmall, IsUndefinedAt, KeepsGotos}
+use Rattle.c_rules.specs.Sequenced.{compared_by, Clash, IsUnsequencedAt}
 use Rattle.c_effects.specs.declared.effects.Effects.{Effects}
 use Rattle.c_rules.proofs.Mains.{one_main}
 use Rattle.c_rules.proofs.Members.{all_not_first}

@@ -1,7 +1,6 @@
 -- The plan of a program that is admitted.
-use Rattle.std.proofs.Common.{◌≡◌, true, false, inl, inr, ℕ, zero, suc, ◌<◌, ◌≤◌, List, [], ◌∷◌, map, length, take, Some, None, refl, sym, subst, ap, ◌∙◌, arith}
+use Rattle.std.proofs.Common.{◌≡◌, true, false, ℕ, ◌<◌, List, [], ◌∷◌, length, take, Some, None, refl, sym, subst, ap, ◌∙◌}
 use Rattle.std.specs.Prelude.{Option, All, Contains, IfSome, IsSome, IsSomeAnd, count_by, is_some, if◌then◌else◌, option_and_then, option_map, slice_get, unwrap_or, ◌==◌}
-use Rattle.std.proofs.lemmas.List.{length-map}
 use Rattle.std.proofs.lemmas.List.Elements.{All-weaker}
 use Rattle.std.proofs.lemmas.Option.{slice_get-map, slice_get-get_or, slice_get_within}
 use Rattle.c_syntax.specs.declared.program.Plan.{Plan}
@@ -11,7 +10,7 @@ use Rattle.c_layout.specs.Calls.{PlacedCall, function_calls, IsChain, stmt_calls
 use Rattle.c_layout.specs.Jumps.{GotosStay}
 use Rattle.c_layout.specs.Plans.{HasBody, IsOrdered, IsPlanFor, IsStart}
 use Rattle.c_layout.specs.WellTyped.{EachOf}
-use Rattle.c_calls.specs.Graph.{AreDefined, calls_from, calls_in, graph_of, IsDefined, IsOrderOf, IsWay}
+use Rattle.c_calls.specs.Graph.{calls_from, calls_in, graph_of, IsDefined, IsOrderOf, IsWay}
 use Rattle.c_calls.proofs.Orders.{times_none}
 use Rattle.c_gotos.specs.Gotos.{strays}
 use Rattle.c_gotos.proofs.Stays.{stays}

@@ -1,5 +1,5 @@
 -- Which programs are admitted, and for what another is refused (this profile).
-use Rattle.std.specs.Prelude.{◌≡◌, ◌<◌, ◌≤◌, ℕ, Option, Some, option_and_then, option_map, unwrap_or, IsSomeAnd, List, [], Contains, length, slice_get}
+use Rattle.std.specs.Prelude.{◌≡◌, ◌<◌, ◌≤◌, ℕ, Some, option_and_then, option_map, unwrap_or, IsSomeAnd, List, [], length, slice_get}
 use Rattle.c_written.specs.declared.place.Pos.{Pos}
 use Rattle.c_syntax.specs.Program.{TProgramTree}
 use Rattle.c_layout.specs.Calls.{PlacedCall}

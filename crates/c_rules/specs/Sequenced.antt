@@ -1,7 +1,7 @@
 -- Which nodes of a program have two sides of which one writes what the other touches (C11 6.5p2 and p3; this profile).
-use Rattle.std.specs.Prelude.{◌≡◌, ◌↔◌, ◌⊎◌, ℕ, Option, None, Some, option_and_then, option_map, unwrap_or, IfSome, List, [], ◌∷◌, ◌++◌, All, Contains, slice_get}
+use Rattle.std.specs.Prelude.{◌≡◌, ◌↔◌, ◌⊎◌, ℕ, option_and_then, option_map, unwrap_or, List, [], All, Contains, slice_get}
 use Rattle.c_written.specs.declared.place.Pos.{Pos}
-use Rattle.c_syntax.specs.Program.{TFunctionTree, TProgramTree}
+use Rattle.c_syntax.specs.Program.{TProgramTree}
 use Rattle.c_layout.specs.Calls.{PlacedCall}
 use Rattle.c_places.specs.declared.touch.Touch.{Touch}
 use Rattle.c_places.specs.Meeting.{Meet}

@@ -1,8 +1,5 @@
-use Rattle.std.proofs.Common.{◌≡◌, true, length, ap, ◌∙◌, get_or, sym, subst, ℕ, ◌<◌, false, take, ◌+◌}
-use Rattle.std.specs.Prelude.{slice_set}
+use Rattle.std.proofs.Common.{true, length, ap, ◌∙◌, get_or, false}
 use Rattle.std.proofs.Math.ListN.{length-set}
-use Rattle.std.proofs.lemmas.List.FromFn.{fill_by_all}
-use Rattle.c_addresses_taken.specs.Taken.{is_among}
 use Rattle.c_addresses_taken.proofs.Marks.{all_marked, marked_more}
 use Rattle.c_addresses_taken.proofs.table.marked.Goals as goal
 

@@ -1,7 +1,6 @@
-use Rattle.std.proofs.Common.{map, subst, take}
+use Rattle.std.proofs.Common.{map, subst}
 use Rattle.std.specs.Prelude.{◌↔◌, Contains}
 use Rattle.std.proofs.lemmas.List.{take_all}
-use Rattle.c_places.specs.declared.touch.Touch.{Touch}
 use Rattle.c_syntax.specs.Types.{object_tree}
 use Rattle.c_closed_effects.specs.Gathered.{IsSeenObject}
 use Rattle.c_closed_effects.proofs.Gathering.{more_seen}

@@ -1,7 +1,3 @@
-use Rattle.std.proofs.Common.{List, ◌∷◌, ◌++◌, [], Ok, Err}
-use Rattle.std.specs.Prelude.{OnOk}
-use Rattle.c_places.specs.declared.touch.Touch.{Touch}
-use Rattle.c_touch_sets.specs.Held.{Holds, Keeps}
 use Rattle.c_touch_sets.proofs.Sets.{held_again, insert_more}
 use Rattle.c_touch_sets.proofs.touch_set.TouchSet.insert.Goals as goal
 
