@@ -43,6 +43,7 @@ others = record {
   no_value = refl;
   no_room = refl;
   no_object = refl;
+  ended = refl;
   no_operand = refl;
   no_function = refl;
   clash = refl;

@@ -214,6 +214,10 @@ opened_twice = Scope (0 ∷ []) (more (Scope (0 ∷ []) none) none)
 abbrev ComesTo : CsStmtTree → Outcome → Type 0
 ComesTo body o = run (only body) 9 [] ≡ o
 
+-- an exit ends the objects of the scope that it leaves
+abbrev left_by_exit : CsStmtTree
+left_by_exit = Sequence (Block (Scope (0 ∷ []) (more (Exit 0) none))) (Undefine 0)
+
 -- two turns are begun again, and the third is too much
 abbrev endless : CsStmtTree
 endless = Loop (at 1) Nothing
@@ -226,6 +230,7 @@ pub record Others : Type 0 where
   pub no_value : ComesTo (Load 0 (scalars.Int ints.Int) (Address 1)) Stuck
   pub no_room : ComesTo (Store (scalars.Int ints.Int) (moved (Address 1) 4) (number 7)) Stuck
   pub no_object : ComesTo (Undefine 0) Stuck
+  pub ended : ComesTo left_by_exit Stuck
   pub no_operand : ComesTo (checked 4 (plain kinds.DivideByZero) None []) Stuck
   pub no_function : ComesTo (called 4 9 (number 1) None None) Stuck
   pub clash : ComesTo opened_twice Clash
