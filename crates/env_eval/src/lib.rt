@@ -11,3 +11,6 @@
 mod evaluation;
 
 pub use evaluation::eval;
+
+#[cfg(test)]
+mod tests;

@@ -20,3 +20,6 @@ mod state;
 mod told;
 
 pub use state::Env;
+
+#[cfg(test)]
+mod tests;

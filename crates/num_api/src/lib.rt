@@ -31,3 +31,6 @@ pub use lists::{Messages, NumFacts};
 pub use message::{Message, Range, Residue};
 pub use unknowing::Unknowing;
 pub use value::{ExactValue, ValueDomain};
+
+#[cfg(test)]
+mod tests;

@@ -22,3 +22,6 @@ mod pair;
 
 pub use class::Class;
 pub use pair::Pair;
+
+#[cfg(test)]
+mod tests;

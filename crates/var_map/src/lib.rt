@@ -13,3 +13,6 @@ mod map;
 
 pub use entries::Entry;
 pub use map::VarMap;
+
+#[cfg(test)]
+mod tests;
