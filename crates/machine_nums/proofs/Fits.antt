@@ -1,31 +1,45 @@
 -- An expression without types whose operands fit has the values of the one with types.
-use Rattle.std.proofs.Common.{◌≡◌, ◌^◌, ◌-ℤ◌, ℤ, pos, List, arith, refl, sym, ◌∙◌, ap, subst}
+use Rattle.std.proofs.Common.{◌≡◌, ◌^◌, ◌-◌, ◌%◌, ◌<◌, ◌-ℤ◌, ◌+ℤ◌, ◌≤ℤ◌, ◌<ℤ◌, ℕ, ℤ, pos, negsuc, bit_and, bit_xor, List, arith, refl, sym, ◌∙◌, ap, subst}
 use Rattle.std.proofs.lemmas.Int.{ints}
-use Rattle.std.specs.Prelude.{Option, Some, None, IfSome, Result, Ok, Err, IfOk}
+use Rattle.std.specs.Int.{int_rem_euclid}
+use Rattle.std.specs.Int.Bits.{xor_add_and}
+use Rattle.std.proofs.lemmas.Nat.{and_mask, and_comm, pow_pos}
+use Rattle.std.proofs.Math.Nat.{mod-lt, mod-eq_of_lt}
+use Rattle.std.specs.Prelude.{Option, Some, None, Result, Ok, Err, IfOk}
 use Rattle.c_written.specs.declared.int_type.IntType.{IntType}
-use Rattle.c_written.specs.Integer.{width, HasNumber, wrapped}
-use Rattle.num_api.specs.declared.expr.NOp.TheVariants.{Sub}
+use Rattle.c_written.specs.Integer.{width, least, greatest, HasNumber, wrapped}
+use Rattle.num_api.specs.declared.expr.NOp.TheVariants.{Add, Sub, And}
 use Rattle.num_api.specs.declared.expr.NExpr.{NExpr}
 use Rattle.num_api.specs.Exprs.{NExprTree, nexpr_tree}
 use Rattle.num_api.specs.Exprs as plain
 use Rattle.num_api.specs.Residues.{IsMultiple}
-use Rattle.num_api.proofs.Multiples.{multiple_along, in_from_off}
-use Rattle.num_api.specs.Value.{binary_value, of_two, value_of}
-use Rattle.machine_exprs.specs.MExprs.{MExprTree}
-use Rattle.machine_exprs.specs.Machine.{wrapped_value, exact_value, machine_value}
+use Rattle.num_api.proofs.Multiples.{multiple_along, in_from_off, off_from_in}
+use Rattle.num_api.proofs.Remainders.{rem_same, rem_low, rem_high}
+use Rattle.num_api.specs.Value.{bits_of_both, binary_value, of_two, value_of}
+use Rattle.machine_exprs.specs.Machine.{wrapped_value}
 use Rattle.machine_exprs.proofs.Values.{wrapped-has}
 use Rattle.machine_nums.proofs.Congruences.{wrapped_same}
+use Rattle.machine_nums.proofs.Reaches.{has_between, numbers_are}
 
--- under the valuations that A has, the expression without types is the exact result
-abbrev pub IsExact : (List ℤ → Type 0) → NExpr → MExprTree → Type 0
-IsExact A p e = (v : List ℤ) → A v → value_of v (nexpr_tree p) ≡ exact_value v e
+-- the bits that a number has among the low k are its remainder by 2 to k
+ones-and : (k m : ℕ) → m < 2 ^ k → bit_and (2 ^ k - 1) m ≡ m
+ones-and k m h = and_comm (2 ^ k - 1) m ∙ and_mask m k ∙ mod-eq_of_lt h
 
--- it is the value
-abbrev pub IsValue : (List ℤ → Type 0) → NExpr → MExprTree → Type 0
-IsValue A p e = (v : List ℤ) → A v → value_of v (nexpr_tree p) ≡ machine_value v e
+flip-is : (k m : ℕ) → m < 2 ^ k → bit_xor (2 ^ k - 1) m ≡ 2 ^ k - 1 - m
+flip-is k m h = let sum = xor_add_and (2 ^ k - 1) m in let both = ones-and k m h in let p = pow_pos k in omega arith
 
-pub to_exact : (A : List ℤ → Type 0) (found : Option NExpr) (p : NExpr) (e : MExprTree) → IfSome found (λ p. IsExact A p e) → found ≡ Some p → IsExact A p e
-to_exact A found p e all is = subst (λ (o : Option NExpr). IfSome o (λ p. IsExact A p e)) is all
+mask_is : (n : ℤ) (k : ℕ) → bits_of_both n (pos (2 ^ k - 1)) ≡ int_rem_euclid n (pos (2 ^ k))
+mask_is (pos a) k = ap pos (and_mask a k)
+mask_is (negsuc a) k = ap (λ m. pos (bit_xor (2 ^ k - 1) m)) (and_comm (2 ^ k - 1) a ∙ and_mask a k) ∙ ap pos (flip-is k (a % 2 ^ k) (mod-lt a (pow_pos k)))
+
+from_least : (r a : ℤ) → pos 0 ≤ℤ r → a ≤ℤ (r +ℤ a)
+from_least r a h = omega (arith, ints)
+
+to_greatest : (r a b m : ℤ) → m ≡ (b -ℤ a) +ℤ pos 1 → r <ℤ m → (r +ℤ a) ≤ℤ b
+to_greatest r a b m e h = omega (arith, ints)
+
+apart : (n a r : ℤ) → (n -ℤ a) -ℤ r ≡ n -ℤ (r +ℤ a)
+apart n a r = omega (arith, ints)
 
 -- a shift by a multiple of 2 to the width that takes each number into the type wraps it
 shift_wraps : (t : IntType) (s n : ℤ) → IsMultiple (pos (2 ^ width t)) s → HasNumber t (n -ℤ s) → n -ℤ s ≡ wrapped t n
@@ -49,9 +63,23 @@ no_shift t (Some n) has = ap Some (sym (wrapped-has t n (subst (HasNumber t) (om
 pub own_value : (v : List ℤ) (t : IntType) (s : ℤ) (q : NExpr) → s ≡ pos 0 → ((n : ℤ) → value_of v (nexpr_tree q) ≡ Some n → HasNumber t (n -ℤ s)) → value_of v (nexpr_tree q) ≡ wrapped_value t (value_of v (nexpr_tree q))
 own_value v t s q is has = no_shift t (value_of v (nexpr_tree q)) (subst (λ (s : ℤ). (n : ℤ) → value_of v (nexpr_tree q) ≡ Some n → HasNumber t (n -ℤ s)) is has)
 
--- what the domain says of the found expression, said of the value of the one with types
-pub to_plain : (A : List ℤ → Type 0) (found : Option NExpr) (p : NExpr) (e : MExprTree) → IfSome found (λ p. IsValue A p e) → found ≡ Some p → IsValue A p e
-to_plain A found p e all is = subst (λ (o : Option NExpr). IfSome o (λ p. IsValue A p e)) is all
+-- wrapping by bits
+bits_wrap : (t : IntType) (n : ℤ) → bits_of_both (n -ℤ least t) (pos (2 ^ width t - 1)) +ℤ least t ≡ wrapped t n
+bits_wrap t n =
+    let m = pos (2 ^ width t) in let x = n -ℤ least t in let r = int_rem_euclid x m in
+    let count = numbers_are t in
+    let low = rem_low x m count.1 in let high = rem_high x m count.1 in
+    let has : HasNumber t (r +ℤ least t) = has_between t (r +ℤ least t) (from_least r (least t) low) (to_greatest r (least t) (pos (greatest t)) m count.0 high) in
+    let same = in_from_off (r +ℤ least t) m n (multiple_along m (x -ℤ r) (n -ℤ (r +ℤ least t)) (apart n (least t) r) (off_from_in r m x (rem_same x m count.1))) in
+    ap (λ (b : ℤ). b +ℤ least t) (mask_is x (width t)) ∙ sym (wrapped_same t n (r +ℤ least t) same ∙ wrapped-has t (r +ℤ least t) has)
+
+bits_result : (t : IntType) (o : Option ℤ) → of_two (binary_value Add) (of_two (binary_value And) (of_two (binary_value Sub) o (Some (least t))) (Some (pos (2 ^ width t - 1)))) (Some (least t)) ≡ wrapped_value t o
+bits_result t None = refl
+bits_result t (Some n) = ap Some (bits_wrap t n)
+
+pub bits_value : (v : List ℤ) (t : IntType) (p q : NExpr) → nexpr_tree p ≡ plain.Binary Add (plain.Binary And (plain.Binary Sub (nexpr_tree q) (plain.Const (least t))) (plain.Const (pos (2 ^ width t - 1)))) (plain.Const (least t))
+    → value_of v (nexpr_tree p) ≡ wrapped_value t (value_of v (nexpr_tree q))
+bits_value v t p q is = ap (value_of v) is ∙ bits_result t (value_of v (nexpr_tree q))
 
 pub ok_weaker : {T E : Type 0} (P Q : T → Type 0) (r : Result T E) → ((t : T) → P t → Q t) → IfOk r P → IfOk r Q
 ok_weaker P Q (Ok t) f h = f t h

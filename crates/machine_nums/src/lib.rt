@@ -6,10 +6,10 @@
 //! lies in [0, 100], `set` of y to `x + 1` at `int` keeps that y is x + 1; where nothing is known of x, y gets
 //! the range of `int`, since the sum may wrap.
 //!
-//! Wherever the domain's ranges show that one shift by a multiple of 2 to the width takes the exact results of
-//! each part into its type, the expression goes to the domain without its types and with those shifts, and the
-//! domain keeps what it can of it. Else a variable that is set gets the range of the type, and a test cuts
-//! nothing.
+//! The expression goes to the domain without its types. Where the domain's ranges show that one shift by a
+//! multiple of 2 to the width takes the exact results of a part into its type, the part is shifted by it, and
+//! so the domain keeps relations through it; else the part is written as what its bits are as a number of the
+//! type, from which a domain still tells the range of the type and the low bits.
 //!
 //! specs/Machines.antt has the state behind a machine and what lies in a type. What an expression means is
 //! `machine_exprs`' own. The laws are clauses of the calls of `Machine`.

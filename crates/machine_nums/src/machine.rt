@@ -1,7 +1,7 @@
 // The machine.
 #![tactic(auto, using(machine_exprs::proofs::Trees::mexpr_trees, num_api::proofs::Trees::nexpr_trees))]
 
-ghost use Rattle.std.specs.Prelude.{◌≡◌, ◌≢◌, ℕ, ℤ, List, ◌≤◌, ◌<◌, IsTrue, false, IfSome, IfOk, OnOk, Some};
+ghost use Rattle.std.specs.Prelude.{◌≡◌, ◌≢◌, ℕ, ◌-◌, ◌^◌, ℤ, pos, List, ◌≤◌, ◌<◌, IsTrue, false, IfSome, IfOk, OnOk, Some};
 ghost use Rattle.ramps.specs.Told.{Keeps};
 ghost use Rattle.num_api.specs.Exprs.{nexpr_tree, Const, Binary};
 ghost use Rattle.num_api.specs.Ranges.{InRange, IsPoint, NoWider, IsUnder, with_range, all_numbers, holds_some, hull};
@@ -14,14 +14,14 @@ ghost use Rattle.num_api.specs.Lives.{is_live};
 ghost use Rattle.num_api.specs.declared.message.Range.{Range};
 ghost use Rattle.num_api.specs.declared.message.Message.TheVariants.{Between};
 ghost use Rattle.num_api.specs.declared.expr.NExpr.{NExpr};
-ghost use Rattle.num_api.specs.declared.expr.NOp.TheVariants.{Sub};
+ghost use Rattle.num_api.specs.declared.expr.NOp.TheVariants.{Add, Sub, And};
 ghost use Rattle.num_api.specs.declared.expr.Var.{Var as Variable};
-ghost use Rattle.c_written.specs.Integer.{HasNumber};
+ghost use Rattle.c_written.specs.Integer.{width, least, HasNumber};
 ghost use Rattle.machine_exprs.specs.MExprs.{mexpr_tree};
 ghost use Rattle.machine_exprs.specs.Machine.{wrapped_value, exact_value, machine_value};
 ghost use Rattle.machine_nums.specs.Machines.{state_of};
 
-use crate::types::{range_of, shift_into};
+use crate::types::{mask, range_of, shift_into};
 use c_written::IntType;
 use machine_exprs::MExpr;
 use num_api::{
@@ -37,6 +37,17 @@ fn less(alloc: Global, plain: NExpr, shift: i128) -> Result<NExpr, NoMemory>
     let plain = Box::new(alloc, plain)?;
     let shift = Box::new(alloc, NExpr::Const(shift))?;
     Ok(NExpr::Binary(NOp::Sub, plain, shift))
+}
+
+// What the bits of the expression are as a number of the type.
+fn bits_of(alloc: Global, plain: NExpr, t: IntType) -> Result<NExpr, NoMemory>
+    ensures { IfOk result (λ p. nexpr_tree p ≡ Binary Add (Binary And (Binary Sub (nexpr_tree plain) (Const (least t))) (Const (pos (2 ^ width t - 1)))) (Const (least t))) }
+{
+    let above = Box::new(alloc, less(alloc, plain, t.least())?)?;
+    let mask = Box::new(alloc, NExpr::Const(mask(t)))?;
+    let bits = Box::new(alloc, NExpr::Binary(NOp::And, above, mask))?;
+    let least = Box::new(alloc, NExpr::Const(t.least()))?;
+    Ok(NExpr::Binary(NOp::Add, bits, least))
 }
 
 /// A state of a numeric domain over numbers of C's integer types.
@@ -72,13 +83,9 @@ impl<D: NumDomain> Machine<D> {
         ensures { OnOk result ((v w : List ℤ) (n : ℤ) → D.admits (state_of self.old) v → machine_value v (mexpr_tree e.now) ≡ Some n → SetTo x.0 n v w
             → D.admits (state_of self.new) w) }
     {
-        match self.inside(e)? {
-            Some(plain) => {
-                let mut out = Messages::new(self.alloc);
-                self.state.assign(x, &plain, &Unknowing, &mut out)
-            }
-            None => self.state.havoc(x, range_of(e.int_type())),
-        }
+        let plain = self.inside(e)?;
+        let mut out = Messages::new(self.alloc);
+        self.state.assign(x, &plain, &Unknowing, &mut out)
     }
 
     /// Keeps the valuations in which the expression's value has this truth; `Dead` only where there is none.
@@ -86,13 +93,9 @@ impl<D: NumDomain> Machine<D> {
         ensures { IfOk result (λ live. (v : List ℤ) (n : ℤ) → D.admits (state_of self.old) v → machine_value v (mexpr_tree e.now) ≡ Some n
             → IsTrue (has_truth truth n) → IsTrue (is_live live) × D.admits (state_of self.new) v) }
     {
-        match self.inside(e)? {
-            Some(plain) => {
-                let mut out = Messages::new(self.alloc);
-                self.state.assume(&plain, truth, &Unknowing, &mut out)
-            }
-            None => Ok(Live::Live),
-        }
+        let plain = self.inside(e)?;
+        let mut out = Messages::new(self.alloc);
+        self.state.assume(&plain, truth, &Unknowing, &mut out)
     }
 
     /// A range and a class that hold the exact result of the outermost node, which is not wrapped.
@@ -101,10 +104,8 @@ impl<D: NumDomain> Machine<D> {
             → InRange found.0 n × InResidue found.1 n) }
         ensures proper { IfOk result (λ found. IsResidue found.1) }
     {
-        match self.fitted(e)? {
-            Some(plain) => Ok((self.state.range(&plain), self.state.residue(&plain))),
-            None => Ok((Range::all(), Residue { rem: 0, modulus: 1 })),
-        }
+        let plain = self.fitted(e)?;
+        Ok((self.state.range(&plain), self.state.residue(&plain)))
     }
 
     /// Gives the variable any number of the type.
@@ -169,68 +170,56 @@ impl<D: NumDomain> Machine<D> {
         self.state.facts(out)
     }
 
-    // The expression without its types, where each operand's exact results are wrapped by one shift.
-    fn fitted(&self, e: &MExpr) -> Result<Option<NExpr>, NoMemory>
-        ensures { IfOk result (λ found. IfSome found (λ plain. (v : List ℤ) → D.admits (state_of self.now) v
-            → value_of v (nexpr_tree plain) ≡ exact_value v (mexpr_tree e.now))) }
+    // The expression without its types: its value is the exact result of the outermost node.
+    fn fitted(&self, e: &MExpr) -> Result<NExpr, NoMemory>
+        ensures { IfOk result (λ plain. (v : List ℤ) → D.admits (state_of self.now) v
+            → value_of v (nexpr_tree plain) ≡ exact_value v (mexpr_tree e.now)) }
     {
         match e {
-            MExpr::Const(_, n) => Ok(Some(NExpr::Const(*n))),
-            MExpr::Read(x, _) => Ok(Some(NExpr::Read(*x))),
+            MExpr::Const(_, n) => Ok(NExpr::Const(*n)),
+            MExpr::Read(x, _) => Ok(NExpr::Read(*x)),
             MExpr::Convert(_, a) => {
-                let found = self.fitted(a)?;
-                self.within(found, a.int_type())
+                let plain = self.fitted(a)?;
+                self.within(plain, a.int_type())
             }
             MExpr::Unary(op, _, a) => {
-                let found = self.fitted(a)?;
-                match self.within(found, a.int_type())? {
-                    Some(a) => {
-                        let a = Box::new(self.alloc, a)?;
-                        Ok(Some(NExpr::Unary(*op, a)))
-                    }
-                    None => Ok(None),
-                }
+                let plain = self.fitted(a)?;
+                let part = self.within(plain, a.int_type())?;
+                let part = Box::new(self.alloc, part)?;
+                Ok(NExpr::Unary(*op, part))
             }
             MExpr::Binary(op, _, a, b) => {
                 let first = self.fitted(a)?;
                 let left = self.within(first, a.int_type())?;
                 let second = self.fitted(b)?;
                 let right = self.within(second, b.int_type())?;
-                match (left, right) {
-                    (Some(a), Some(b)) => {
-                        let a = Box::new(self.alloc, a)?;
-                        let b = Box::new(self.alloc, b)?;
-                        Ok(Some(NExpr::Binary(*op, a, b)))
-                    }
-                    _ => Ok(None),
-                }
+                let left = Box::new(self.alloc, left)?;
+                let right = Box::new(self.alloc, right)?;
+                Ok(NExpr::Binary(*op, left, right))
             }
         }
     }
 
-    // The expression wrapped into the type, where one shift does so to all its numbers.
-    fn within(&self, found: Option<NExpr>, t: IntType) -> Result<Option<NExpr>, NoMemory>
-        ensures { IfOk result (λ made. IfSome made (λ p. (q : NExpr) × (found ≡ Some q)
-            × ((v : List ℤ) → D.admits (state_of self.now) v → value_of v (nexpr_tree p) ≡ wrapped_value t (value_of v (nexpr_tree q))))) }
+    // The expression wrapped into the type: by one shift where that does so to all its numbers, else by its bits.
+    fn within(&self, plain: NExpr, t: IntType) -> Result<NExpr, NoMemory>
+        ensures { IfOk result (λ p. (v : List ℤ) → D.admits (state_of self.now) v
+            → value_of v (nexpr_tree p) ≡ wrapped_value t (value_of v (nexpr_tree plain))) }
     {
-        let Some(plain) = found else {
-            return Ok(None);
-        };
         let Some(shift) = shift_into(self.state.range(&plain), t) else {
-            return Ok(None);
+            return bits_of(self.alloc, plain, t);
         };
         if shift == 0 {
-            return Ok(Some(plain));
+            return Ok(plain);
         }
-        Ok(Some(less(self.alloc, plain, shift)?))
+        less(self.alloc, plain, shift)
     }
 
-    // The same of the value, where the outermost node's exact results are wrapped by one shift too.
-    fn inside(&self, e: &MExpr) -> Result<Option<NExpr>, NoMemory>
-        ensures { IfOk result (λ found. IfSome found (λ plain. (v : List ℤ) → D.admits (state_of self.now) v
-            → value_of v (nexpr_tree plain) ≡ machine_value v (mexpr_tree e.now))) }
+    // The same of the value: what the outermost node comes to is wrapped too.
+    fn inside(&self, e: &MExpr) -> Result<NExpr, NoMemory>
+        ensures { IfOk result (λ plain. (v : List ℤ) → D.admits (state_of self.now) v
+            → value_of v (nexpr_tree plain) ≡ machine_value v (mexpr_tree e.now)) }
     {
-        let found = self.fitted(e)?;
-        self.within(found, e.int_type())
+        let plain = self.fitted(e)?;
+        self.within(plain, e.int_type())
     }
 }

@@ -1,6 +1,6 @@
 // The numbers of C's integer types as ranges.
 
-ghost use Rattle.std.specs.Prelude.{◌≡◌, ◌^◌, ◌-ℤ◌, ◌*ℤ◌, ◌≤ℤ◌, ℤ, pos, IsTrue, IfSome};
+ghost use Rattle.std.specs.Prelude.{◌≡◌, ◌^◌, ◌-◌, ◌-ℤ◌, ◌*ℤ◌, ◌≤ℤ◌, ℤ, pos, IsTrue, IfSome};
 ghost use Rattle.c_written.specs.Integer.{width, least, greatest, HasNumber};
 ghost use Rattle.num_api.specs.Ranges.{InRange, holds_some};
 ghost use Rattle.num_api.specs.Residues.{IsMultiple};
@@ -32,6 +32,18 @@ pub fn numbers(t: IntType) -> i128
         IntType::Long | IntType::ULong | IntType::LLong | IntType::ULLong => {
             0x1_0000_0000_0000_0000
         }
+    }
+}
+
+// The number whose bits are the low ones, as many as the type has.
+pub fn mask(t: IntType) -> i128
+    ensures { result ≡ pos (2 ^ width t - 1) }
+{
+    match t {
+        IntType::Char | IntType::SChar | IntType::UChar => 0xff,
+        IntType::Short | IntType::UShort => 0xffff,
+        IntType::Int | IntType::UInt => 0xffff_ffff,
+        IntType::Long | IntType::ULong | IntType::LLong | IntType::ULLong => 0xffff_ffff_ffff_ffff,
     }
 }
 

@@ -4,18 +4,20 @@ use mir.Syntax.{w128}
 use Rattle.num_api.specs.Exprs as plain
 use Rattle.num_api.specs.Exprs.{nexpr_tree}
 use Rattle.num_api.specs.declared.expr.NOp.TheVariants.{Sub}
-use Rattle.machine_nums.proofs.Fits.{own_value, shifted_value}
+use Rattle.machine_nums.proofs.Fits.{own_value, shifted_value, bits_value, ok_weaker}
 use Rattle.machine_nums.proofs.machine.Machine.within.Goals as goal
+
+pub returns-in_default : goal.returns-in_default
+returns-in_default g c = ok_weaker _ _ c.bits_of.result (λ p is v h. bits_value v c.args.t p c.args.plain is) c.bits_of.ensures
 
 pub returns-then-shift-eq0 : goal.returns-then-shift-eq0
 returns-then-shift-eq0 g c =
-    let s = c.in-Some-shift_into.shift in
+    let s = c.in-Some.shift in
     let zero : s ≡ pos 0 = search rules in
-    (c.in-Some.plain, c.in-Some.is, λ v h. own_value v c.args.t s c.in-Some.plain zero (λ n e. c.in-Some-shift_into.ensures.1 n (c.range.ensures.holds v n h e)))
+    λ v h. own_value v c.args.t s c.args.plain zero (λ n e. c.in-Some.ensures.1 n (c.range.ensures.holds v n h e))
 
 pub returns : goal.returns
 returns g c =
-    let s = c.in-Some-shift_into.shift in let q = c.in-Some.plain in
+    let s = c.in-Some.shift in let q = c.args.plain in
     let fits : FitsSigned w128 s = search rules in
-    let tree : nexpr_tree c.in_ok-less.field-0 ≡ plain.Binary Sub (nexpr_tree q) (plain.Const s) = c.in_ok-less.ensures ∙ ap (λ s. plain.Binary Sub (nexpr_tree q) (plain.Const s)) (to_z-of_z w128 s fits) in
-    (q, c.in-Some.is, λ v h. shifted_value v c.args.t s c.in_ok-less.field-0 q tree c.in-Some-shift_into.ensures.0 (λ n e. c.in-Some-shift_into.ensures.1 n (c.range.ensures.holds v n h e)))
+    ok_weaker _ _ c.less.result (λ p is v h. shifted_value v c.args.t s p q (is ∙ ap (λ s. plain.Binary Sub (nexpr_tree q) (plain.Const s)) (to_z-of_z w128 s fits)) c.in-Some.ensures.0 (λ n e. c.in-Some.ensures.1 n (c.range.ensures.holds v n h e))) c.less.ensures
