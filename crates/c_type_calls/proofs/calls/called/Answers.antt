@@ -1,0 +1,21 @@
+use Rattle.std.proofs.Common.{◌≡◌, ap, sym, ◌∙◌}
+use Rattle.std.specs.Prelude.{None}
+use Rattle.c_syntax.specs.TypedExpr.{texprs_tree}
+use Rattle.c_typing.specs.Names.{input_type}
+use Rattle.c_typing.specs.Nodes.{call_named}
+use Rattle.c_type_conversions.specs.Views.{operand_tree}
+use Rattle.c_type_errors.proofs.Steps.{so}
+use Rattle.c_type_names.specs.Worlds.{world_of}
+use Rattle.c_type_calls.proofs.Passing.{called_by_name}
+use Rattle.c_type_calls.proofs.calls.called.Goals as goal
+
+pub returns-else-is_assert : goal.returns-else-is_assert
+returns-else-is_assert c =
+    let w = world_of c.args.world.now in
+    let args = texprs_tree c.args.args in
+    let name = c.args.name.now in
+    let no_input : input_type name ≡ None = cc (c.input_type.ensures, c.in_default.is) in
+    so operand_tree w c.call_named.result
+    (ap (call_named w c.args.pos args) c.meaning_of.ensures
+    ∙ called_by_name w c.args.pos name args no_input (sym c.is_assume.ensures ∙ c.if-is_assume.false) (sym c.is_assert.ensures ∙ c.if-is_assert.false))
+    c.call_named.ensures
