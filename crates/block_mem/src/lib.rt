@@ -34,8 +34,6 @@ mod loading;
 mod moving;
 mod numbers;
 mod pieces;
-#[cfg(test)]
-mod tests;
 mod types;
 
 pub use blocks::Memory;

@@ -135,17 +135,3 @@ fn is_scalar_of(ty: &CType, size: u64) -> bool
         CType::Void | CType::Array(_, _) | CType::Struct(_) | CType::Function(_) => false,
     }
 }
-
-#[cfg(test)]
-mod tests {
-    use super::*;
-    use c_syntax::IntType;
-
-    #[test]
-    fn scalar_of_an_int(rt: HostRuntime) {
-        let alloc = rt.alloc();
-        let structs = StructDefs::new(alloc);
-        let int = CType::Int(IntType::Int);
-        assert!(rt; scalar_at(&int, &structs, 0, 4).is_some());
-    }
-}

@@ -163,32 +163,3 @@ pub fn one_uncut()
 pub fn cut_nor_uncut()
     ensures { (file : ℕ) (text : List ℕ) (v : Tokens) (p : Pos) (r : Reason) → IsCut file text v → IsUncut file text p r → ⊥ }
 {}
-
-#[cfg(test)]
-mod tests {
-    use super::*;
-    use std::test::Fail;
-
-    // The table of texts and their tokens is that of the program `front_table`.
-    #[test]
-    fn cuts(rt: HostRuntime) -> Result<(), Fail> {
-        let tokens = lex(rt.alloc(), 3, b"int x1 ;\n")?;
-        let end = Pos {
-            file: 3,
-            line: 2,
-            col: 1,
-        };
-        assert_eq!(rt; tokens.list.as_slice().len(), 3);
-        assert_eq!(rt; tokens.end, end);
-        let quote = Pos {
-            file: 3,
-            line: 1,
-            col: 3,
-        };
-        assert_eq!(rt;
-            lex(rt.alloc(), 3, b"a \"b").err(),
-            Some(LexError::Unterminated(quote))
-        );
-        Ok(())
-    }
-}

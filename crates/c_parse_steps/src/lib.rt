@@ -21,8 +21,6 @@ mod fault;
 mod kind;
 mod level;
 mod look;
-#[cfg(test)]
-mod tests;
 mod token;
 mod type_kind;
 mod type_names;

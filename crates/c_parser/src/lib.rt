@@ -14,7 +14,5 @@
 
 mod outer;
 mod parsing;
-#[cfg(test)]
-mod tests;
 
 pub use parsing::{ParseError, parse};

@@ -21,8 +21,6 @@ mod op;
 mod operator;
 mod program;
 mod statement;
-#[cfg(test)]
-mod tests;
 mod typed;
 mod types;
 mod value_type;

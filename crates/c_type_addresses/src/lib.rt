@@ -17,8 +17,6 @@
 
 mod addresses;
 mod moves;
-#[cfg(test)]
-mod tests;
 
 pub use addresses::{static_address, static_place};
 pub use moves::Address;

@@ -22,8 +22,6 @@
 
 mod binary;
 mod compound;
-#[cfg(test)]
-mod tests;
 mod unary;
 
 pub use binary::{arithmetic_row, comparison_row, minus_row, plus_row, shift_row};

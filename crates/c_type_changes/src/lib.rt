@@ -14,7 +14,5 @@
 
 mod changes;
 mod place;
-#[cfg(test)]
-mod tests;
 
 pub use changes::{assigned, compound, stepped};

@@ -15,8 +15,6 @@
 #![tactic(auto)]
 
 mod operators;
-#[cfg(test)]
-mod tests;
 mod values;
 
 pub use values::{constant_value, is_null_constant};

@@ -22,8 +22,6 @@
 
 mod conversions;
 mod operand;
-#[cfg(test)]
-mod tests;
 mod types;
 
 pub use conversions::{as_int, as_null, as_type, balanced, binary_node, convert_node, unary_node};

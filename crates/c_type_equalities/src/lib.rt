@@ -16,8 +16,6 @@
 
 mod equality;
 mod logical;
-#[cfg(test)]
-mod tests;
 
 pub use equality::{equality_row, order_row};
 pub use logical::{and_row, or_row};

@@ -13,8 +13,6 @@
 
 mod error;
 mod refusals;
-#[cfg(test)]
-mod tests;
 
 pub use error::TypeError;
 pub use refusals::no_rule;

@@ -14,8 +14,6 @@
 
 mod constants;
 mod objects;
-#[cfg(test)]
-mod tests;
 
 pub use constants::{character, number};
 pub use objects::{object_named, object_place};

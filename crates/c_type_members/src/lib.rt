@@ -14,8 +14,6 @@
 
 mod nodes;
 mod rows;
-#[cfg(test)]
-mod tests;
 
 pub use nodes::{arrow, member};
 pub use rows::{arrow_row, member_row};

@@ -29,8 +29,6 @@ mod objects;
 mod reserved;
 mod struct_tags;
 mod table;
-#[cfg(test)]
-mod tests;
 mod types;
 mod world;
 

@@ -20,8 +20,6 @@ mod given;
 mod operators;
 mod prefixes;
 mod sizes;
-#[cfg(test)]
-mod tests;
 
 pub use choice::{conditional, sequenced, tested};
 pub use operators::{binary, indexed};

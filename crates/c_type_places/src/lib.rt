@@ -13,7 +13,5 @@
 #![tactic(auto)]
 
 mod places;
-#[cfg(test)]
-mod tests;
 
 pub use places::{index_row, star_row};

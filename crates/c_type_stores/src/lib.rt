@@ -21,8 +21,6 @@
 mod cast;
 mod choice;
 mod store;
-#[cfg(test)]
-mod tests;
 
 pub use cast::{cast_row, is_pointer_integer};
 pub use choice::cond_row;

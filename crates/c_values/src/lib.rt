@@ -24,8 +24,6 @@ mod laws;
 mod numbers;
 mod pointers;
 mod spots;
-#[cfg(test)]
-mod tests;
 mod values;
 
 pub use laws::{

@@ -21,8 +21,6 @@ mod int_type;
 mod lists;
 mod place;
 mod step;
-#[cfg(test)]
-mod tests;
 mod token;
 mod written;
 

@@ -191,6 +191,3 @@ fn number_for(cells: &IndexMap<(u64, u64, u64), bool>, key: (u64, u64, u64)) -> 
         None => cells.len() as u64,
     }
 }
-
-#[cfg(test)]
-mod tests;

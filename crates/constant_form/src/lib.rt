@@ -9,8 +9,6 @@
 #![tactic(auto)]
 
 mod form;
-#[cfg(test)]
-mod tests;
 mod tree;
 mod walk;
 

@@ -11,6 +11,3 @@
 mod evaluation;
 
 pub use evaluation::eval;
-
-#[cfg(test)]
-mod tests;

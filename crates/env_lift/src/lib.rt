@@ -20,6 +20,3 @@ mod state;
 mod told;
 
 pub use state::Env;
-
-#[cfg(test)]
-mod tests;

@@ -124,6 +124,3 @@ impl ValueDomain for Interval {
         at_most(self.lo, other.lo) && at_most(other.hi, self.hi)
     }
 }
-
-#[cfg(test)]
-mod tests;

@@ -31,6 +31,3 @@ pub use lists::{Messages, NumFacts};
 pub use message::{Message, Range, Residue};
 pub use unknowing::Unknowing;
 pub use value::{ExactValue, ValueDomain};
-
-#[cfg(test)]
-mod tests;

@@ -15,8 +15,6 @@ mod memory_files;
 mod memory_sink;
 mod reading;
 mod sink;
-#[cfg(test)]
-mod tests;
 mod writing;
 
 pub use files::{Failed, Files};

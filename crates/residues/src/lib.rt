@@ -22,6 +22,3 @@ mod pair;
 
 pub use class::Class;
 pub use pair::Pair;
-
-#[cfg(test)]
-mod tests;

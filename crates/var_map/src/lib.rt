@@ -13,6 +13,3 @@ mod map;
 
 pub use entries::Entry;
 pub use map::VarMap;
-
-#[cfg(test)]
-mod tests;
