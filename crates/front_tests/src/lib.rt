@@ -4,11 +4,11 @@
 #![tactic(auto)]
 
 #[cfg(test)]
-mod constant_form;
-#[cfg(test)]
 mod cuts;
 #[cfg(test)]
-mod outside_io;
+mod forms;
+#[cfg(test)]
+mod host;
 #[cfg(test)]
 mod parse_steps;
 #[cfg(test)]

@@ -4,18 +4,18 @@
 #![tactic(auto)]
 
 #[cfg(test)]
-mod block_mem;
+mod blocks;
 #[cfg(test)]
-mod cell_table;
+mod cells;
 #[cfg(test)]
 mod integers;
 #[cfg(test)]
 mod layouts;
 #[cfg(test)]
-mod pointsets;
-#[cfg(test)]
 mod qualified;
 #[cfg(test)]
 mod scalars;
+#[cfg(test)]
+mod targets;
 #[cfg(test)]
 mod values;

@@ -4,20 +4,20 @@
 #![tactic(auto)]
 
 #[cfg(test)]
-mod env_eval;
+mod classes;
 #[cfg(test)]
-mod env_lift;
+mod ends;
 #[cfg(test)]
-mod ext_int;
+mod environments;
+#[cfg(test)]
+mod evaluation;
+#[cfg(test)]
+mod interface;
 #[cfg(test)]
 mod interval_domain;
 #[cfg(test)]
-mod intervals;
+mod interval_ends;
 #[cfg(test)]
-mod num_api;
+mod maps;
 #[cfg(test)]
-mod ramps;
-#[cfg(test)]
-mod residues;
-#[cfg(test)]
-mod var_map;
+mod steps;

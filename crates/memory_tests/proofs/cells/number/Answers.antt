@@ -3,7 +3,7 @@ use Rattle.c_syntax.specs.declared.alarm.Cell.{Cell}
 use Rattle.std.proofs.lemmas.Grind.{get_or_default_zero}
 use Rattle.cell_table.specs.Cells.{cell_at}
 use Rattle.cell_table.proofs.Overlaps.{apart-overlapping}
-use Rattle.memory_tests.proofs.cell_table.number.Goals as goal
+use Rattle.memory_tests.proofs.cells.number.Goals as goal
 
 pub number-requires-clause-apart : goal.number-requires-clause-apart
 number-requires-clause-apart g c =
