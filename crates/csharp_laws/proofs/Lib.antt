@@ -1,0 +1,5 @@
+mod Lists
+mod Objects
+mod Stays
+mod Clash
+mod Separated
