@@ -195,7 +195,6 @@ body_apart q f function separate is = subst (λ o. IfSome o (λ g. AreScopesApar
 
 module _ (q : CsProgramTree) (separate : IsSeparate q) (over : ℕ → Bool) (later : Later) (l : LaterClear q later)
     (moves : (x : ℕ) → LaterEnds q 0 x later) where
-
   after : (a : CsStmtTree) (s : State) → Keeps s (level over q later Anew a s)
   after a s = keeps q _ _ s _ (λ x. level_ends q 0 x over later (moves x) Anew a s)
 

@@ -3,3 +3,4 @@ mod Objects
 mod Stays
 mod Clash
 mod Separated
+mod Enough

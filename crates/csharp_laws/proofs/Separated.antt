@@ -14,7 +14,7 @@ use Rattle.csharp.specs.Trees.{CsStmtTree, Nothing, Set, Load, Store, CopyBytes,
 use Rattle.csharp.specs.Trees.{Scope, Switch, Goto, Call, Return, Label, Case, Default, CsStmtTrees, none, more, CsFunctionTree, CsProgramTree}
 use Rattle.csharp.specs.States.{State, first}
 use Rattle.csharp.specs.Outcomes.{Outcome, Clash, or_stuck}
-use Rattle.csharp.specs.Formed.{Around, in_block, in_items, nothing_around, Each, EachItem, label_of, gathered, gathered_in, objects_of, scoped, IsScoped, AreNumbersThere, LeadsDown, IsFormed}
+use Rattle.csharp.specs.Formed.{Around, in_block, in_items, nothing_around, Each, EachItem, label_of, gathered, gathered_in, objects_of, scoped, IsScoped, AreNumbersThere, LeadsDown, AreCallsFounded, IsFormed}
 use Rattle.csharp.specs.Meaning.{exec, never, run}
 use Rattle.csharp_laws.specs.LeftAlone.{calls_of, May, Itself, ByCall}
 use Rattle.csharp_laws.specs.Separate.{objects_within, IsApart, IsScopeApart, IsSeparate, FormedIsSeparate, FormedRunsNeverClash}
@@ -24,7 +24,6 @@ use Rattle.csharp_laws.proofs.Clash.{no_clash}
 
 module _ (P : Around → CsStmtTree → Type 0) (of : CsStmtTree → List ℕ) (Q : ℕ → Type 0)
     (own : (around : Around) (a : CsStmtTree) → P around a → (x : ℕ) → Contains (of a) x → Q x) where
-
   two : (xs ys : List ℕ) → ((x : ℕ) → Contains xs x → Q x) → ((x : ℕ) → Contains ys x → Q x) → (x : ℕ) → Contains (xs ++ ys) x → Q x
   two xs ys f g x c = by_sum (Contains-append_cases xs ys x c) (f x) (g x)
 
@@ -69,45 +68,49 @@ some_there [] k lt e = absurd (omega (arith, lt))
 some_there (x ∷ xs) zero lt e = absurd (cc)
 some_there (x ∷ xs) (suc k) lt e = some_there xs k (omega (arith, lt)) e
 
+down_own : (rank : ℕ → ℕ) (f : ℕ) (around : Around) (a : CsStmtTree) → LeadsDown rank f a → (g : ℕ) → Contains (calls_of a) g → rank g < rank f
+down_own rank f around (Call c) h g m = subst (λ z. rank z < rank f) (one_is g c.function m) h
+down_own rank f around Nothing h g m = absurd (none_in g m)
+down_own rank f around (Set k e) h g m = absurd (none_in g m)
+down_own rank f around (Load k ty e) h g m = absurd (none_in g m)
+down_own rank f around (Store ty e e') h g m = absurd (none_in g m)
+down_own rank f around (CopyBytes n to from) h g m = absurd (none_in g m)
+down_own rank f around (Undefine y) h g m = absurd (none_in g m)
+down_own rank f around (Checked c) h g m = absurd (none_in g m)
+down_own rank f around (Input k t) h g m = absurd (none_in g m)
+down_own rank f around (Assume e) h g m = absurd (none_in g m)
+down_own rank f around (Sequence a b) h g m = absurd (none_in g m)
+down_own rank f around (If e a b) h g m = absurd (none_in g m)
+down_own rank f around (Loop at a) h g m = absurd (none_in g m)
+down_own rank f around (Block a) h g m = absurd (none_in g m)
+down_own rank f around (Exit n) h g m = absurd (none_in g m)
+down_own rank f around (Scope xs all) h g m = absurd (none_in g m)
+down_own rank f around (Switch e xs all) h g m = absurd (none_in g m)
+down_own rank f around (Goto label) h g m = absurd (none_in g m)
+down_own rank f around (Return e) h g m = absurd (none_in g m)
+down_own rank f around (Label at n) h g m = absurd (none_in g m)
+down_own rank f around (Case n) h g m = absurd (none_in g m)
+down_own rank f around Default h g m = absurd (none_in g m)
+
+-- what a body calls has a lower rank
+pub calls_below : (q : CsProgramTree) (founded : AreCallsFounded q) (f : ℕ) (function : CsFunctionTree) → slice_get q.functions f ≡ Some function
+    → (g : ℕ) → Contains (gathered calls_of function.body) g → founded.rank g < founded.rank f
+calls_below q founded f function is =
+    each_gathered (λ around a. LeadsDown founded.rank f a) calls_of (λ g. founded.rank g < founded.rank f) (down_own founded.rank f) nothing_around function.body
+    (subst (λ o. IfSome o (λ g. Each (λ around a. LeadsDown founded.rank f a) nothing_around g.body)) is (founded.down f))
+
 -- ---- a formed program
 
 module _ (q : CsProgramTree) (formed : IsFormed q) where
   abbrev rank : ℕ → ℕ
   rank = formed.calls.rank
 
-  at_function : (P : ℕ → CsFunctionTree → Type 0) (f : ℕ) (function : CsFunctionTree) → EachOf q.functions P → slice_get q.functions f ≡ Some function → P f function
-  at_function P f function each is = subst (λ o. IfSome o (P f)) is (each f)
-
-  down_own : (f : ℕ) (around : Around) (a : CsStmtTree) → LeadsDown rank f a → (g : ℕ) → Contains (calls_of a) g → rank g < rank f
-  down_own f around (Call c) h g m = subst (λ z. rank z < rank f) (one_is g c.function m) h
-  down_own f around Nothing h g m = absurd (none_in g m)
-  down_own f around (Set k e) h g m = absurd (none_in g m)
-  down_own f around (Load k ty e) h g m = absurd (none_in g m)
-  down_own f around (Store ty e e') h g m = absurd (none_in g m)
-  down_own f around (CopyBytes n to from) h g m = absurd (none_in g m)
-  down_own f around (Undefine y) h g m = absurd (none_in g m)
-  down_own f around (Checked c) h g m = absurd (none_in g m)
-  down_own f around (Input k t) h g m = absurd (none_in g m)
-  down_own f around (Assume e) h g m = absurd (none_in g m)
-  down_own f around (Sequence a b) h g m = absurd (none_in g m)
-  down_own f around (If e a b) h g m = absurd (none_in g m)
-  down_own f around (Loop at a) h g m = absurd (none_in g m)
-  down_own f around (Block a) h g m = absurd (none_in g m)
-  down_own f around (Exit n) h g m = absurd (none_in g m)
-  down_own f around (Scope xs all) h g m = absurd (none_in g m)
-  down_own f around (Switch e xs all) h g m = absurd (none_in g m)
-  down_own f around (Goto label) h g m = absurd (none_in g m)
-  down_own f around (Return e) h g m = absurd (none_in g m)
-  down_own f around (Label at n) h g m = absurd (none_in g m)
-  down_own f around (Case n) h g m = absurd (none_in g m)
-  down_own f around Default h g m = absurd (none_in g m)
-
-  -- what a body calls has a lower rank
   calls_down : (f : ℕ) (function : CsFunctionTree) → slice_get q.functions f ≡ Some function
       → (g : ℕ) → Contains (gathered calls_of function.body) g → rank g < rank f
-  calls_down f function is =
-      each_gathered (λ around a. LeadsDown rank f a) calls_of (λ g. rank g < rank f) (down_own f) nothing_around function.body
-      (at_function (λ k g. Each (λ around a. LeadsDown rank k a) nothing_around g.body) f function formed.calls.down is)
+  calls_down f function is = calls_below q formed.calls f function is
+
+  at_function : (P : ℕ → CsFunctionTree → Type 0) (f : ℕ) (function : CsFunctionTree) → EachOf q.functions P → slice_get q.functions f ≡ Some function → P f function
+  at_function P f function each is = subst (λ o. IfSome o (P f)) is (each f)
 
   -- objects that are opened are there
   opened_there : (f : ℕ) (function : CsFunctionTree) → slice_get q.functions f ≡ Some function

@@ -241,7 +241,8 @@ arg_case d x from es k ds s t None go e = absurd (cc)
 arg_case d x from es k ds s t (Some v) go e =
     let p : Passed d x ds (put s k v) t = go v e in (
       (λ other. p.0 (λ h. other (rest_in k d ds h)) ∙ other_element s.temps k d v (λ is. other (subst (λ n. Contains (k ∷ ds) n) (sym is) (first_in k ds)))),
-      p.1)
+      p.1,
+    )
 
 args_passed : (d x : ℕ) (from : State) (es : List CsExprTree) (ds : List ℕ) (s t : State) → args_from from es ds s ≡ Some t → Passed d x ds s t
 args_passed d x from [] [] s t e = subst (λ u. Passed d x [] s u) (some_is s t e) ((λ other. refl), refl)

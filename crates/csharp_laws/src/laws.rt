@@ -1,6 +1,7 @@
 // What code leaves alone.
 #![tactic(auto)]
 
+ghost use Rattle.csharp_laws.specs.Enough.{FuelIsEnough};
 ghost use Rattle.csharp_laws.specs.LeftAlone.{PlacesStay, TempsStay};
 ghost use Rattle.csharp_laws.specs.Separate.{FormedIsSeparate, FormedRunsNeverClash, NoClash};
 
@@ -28,4 +29,10 @@ pub fn formed_scopes_are_separate()
 /// No run of a formed program enters a scope that is open.
 pub fn formed_runs_never_clash()
     ensures { FormedRunsNeverClash }
+{}
+
+/// Where calls lead down, gotos lead forwards, and no entry of a loop has more turns than a bound, a body comes to
+/// an outcome other than out of fuel with the fuel that `need` tells, or more.
+pub fn fuel_is_enough()
+    ensures { FuelIsEnough }
 {}

@@ -1,4 +1,5 @@
-//! Laws of the meaning of `csharp`: what code leaves alone, and that separate scopes do not clash.
+//! Laws of the meaning of `csharp`: what code leaves alone, that separate scopes do not clash, and how much fuel is
+//! enough.
 //!
 //! A statement sets its own temporaries, those of its parts, and those of the functions that it calls, directly or
 //! through others. Whatever it comes to, normally or by an exit, a goto or a return, all other temporaries have their
@@ -16,11 +17,12 @@
 //! | no scope is entered while it is open | `Separate.NoClash` | `separate_scopes_never_clash` |
 //! | the scopes of a formed program are separate | `Separate.FormedIsSeparate` | `formed_scopes_are_separate` |
 //! | a run of one never clashes | `Separate.FormedRunsNeverClash` | `formed_runs_never_clash` |
+//! | how much fuel is enough | `Enough.FuelIsEnough` | `fuel_is_enough` |
 #![tactic(auto)]
 
 mod laws;
 
 pub use laws::{
-    formed_runs_never_clash, formed_scopes_are_separate, objects_stay, other_temps_stay,
-    separate_scopes_never_clash,
+    formed_runs_never_clash, formed_scopes_are_separate, fuel_is_enough, objects_stay,
+    other_temps_stay, separate_scopes_never_clash,
 };
