@@ -11,9 +11,9 @@ use Rattle.c_syntax.specs.TypedStmt as stmts
 use Rattle.c_syntax.specs.Program.{TProgramTree}
 use Rattle.c_layout.specs.Calls.{PlacedCall, calls_of, init_calls, calls_if_there, stmt_calls, item_calls}
 use Rattle.c_layout.specs.Jumps.{listed_of, listed_in}
+use Rattle.c_lifetimes.proofs.Listed.{by_sum, distinct, listed_times, times, times_append}
 use Rattle.c_typed_runs.specs.Opens.{Use, Object, Function, Lists, Misses, OpensMaybe, OpensInits, OpensStmt, OpensItems, Apart, ApartItems, OpensCall}
-use Rattle.c_typed_runs.proofs.Lives.{by_sum}
-use Rattle.c_typed_runs.proofs.Listing.{times, times_append, listed_times, distinct, CallsUse, use_left, use_right, both_use, value_uses}
+use Rattle.c_typed_runs.proofs.Listing.{CallsUse, use_left, use_right, both_use, value_uses}
 
 maybe_uses : (p : TProgramTree) (u : Use) (e : Option TExprTree) → OpensMaybe (OpensCall p) e u → CallsUse p (calls_if_there e) u
 maybe_uses p u None h = absurd h

@@ -22,6 +22,7 @@ use Rattle.c_values.specs.Values.{scalar_of}
 use Rattle.c_values.specs.Places.{ObjectMemory, place_of}
 use Rattle.c_objects.specs.Kept.{IsKept}
 use Rattle.c_objects.specs.Opening.{open_all}
+use Rattle.c_lifetimes.proofs.Listed.{by_sum, first_in, rest_in}
 use Rattle.c_steps.specs.Work.{Item, AtEnd, Do, Close, Reach}
 use Rattle.c_steps.specs.States.{Held, Plain, Struct as Bytes, held}
 use Rattle.c_steps.specs.Calls.{taken, object_scalar, all_filled, enter_body, enter_step, reach_step}
@@ -30,11 +31,12 @@ use Rattle.c_typed_runs.specs.Wants.{Want, Of, want_of, is_value, is_any, Stacke
 use Rattle.c_typed_runs.specs.Surroundings.{outermost, in_items, TypedStmt}
 use Rattle.c_typed_runs.specs.Takes as rules
 use Rattle.c_typed_runs.specs.Takes.{GivesAtEnd, args_on, param_wants, at_close, at_reach, level, Takes, close, reach}
-use Rattle.c_typed_runs.specs.Opens.{Use, Object, Function, Lists, AreDistinct, OpensStmt, OpensItems, Apart, OpensCall}
+use Rattle.c_typed_runs.specs.Opens.{Use, Object, Function, Lists, OpensStmt, OpensItems, Apart, OpensCall}
+use Rattle.c_lifetimes.specs.Lifetimes.{AreDistinct}
 use Rattle.c_typed_runs.specs.Fits.{AreLive, IsReady, Parted}
 use Rattle.c_typed_runs.proofs.Accesses.{zero_number}
 use Rattle.c_typed_runs.proofs.Initials.{AreFillable, filled_some, goes_after}
-use Rattle.c_typed_runs.proofs.Lives.{by_sum, first_in, rest_in, all_opened, live_opened}
+use Rattle.c_typed_runs.proofs.Lives.{all_opened, live_opened}
 use Rattle.c_typed_runs.proofs.Memory.{IsChanged, changed}
 use Rattle.c_typed_runs.proofs.Rows.{Is, scalar_is, want_is}
 use Rattle.c_typed_runs.proofs.Rules.{On, fit, stacked_more}

@@ -13,58 +13,17 @@ use Rattle.c_objects.specs.Kept.{IsKept}
 use Rattle.c_objects.specs.Opening.{opened, open_all, ended_at, shut, shut_all}
 use Rattle.c_objects.proofs.Keeping.{kept_opened}
 use Rattle.c_objects.proofs.Shutting.{kept_shut}
+use Rattle.c_lifetimes.specs.Lifetimes.{AreDistinct}
+use Rattle.c_lifetimes.proofs.Listed.{by_head, first_in, none_in, rest_in}
+use Rattle.c_lifetimes.proofs.Places.{open_only, open_other, shut_gone, shut_other, some_not_none}
 use Rattle.c_steps.specs.Work.{Item, Close}
-use Rattle.c_typed_runs.specs.Opens.{AreDistinct}
 use Rattle.c_typed_runs.specs.Fits.{Lives, AreLive}
 
 pub no_some : {A : Type 0} (o : Option A) → (IsSome o → ⊥) → o ≡ None
 no_some None h = refl
 no_some (Some a) h = absurd (h refl)
 
-pub some_not_none : {A : Type 0} (o : Option A) → o ≡ None → IsSome o → ⊥
-some_not_none None e h = absurd (cc)
-some_not_none (Some a) e h = absurd (cc)
-
--- ---- lists of objects
-
-pub first_in : (x : ℕ) (xs : List ℕ) → Contains (x ∷ xs) x
-first_in x xs = (0, omega arith, refl)
-
-pub rest_in : (x y : ℕ) (xs : List ℕ) → Contains xs y → Contains (x ∷ xs) y
-rest_in x y xs h = Contains-append_right (x ∷ []) xs y h
-
-pub none_in : (y : ℕ) → Contains [] y → ⊥
-none_in y h = let lt = h.1 in omega (arith, lt)
-
-one_at : (j l k : ℕ) → k < 1 → slice_index_or (l ∷ []) k j ≡ j → l ≡ j
-one_at j l zero lt e = e
-one_at j l (suc k) lt e = absurd (omega (arith, lt))
-
-pub one_is : (j l : ℕ) → Contains (l ∷ []) j → l ≡ j
-one_is j l (k, lt, e) = one_at j l k lt e
-
-head_case : (x y : ℕ) (xs : List ℕ) → Contains (x ∷ []) y ⊎ Contains xs y → (x ≡ y) ⊎ Contains xs y
-head_case x y xs (inl c) = inl (one_is y x c)
-head_case x y xs (inr c) = inr c
-
-pub by_head : (x y : ℕ) (xs : List ℕ) → Contains (x ∷ xs) y → (x ≡ y) ⊎ Contains xs y
-by_head x y xs h = head_case x y xs (Contains-append_cases (x ∷ []) xs y h)
-
-pub by_sum : {A B C : Type 0} → A ⊎ B → (A → C) → (B → C) → C
-by_sum (inl a) f g = f a
-by_sum (inr b) f g = g b
-
 -- ---- objects end
-
-place_past : (m : ObjectMemory) (x : ℕ) → (x < length m.places) ⊎ (length m.places ≤ x) → slice_index_or (slice_set m.places x None) x None ≡ None
-place_past m x (inl lt) = get_or-set_same m.places x None None lt
-place_past m x (inr le) = get_or-eq_default (slice_set m.places x None) None (subst (λ n. n ≤ x) (sym (length-set m.places x None)) le)
-
-shut_gone : (m : ObjectMemory) (x : ℕ) → place_of (shut m x) x ≡ None
-shut_gone m x = place_past m x (cases_lt x (length m.places))
-
-shut_other : (m : ObjectMemory) (x y : ℕ) → (y ≡ x → ⊥) → place_of (shut m x) y ≡ place_of m y
-shut_other m x y h = get_or-set_other m.places x y None None h
 
 shut_case : (m : ObjectMemory) (x y : ℕ) → (y ≡ x) ⊎ (y ≡ x → ⊥) → IsSome (place_of (shut m x) y) → (y ≡ x → ⊥) × IsSome (place_of m y)
 shut_case m x y (inl e) h = absurd (some_not_none (place_of (shut m x) y) (subst (λ z. place_of (shut m x) z ≡ None) (sym e) (shut_gone m x)) h)
@@ -138,17 +97,10 @@ pub record Opened (objects : List ObjectTree) (xs : List ℕ) (m n : ObjectMemor
 open_here : (objects : List ObjectTree) (m : ObjectMemory) (x : ℕ) → IsKept objects m → x < length objects → place_of (opened objects m x) x ≡ Some (length m.blocks)
 open_here objects m x k lt = get_or-set_same m.places x (Some (length m.blocks)) None (subst (λ n. x < n) (sym k.counted) lt)
 
-open_other : (objects : List ObjectTree) (m : ObjectMemory) (x y : ℕ) → (y ≡ x → ⊥) → place_of (opened objects m x) y ≡ place_of m y
-open_other objects m x y h = get_or-set_other m.places x y (Some (length m.blocks)) None h
-
 open_old : (objects : List ObjectTree) (m : ObjectMemory) (x y : ℕ) → IsKept objects m → x < length objects → (y ≡ x) ⊎ (y ≡ x → ⊥) → IsSome (place_of m y)
     → IsSome (place_of (opened objects m x) y)
 open_old objects m x y k lt (inl e) h = subst (λ z. IsSome (place_of (opened objects m x) z)) (sym e) (subst (λ o. IsSome o) (sym (open_here objects m x k lt)) refl)
 open_old objects m x y k lt (inr f) h = subst (λ o. IsSome o) (sym (open_other objects m x y f)) h
-
-pub open_only : (objects : List ObjectTree) (m : ObjectMemory) (x y : ℕ) → (y ≡ x) ⊎ (y ≡ x → ⊥) → IsSome (place_of (opened objects m x) y) → IsSome (place_of m y) ⊎ (y ≡ x)
-open_only objects m x y (inl e) h = inr e
-open_only objects m x y (inr f) h = inl (subst (λ o. IsSome o) (open_other objects m x y f) h)
 
 only_more : (x y : ℕ) (xs : List ℕ) (A : Type 0) → (A ⊎ (y ≡ x)) ⊎ Contains xs y → A ⊎ Contains (x ∷ xs) y
 only_more x y xs A (inl (inl a)) = inl a

@@ -13,9 +13,8 @@ use Rattle.c_syntax.specs.Program.{TFunctionTree, TProgramTree}
 use Rattle.c_layout.specs.Calls.{PlacedCall, function_calls, stmt_calls, IsChain, chain_end}
 use Rattle.c_layout.specs.Plans.{IsPlanFor}
 use Rattle.c_layout.specs.WellTyped.{IsWellTyped, IsAutomaticObject, listed}
+use Rattle.c_lifetimes.proofs.Listed.{by_head, by_sum, first_in, listed_times, none_in, rest_in, times, times_append, times_listed}
 use Rattle.c_typed_runs.specs.Opens.{Use, Object, Function, OpensCall, Leads}
-use Rattle.c_typed_runs.proofs.Lives.{by_sum, by_head, first_in, rest_in, none_in}
-use Rattle.c_typed_runs.proofs.Listing.{times, times_append, listed_times, times_listed}
 
 -- ---- places in a list
 

@@ -16,13 +16,12 @@ use Rattle.c_layout.specs.WellTyped.{IsWellTyped, IsTypedObject, IsTypedFunction
 use Rattle.c_layout.proofs.Alignments.{parts_aligned}
 use Rattle.c_layout.proofs.Mains.{main_first}
 use Rattle.c_layout.proofs.Parts.{inside}
+use Rattle.c_lifetimes.proofs.Listed.{by_sum, distinct, listed_times, part_times, times, times_append, two_times}
 use Rattle.c_typed_runs.specs.Opens.{Use, Object, Function, Lists, OpensStmt, OpensCall, Leads}
 use Rattle.c_typed_runs.proofs.Blocks.{IsSparse, stmt_uses, apart_stmt}
 use Rattle.c_typed_runs.proofs.Calls.{AreCallable}
 use Rattle.c_typed_runs.proofs.Functions.{IsBody}
 use Rattle.c_typed_runs.proofs.Initials.{AreFillable}
-use Rattle.c_typed_runs.proofs.Listing.{times, times_append, listed_times, distinct, part_times, two_times}
-use Rattle.c_typed_runs.proofs.Lives.{by_sum}
 use Rattle.c_typed_runs.proofs.Orders.{some_is, body_of, no_return, lead_here, use_on, listed_at_most_once}
 use Rattle.c_typed_runs.proofs.Sizes.{all_at, are_sized}
 use Rattle.c_typed_runs.proofs.Steps.{IsRunnable}

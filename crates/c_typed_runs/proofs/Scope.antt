@@ -12,6 +12,7 @@ use Rattle.block_mem.specs.declared.types.Value.TheVariants as values
 use Rattle.block_mem.specs.declared.types.Scalar.TheVariants as scalars
 use Rattle.c_values.specs.Places.{ObjectMemory, place_of}
 use Rattle.c_objects.specs.Kept.{IsKept}
+use Rattle.c_lifetimes.proofs.Listed.{none_in}
 use Rattle.c_steps.specs.Work.{Item, Close}
 use Rattle.c_steps.specs.States.{Held, goes, held, with_some}
 use Rattle.c_steps.specs.Expressions.{addr_step}
@@ -20,7 +21,6 @@ use Rattle.c_typed_runs.specs.Surroundings.{Around, in_items, ends_switch, aroun
 use Rattle.c_typed_runs.specs.Takes.{LivesAt, Takes, eval, addr, load, store, named, copy, modify, step_at, un, bin, convert, to_void, move, and_then, or_else, truth_of, pick, choose, keep, sure, drop, enter, leave, reach, does, close, begin, turn, again, select, switch_end, fill, fill_copy, rest, finish}
 use Rattle.c_typed_runs.specs.Opens.{Use, OpensPlace, OpensCall}
 use Rattle.c_typed_runs.specs.Fits.{Closes, Lives, AreLive, IsReady, Parted}
-use Rattle.c_typed_runs.proofs.Lives.{none_in}
 use Rattle.c_typed_runs.proofs.Rules.{On, fit, as_top}
 
 -- what is around names the program, the function's result, and objects that the work will end; those of the innermost block among them

@@ -20,6 +20,8 @@ use Rattle.c_objects.specs.Statics as statics
 use Rattle.c_objects.specs.Statics.{open_statics, opened_statics, with_initial, initial_at, with_initials}
 use Rattle.c_objects.proofs.Keeping.{none_lives}
 use Rattle.c_objects.proofs.Starting.{start_is_kept, start_placed}
+use Rattle.c_lifetimes.proofs.Listed.{by_sum, contains_flat}
+use Rattle.c_lifetimes.proofs.Starts.{start_only}
 use Rattle.c_steps.specs.Work.{Enter, GivesZero, Finish}
 use Rattle.c_steps.specs.Runs.{start, after}
 use Rattle.c_layout.specs.TypedNodes.{object_type}
@@ -28,47 +30,8 @@ use Rattle.c_typed_runs.specs.Takes.{args_on, param_wants, Takes}
 use Rattle.c_typed_runs.specs.Wants.{want_of, bottom}
 use Rattle.c_typed_runs.specs.Opens.{Use, Object, Function, OpensCall}
 use Rattle.c_typed_runs.specs.Fits.{IsReady, Fits, Runs, RunsFit, RunsNeverStand}
-use Rattle.c_typed_runs.proofs.Listing.{contains_flat}
-use Rattle.c_typed_runs.proofs.Lives.{by_sum, open_only, some_not_none}
 use Rattle.c_typed_runs.proofs.Runs.{is_runnable}
 use Rattle.c_typed_runs.proofs.Steps.{steps_keep, fits_goes}
-
--- ---- which objects live at the start
-
--- an object among these, from a number on, that is static
-abbrev IsStaticFrom : List ObjectTree → ℕ → ℕ → Type 0
-IsStaticFrom os x y = (j : ℕ) × (y ≡ x + j) × IsSomeAnd (slice_get os j) (λ o. IsTrue o.is_static)
-
-later : (o : ObjectTree) (os : List ObjectTree) (x y : ℕ) → IsStaticFrom os (suc x) y → IsStaticFrom (o ∷ os) x y
-later o os x y (j, e, h) = (suc j, omega (arith, e), h)
-
-open_if : (objects : List ObjectTree) (o : ObjectTree) (os : List ObjectTree) (x y : ℕ) (m : ObjectMemory) (z : Bool) → o.is_static ≡ z
-    → IsSome (place_of (if z then opened objects m x else m) y) → IsSome (place_of m y) ⊎ IsStaticFrom (o ∷ os) x y
-open_if objects o os x y m true e h = by_sum (open_only objects m x y (cases_eq y x) h) (λ a. inl a) (λ f. inr (0, omega (arith, f), e))
-open_if objects o os x y m false e h = inl h
-
-statics_only : (objects os : List ObjectTree) (x y : ℕ) (m : ObjectMemory) → IsSome (place_of (open_statics objects os x m) y) → IsSome (place_of m y) ⊎ IsStaticFrom os x y
-statics_only objects [] x y m h = inl h
-statics_only objects (o ∷ os) x y m h =
-    by_sum (statics_only objects os (suc x) y (if o.is_static then opened objects m x else m) h)
-    (λ a. open_if objects o os x y m o.is_static refl a) (λ f. inr (later o os x y f))
-
-initial_places : (m : ObjectMemory) (b : Option ℕ) (bytes : List InitByte) → (initial_at m b bytes).places ≡ m.places
-initial_places m None bytes = refl
-initial_places m (Some b) bytes = refl
-
-initials_places : (m : ObjectMemory) (is : List Initial) → (with_initials m is).places ≡ m.places
-initials_places m [] = refl
-initials_places m (i ∷ is) = initials_places (with_initial m i) is ∙ initial_places m (place_of m i.object) i.bytes
-
-static_at : (p : TProgramTree) (y : ℕ) → IsStaticFrom p.objects 0 y → IsStaticObject p y
-static_at p y (j, e, h) = let same : y ≡ j = omega (arith, e) in subst (λ z. IsSomeAnd (slice_get p.objects z) (λ o. IsTrue o.is_static)) (sym same) h
-
-start_only : (p : TProgramTree) (y : ℕ) → IsSome (place_of (statics.start p.objects p.initial) y) → IsStaticObject p y
-start_only p y h =
-    let before = subst (λ (ps : List (Option ℕ)). IsSome (slice_index_or ps y None)) (initials_places (opened_statics p.objects) p.initial) h in
-    by_sum (statics_only p.objects p.objects 0 y (no_objects (length p.objects)) before)
-    (λ a. absurd (some_not_none (place_of (no_objects (length p.objects)) y) (none_lives (length p.objects) y) a)) (λ f. static_at p y f)
 
 -- ---- what main uses
 
@@ -137,7 +100,7 @@ module _ (p : TProgramTree) (plan : Plan) (runs : Runs p plan) where
         takes = main_takes main;
         stacked = bottom;
         parted = (main_uses, tt, ((λ u o. absurd o), tt, tt));
-        live = ((λ y o. start_placed p runs.typed runs.bits y (by_sum o (λ s. s) (λ c. absurd c))), (λ y h. inl (start_only p y h)));
+        live = ((λ y o. start_placed p runs.typed runs.bits y (by_sum o (λ s. s) (λ c. absurd c))), (λ y h. inl (start_only p.objects p.initial y h)));
         kept = start_is_kept p runs.typed runs.bits runs.whole;
       }
 

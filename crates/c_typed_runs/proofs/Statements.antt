@@ -21,6 +21,7 @@ use Rattle.c_values.specs.Places.{ObjectMemory, place_of}
 use Rattle.c_objects.specs.Kept.{IsKept}
 use Rattle.c_objects.specs.Opening.{open_all}
 use Rattle.c_objects.specs.Writing.{rest}
+use Rattle.c_lifetimes.proofs.Listed.{by_sum}
 use Rattle.c_steps.specs.Work.{Item, Loop, Do, Close, Again, SwitchEnd, Begin, Turn}
 use Rattle.c_steps.specs.States.{Held, Plain, goes, held}
 use Rattle.c_steps.specs.Marks.{Mark, behind, does}
@@ -35,7 +36,7 @@ use Rattle.c_typed_runs.specs.Fits.{AreLive, IsReady, Parted}
 use Rattle.c_typed_runs.proofs.Accesses.{bit_typed, test_after}
 use Rattle.c_typed_runs.proofs.Initials.{AreFillable, declare_row}
 use Rattle.c_typed_runs.proofs.Jumps.{EndsReady, block_ready, level_not_end, after_break, after_continue, after_goto}
-use Rattle.c_typed_runs.proofs.Lives.{by_sum, Free, no_some, all_opened, live_opened}
+use Rattle.c_typed_runs.proofs.Lives.{Free, no_some, all_opened, live_opened}
 use Rattle.c_typed_runs.proofs.Rows.{Is, scalar_is, want_is, same_want}
 use Rattle.c_typed_runs.proofs.Rules.{On, fit, as_top, stacked_more}
 use Rattle.c_typed_runs.proofs.Scope.{scoped}

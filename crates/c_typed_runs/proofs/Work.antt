@@ -10,6 +10,7 @@ use Rattle.c_syntax.specs.Program.{TProgramTree}
 use Rattle.c_layout.specs.Jumps.{labels_among, GotosStay}
 use Rattle.c_layout.specs.TypedNodes.{IsTypedStmt}
 use Rattle.c_values.specs.Places.{ObjectMemory}
+use Rattle.c_lifetimes.proofs.Listed.{by_sum, one_is}
 use Rattle.c_steps.specs.Work.{Item, Do}
 use Rattle.c_steps.specs.Marks.{Mark, AtLabel, is_mark, does_nothing, has, behind, does}
 use Rattle.c_typed_runs.specs.Wants.{Want}
@@ -18,7 +19,6 @@ use Rattle.c_typed_runs.specs.Takes as rules
 use Rattle.c_typed_runs.specs.Takes.{IsLevel, at_do, Takes}
 use Rattle.c_typed_runs.specs.Opens.{Use, Object, Function, OpensStmt, OpensItems, Apart, ApartItems}
 use Rattle.c_typed_runs.specs.Fits.{Closes, Lives, AreLive, IsReady, Parted}
-use Rattle.c_typed_runs.proofs.Lives.{by_sum, one_is}
 
 -- ---- items in front
 

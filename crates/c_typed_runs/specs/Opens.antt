@@ -9,6 +9,7 @@ use Rattle.c_syntax.specs.Program.{TProgramTree}
 use Rattle.c_layout.specs.Calls.{PlacedCall, IsChain, chain_end}
 use Rattle.c_layout.specs.WellTyped.{listed_by}
 use Rattle.c_steps.specs.Work.{Item, Loop, Eval, Addr, AndThen, OrElse, Pick, Choose, Enter, Do, Close, Begin, Turn, Again, Select}
+use Rattle.c_lifetimes.specs.Lifetimes.{AreDistinct}
 
 -- an object that is brought to life, or a function that is called
 pub data Use : Type 0 where
@@ -80,11 +81,6 @@ abbrev mutual
   pub OpensItems : (ℕ → Use → Type 0) → TStmtTrees → Use → Type 0
   OpensItems of none y = ⊥
   OpensItems of (more statement rest) y = OpensStmt of statement y ⊎ OpensItems of rest y
-
--- no two are one
-abbrev pub AreDistinct : List ℕ → Type 0
-AreDistinct [] = Unit {0}
-AreDistinct (x ∷ xs) = (Contains xs x → ⊥) × AreDistinct xs
 
 -- a block lists no object twice, and what stands in it opens none of those that it lists
 abbrev pub Misses : List ℕ → (Use → Type 0) → Type 0

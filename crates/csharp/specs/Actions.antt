@@ -18,7 +18,7 @@ use Rattle.csharp.specs.States.{State, value_of, on_both}
 abbrev pub put : State → ℕ → Value → State
 put s d v = record s { temps = slice_set s.temps d v }
 
-abbrev with_memory : State → Option ObjectMemory → Option State
+abbrev pub with_memory : State → Option ObjectMemory → Option State
 with_memory s m = option_map (λ memory. record s { memory = memory }) m
 
 abbrev pub set : ℕ → CsExprTree → State → Option State
@@ -53,7 +53,7 @@ enter objects xs s = record s { memory = open_all objects s.memory xs }
 abbrev pub leave : List ℕ → State → State
 leave xs s = record s { memory = shut_all s.memory xs }
 
-abbrev is_among : ℕ → List ℕ → Bool
+abbrev pub is_among : ℕ → List ℕ → Bool
 is_among x [] = false
 is_among x (y ∷ ys) = if x == y then true else is_among x ys
 

@@ -23,7 +23,7 @@ use Rattle.csharp.specs.Trees.{CsStmtTrees, none, more, CsFunctionTree, CsProgra
 
 -- ---- what stands in a statement, and around it
 
-abbrev opt_list : {A : Type 0} → Option A → List A
+abbrev pub opt_list : {A : Type 0} → Option A → List A
 opt_list None = []
 opt_list (Some a) = a ∷ []
 
@@ -110,7 +110,7 @@ abbrev mutual
   gathered_in of none = []
   gathered_in of (more item rest) = gathered of item ++ gathered_in of rest
 
-abbrev label_of : CsStmtTree → List ℕ
+abbrev pub label_of : CsStmtTree → List ℕ
 label_of (Label at l) = l ∷ []
 label_of a = []
 

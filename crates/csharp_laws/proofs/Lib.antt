@@ -1,0 +1,6 @@
+mod Lists
+mod Objects
+mod Stays
+mod Clash
+mod Separated
+mod Enough

@@ -1,0 +1,3 @@
+pub mod LeftAlone
+pub mod Separate
+pub mod Enough
