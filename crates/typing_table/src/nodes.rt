@@ -1,0 +1,142 @@
+// Words that make a node of the operands before them.
+#![tactic(auto)]
+
+use crate::letters::form_of;
+use crate::rows::{AT, Fault, Stack};
+use crate::spelled;
+use c_syntax::{CType, IntType, StepTime, StepWay, TExprs};
+use c_type_changes::{assigned, compound, stepped};
+use c_type_conversions::{Operand, operand_type};
+use c_type_members::{arrow, member};
+use c_type_names::World;
+use c_type_nodes::{binary, cast, conditional, indexed, sequenced, size_of, tested, unary};
+use c_type_words::{input_read, told};
+
+/// The node of a word.
+pub fn node(stack: &mut Stack, word: &str) -> Result<Operand, Fault> {
+    if let Some(op) = spelled::unary(word) {
+        let operand = stack.popped()?;
+        Ok(unary(stack.alloc, &stack.structs, AT, op, operand)?)
+    } else if let Some(op) = spelled::binary(word) {
+        let right = stack.value()?;
+        let left = stack.value()?;
+        Ok(binary(stack.alloc, &stack.structs, AT, op, left, right)?)
+    } else if let Some(op) = spelled::compound(word) {
+        let right = stack.value()?;
+        let left = stack.popped()?;
+        Ok(compound(stack.alloc, &stack.structs, AT, op, left, right)?)
+    } else {
+        other(stack, word)
+    }
+}
+
+fn other(stack: &mut Stack, word: &str) -> Result<Operand, Fault> {
+    match word {
+        "val" => Ok(Operand::Value(stack.value()?)),
+        "," => {
+            let right = stack.value()?;
+            let left = stack.value()?;
+            Ok(sequenced(stack.alloc, AT, left, right)?)
+        }
+        "[]" => {
+            let index = stack.value()?;
+            let base = stack.value()?;
+            Ok(indexed(stack.alloc, &stack.structs, AT, base, index)?)
+        }
+        "=" => {
+            let value = stack.value()?;
+            let place = stack.popped()?;
+            Ok(assigned(stack.alloc, &stack.structs, AT, place, value)?)
+        }
+        "?:" => choice(stack),
+        "test" => condition(stack),
+        "++x" => step(stack, StepTime::Before, StepWay::Up),
+        "x++" => step(stack, StepTime::After, StepWay::Up),
+        "--x" => step(stack, StepTime::Before, StepWay::Down),
+        "x--" => step(stack, StepTime::After, StepWay::Down),
+        "sizeof" => size(stack),
+        _ => named(stack, word),
+    }
+}
+
+fn choice(stack: &mut Stack) -> Result<Operand, Fault> {
+    let otherwise = stack.value()?;
+    let then = stack.value()?;
+    let test = stack.value()?;
+    Ok(conditional(stack.alloc, &stack.structs, AT, test, then, otherwise)?)
+}
+
+fn condition(stack: &mut Stack) -> Result<Operand, Fault> {
+    let value = stack.value()?;
+    let test = tested(stack.alloc, &stack.structs, AT, value)?;
+    Ok(Operand::Value(test))
+}
+
+fn step(stack: &mut Stack, time: StepTime, way: StepWay) -> Result<Operand, Fault> {
+    let operand = stack.popped()?;
+    Ok(stepped(stack.alloc, &stack.structs, AT, time, way, operand)?)
+}
+
+fn size(stack: &mut Stack) -> Result<Operand, Fault> {
+    let operand = stack.popped()?;
+    let ty = operand_type(&operand)?;
+    Ok(size_of(stack.alloc, &stack.structs, AT, ty)?)
+}
+
+// Words that have a name or a type in them.
+fn named(stack: &mut Stack, word: &str) -> Result<Operand, Fault> {
+    if let Some(name) = word.strip_prefix("->") {
+        let pointer = stack.value()?;
+        Ok(arrow(stack.alloc, &stack.structs, AT, name.as_bytes(), pointer)?)
+    } else if let Some(name) = word.strip_prefix(".") {
+        let operand = stack.popped()?;
+        Ok(member(stack.alloc, &stack.structs, AT, name.as_bytes(), operand)?)
+    } else if let Some(letters) = word.strip_prefix("(") {
+        converted(stack, letters)
+    } else if let Some(count) = word.strip_prefix("assume/") {
+        assumption(stack, count)
+    } else if let Some(count) = word.strip_prefix("any/") {
+        input(stack, count)
+    } else {
+        Err(Fault::NoRow)
+    }
+}
+
+fn converted(stack: &mut Stack, letters: &str) -> Result<Operand, Fault> {
+    let Some(letters) = letters.strip_suffix(")") else {
+        return Err(Fault::NoRow);
+    };
+    let Some((target, _)) = form_of(stack.alloc, letters)? else {
+        return Err(Fault::NoRow);
+    };
+    to_type(stack, target)
+}
+
+fn to_type(stack: &mut Stack, target: CType) -> Result<Operand, Fault> {
+    let value = stack.value()?;
+    Ok(cast(stack.alloc, &stack.structs, AT, target, value)?)
+}
+
+fn assumption(stack: &mut Stack, count: &str) -> Result<Operand, Fault> {
+    let args = arguments(stack, count)?;
+    let world = World::new(stack.alloc);
+    Ok(told(&world, AT, true, args)?)
+}
+
+fn input(stack: &mut Stack, count: &str) -> Result<Operand, Fault> {
+    let args = arguments(stack, count)?;
+    let world = World::new(stack.alloc);
+    Ok(input_read(&world, AT, IntType::Int, &args)?)
+}
+
+// The last values; the order of arguments does not matter here.
+fn arguments(stack: &mut Stack, count: &str) -> Result<TExprs, Fault> {
+    let Ok(count) = count.parse::<u64>() else {
+        return Err(Fault::NoRow);
+    };
+    let mut args = Vec::new(stack.alloc);
+    for _ in 0..count {
+        args.push(stack.value()?)?;
+    }
+    Ok(TExprs::from_vec(args))
+}

@@ -1,0 +1,111 @@
+// The operand that the words of a row make.
+#![tactic(auto)]
+
+use crate::letters::{form_of, structs};
+use crate::nodes::node;
+use c_syntax::{CType, IntType, Pos, StructDefs, TExpr, TLvalue};
+use c_type_conversions::{Operand, value_of};
+use c_type_errors::TypeError;
+use std::alloc::{AllocError, AllocFailed, Global};
+
+/// Why a row has no operand at its end.
+#[derive(Drop)]
+pub enum Fault {
+    /// Its words are none of the notation.
+    NoRow,
+    /// It is refused.
+    Refused(TypeError),
+    NoMemory,
+}
+
+impl From<AllocError> for Fault {
+    fn from(_error: AllocError) -> Fault {
+        Fault::NoMemory
+    }
+}
+
+impl<T: Drop> From<AllocFailed<T>> for Fault {
+    fn from(_error: AllocFailed<T>) -> Fault {
+        Fault::NoMemory
+    }
+}
+
+impl From<TypeError> for Fault {
+    fn from(error: TypeError) -> Fault {
+        Fault::Refused(error)
+    }
+}
+
+/// The structs, and the operands so far.
+#[derive(Drop)]
+pub struct Stack {
+    pub alloc: Global,
+    pub structs: StructDefs,
+    operands: Vec<Operand>,
+}
+
+/// Every node of a row stands here.
+pub const AT: Pos = Pos {
+    file: 0,
+    line: 1,
+    col: 1,
+};
+
+/// What a row comes to.
+pub fn operand(alloc: Global, row: &str) -> Result<Operand, Fault> {
+    let mut stack = Stack {
+        alloc,
+        structs: structs(alloc)?,
+        operands: Vec::new(alloc),
+    };
+    for word in row.split_whitespace() {
+        let operand = match leaf(alloc, word)? {
+            Some(operand) => operand,
+            None => node(&mut stack, word)?,
+        };
+        stack.operands.push(operand)?;
+    }
+    stack.popped()
+}
+
+fn leaf(alloc: Global, word: &str) -> Result<Option<Operand>, Fault> {
+    if let Ok(value) = word.parse::<i32>() {
+        return Ok(Some(Operand::Value(TExpr::Const {
+            pos: AT,
+            ty: IntType::Int,
+            value: i128::from(value),
+        })));
+    }
+    let Some(letters) = word.strip_prefix("@") else {
+        return Ok(None);
+    };
+    let Some((ty, is_const)) = form_of(alloc, letters)? else {
+        return Err(Fault::NoRow);
+    };
+    Ok(Some(place(ty, is_const)))
+}
+
+fn place(ty: CType, is_const: bool) -> Operand {
+    Operand::Place(TLvalue::Var {
+        pos: AT,
+        object: 0,
+        ty,
+        is_const,
+    })
+}
+
+impl Stack {
+    /// The last operand.
+    pub fn popped(&mut self) -> Result<Operand, Fault> {
+        match self.operands.pop() {
+            Some(operand) => Ok(operand),
+            None => Err(Fault::NoRow),
+        }
+    }
+
+    /// The value of the last operand.
+    pub fn value(&mut self) -> Result<TExpr, Fault> {
+        let operand = self.popped()?;
+        Ok(value_of(self.alloc, operand)?)
+    }
+}
