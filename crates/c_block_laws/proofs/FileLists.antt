@@ -92,8 +92,8 @@ after_grows {names} {w} {v} at g = record {
 no_name :
     {around : Context} {w v : World} {storage : List StorageWord} {steps : List Step} {base : Form} {has_init : Bool} {named : DeclaredName} {what : Declares}
     → around.in_block ≡ false → MakesName around w storage steps base has_init named what v → number_of what ≡ []
-no_name b (type_name form e) = refl
-no_name b reserved = refl
+no_name b (type_name form d e) = refl
+no_name b (reserved y) = refl
 no_name b (first_function types result r e n) = refl
 no_name b (function_again types result l n so) = refl
 no_name b (local ty c s size inside e h) = absurd (false≢true (sym b ∙ inside))
@@ -152,7 +152,7 @@ pub record IsThere (named : DeclaredName) (v : World) (n : ℕ) : Type 0 where
   pub bare : function.body ≡ None
   pub params : function.params ≡ []
 
-found_name : (xs : List Linked) (name : List ℕ) (l : Linked) → find (λ k. bytes_eq k.name name) xs ≡ Some l → l.name ≡ name
+pub found_name : (xs : List Linked) (name : List ℕ) (l : Linked) → find (λ k. bytes_eq k.name name) xs ≡ Some l → l.name ≡ name
 found_name [] name l e = no_some l e
 found_name (x ∷ xs) name l e = by (bytes_eq x.name name) refl e (found_name xs name l)
   where

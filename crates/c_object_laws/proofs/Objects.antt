@@ -298,8 +298,8 @@ again_in w ty c has_init form how measured l n size x may m so file e i =
 name_in :
     {around : Context} {w v : World} {storage : List StorageWord} {steps : List Step} {base : Form} {has_init : Bool} {named : DeclaredName} {what : Declares}
     → AreFormedSteps w.structs steps → IsFormedForm w.structs base → AreScalarSteps steps → IsScalarForm base → MakesName around w storage steps base has_init named what v → ObjectsIn w → ObjectsIn v
-name_in {w = w} {v = v} s f t b (type_name form e) all = in_same w v refl refl all
-name_in s f t b reserved all = all
+name_in {w = w} {v = v} s f t b (type_name form d e) all = in_same w v refl refl all
+name_in s f t b (reserved y) all = all
 name_in {around = around} {w = w} {steps = steps} {base = base} {named = named} s f t b (first_function types result r e n) all =
     let formed : IsFormedForm w.structs (Callable types result) = laid_formed w named steps base (Callable types result) s f e in
     let scalar : IsScalarForm (Callable types result) = laid_is_scalar w named steps base (Callable types result) s f t b e in
@@ -408,6 +408,6 @@ init_in {w = w} good is (given {u = u} {v = v} {object = object} {init = init} {
 pub objects_kept : (functions objects : List (List ℕ)) → IsKept functions objects ObjectsIn
 objects_kept functions objects = record {
   calm = in_calm;
-  declared = λ around w v x storage steps base has_init named what init made f o good s b t z n good2 is m all. init_in good2 is m (name_in s b t z n all);
+  declared = λ around w v x storage steps base has_init named what init made f o h good s b t z n good2 is m all. init_in good2 is m (name_in s b t z n all);
   moved = λ w v same all. in_same w v same.structs same.objects all;
 }

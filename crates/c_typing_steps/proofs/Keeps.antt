@@ -53,7 +53,7 @@ pub record IsKept (functions objects : List (List ℕ)) (P : World → Type 0) :
   pub calm : (w v : World) → Good w → Reaches Constants w v → P w → P v
   pub declared :
       (around : Context) (w v x : World) (storage : List StorageWord) (steps : List Step) (base : Form) (has_init : Bool) (named : DeclaredName) (what : Declares) (init : Option InitTree) (made : Made)
-      → around.functions ≡ functions → around.objects ≡ objects → Good w → AreFormedSteps w.structs steps → IsFormedForm w.structs base → AreScalarSteps steps → IsScalarForm base
+      → around.functions ≡ functions → around.objects ≡ objects → has_init ≡ is_some init → Good w → AreFormedSteps w.structs steps → IsFormedForm w.structs base → AreScalarSteps steps → IsScalarForm base
       → MakesName around w storage steps base has_init named what v → Good v → WhatIn what v → MakesInit v what init made x → P w → P x
   pub moved : (w v : World) → HasSame w v → P w → P v
 
@@ -69,9 +69,9 @@ known_scalar w types result (Enumeration n) e = tt
 name_scalar :
     {around : Context} {w v : World} {storage : List StorageWord} {steps : List Step} {base : Form} {has_init : Bool} {named : DeclaredName} {what : Declares}
     → AreFormedSteps w.structs steps → IsFormedForm w.structs base → AreScalarSteps steps → IsScalarForm base → MakesName around w storage steps base has_init named what v → ScalarNames w → ScalarNames v
-name_scalar {w = w} {steps = steps} {base = base} {named = named} s f t b (type_name form e) all =
+name_scalar {w = w} {steps = steps} {base = base} {named = named} s f t b (type_name form d e) all =
     All-push (λ x. IsScalarMeaning x.meaning) w.names _ all (typed_from (subst (λ z. TypedAs (λ y v. IsScalarForm y) z) e (laid_scalar w named.pos steps base s f t b)))
-name_scalar s f t b reserved all = all
+name_scalar s f t b (reserved y) all = all
 name_scalar {around = around} {w = w} {steps = steps} {named = named} s f t b (first_function types result r e n) all = by (has_name around.functions named.name)
   where
     by : (later : Bool) → ScalarNames (new_function w named later (parameters_of steps types named.pos) types result)
@@ -114,7 +114,7 @@ declarators_keep {around = around} {storage = storage} {base = base} k f o good 
     let names = name_scalar facts.steps facts.formed steps scalar n (scalar_calm w u facts.calm p.names) in
     declarators_keep k f o facts.last facts.last_formed scalar r (record {
       names = init_scalar facts.declared m names;
-      has = k.declared around u v x storage shape.steps base (is_some item.init) named what item.init made f o facts.good facts.steps facts.formed steps scalar n facts.declared facts.what_in m
+      has = k.declared around u v x storage shape.steps base (is_some item.init) named what item.init made f o refl facts.good facts.steps facts.formed steps scalar n facts.declared facts.what_in m
           (k.calm w u good facts.calm p.has);
     })
 
