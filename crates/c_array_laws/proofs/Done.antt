@@ -132,7 +132,7 @@ init_done {w = w} names good (given {u = u} {v = v} {object = object} {init = in
 pub done_kept : (names functions objects : List (List ℕ)) → IsKept functions objects (AreDone names)
 done_kept names functions objects = record {
   calm = λ w v good r all. calm_done names w v r all;
-  declared = λ around w v x storage steps base has_init named what init made f o h good s b t z n good2 is m all. init_done names good2 m (name_done names n all);
+  declared = λ around w v x storage steps base has_init named what init made f o h good s b t z n good2 is m r q all. init_done names good2 m (name_done names n all);
   moved = λ w v same all. are_same names w v same.linked all;
 }
 

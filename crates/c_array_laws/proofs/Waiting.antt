@@ -326,7 +326,7 @@ init_wait m good is (given {v = v} {object = object} {init = init} {by = by} {ty
 pub wait_kept : (functions objects : List (List ℕ)) → IsKept functions objects (ArraysWait objects)
 wait_kept functions objects = record {
   calm = λ w v good r all. wait_calm w v r all;
-  declared = λ around w v x storage steps base has_init named what init made f o h good s b t z n good2 is m all.
+  declared = λ around w v x storage steps base has_init named what init made f o h good s b t z n good2 is m r q all.
       let inside : ArraysWait around.objects w = subst (λ names. ArraysWait names w) (sym o) all in
       subst (λ names. ArraysWait names x) o (init_wait (λ e. sym h ∙ name_measured n e) good2 is m (name_wait s b t z n inside));
   moved = λ w v same all. wait_same w v same.objects same.linked all;

@@ -133,7 +133,7 @@ set_lists (x ∷ xs) (suc n) f g o e =
     omega (arith, a, b, c)
 
 -- the function of this number
-changed_at : (fs : List TFunctionTree) (n : ℕ) (f : TFunctionTree) (change : TFunctionTree → TFunctionTree) → slice_get fs n ≡ Some f
+pub changed_at : (fs : List TFunctionTree) (n : ℕ) (f : TFunctionTree) (change : TFunctionTree → TFunctionTree) → slice_get fs n ≡ Some f
     → unwrap_or (option_map (λ g. set fs n (change g)) (slice_get fs n)) fs ≡ set fs n (change f)
 changed_at fs n f change e = ap (λ o. unwrap_or (option_map (λ g. set fs n (change g)) o) fs) e
 
@@ -245,13 +245,13 @@ head_is {around = around} {w = w} {named = named} {types = types} {result = resu
 
 -- ---- the body of a definition, and its end
 
-below : (xs : List TFunctionTree) (n : ℕ) (f : TFunctionTree) → slice_get xs n ≡ Some f → n < length xs
+pub below : (xs : List TFunctionTree) (n : ℕ) (f : TFunctionTree) → slice_get xs n ≡ Some f → n < length xs
 below [] n f e = no_some f e
 below (x ∷ xs) zero f e = omega arith
 below (x ∷ xs) (suc n) f e = let h = below xs n f e in omega arith
 
 -- the functions behind the body: the one changed, and others behind
-ended_functions :
+pub ended_functions :
     (fs new : List TFunctionTree) (n : ℕ) (f g : TFunctionTree) (change : TFunctionTree → TFunctionTree) → slice_get fs n ≡ Some f
     → unwrap_or (option_map (λ x. set (set fs n g ++ new) n (change x)) (slice_get (set fs n g ++ new) n)) (set fs n g ++ new) ≡ set fs n (change g) ++ new
 ended_functions fs new n f g change e =
@@ -373,7 +373,7 @@ definition_at {around} {x} {y} {z} {steps} {base} {named} {begun} {body} {made} 
 
 -- ---- the file
 
-outer_at :
+pub outer_at :
     {w v : World} {around : Context} {tree : OuterTree} → around.in_block ≡ false → All (λ name. has_name around.functions name ≡ true) (functions_defined_by tree) → Good w → ScalarNames w
     → AtFile around.functions w → IsLinking w → MakesOuter w around tree v → EndsSo around.functions v
 outer_at {around = around} b covers good scalar at all (outers.declares d) =

@@ -131,6 +131,6 @@ init_linked {w = w} good (given {u = u} {v = v} {object = object} {init = init} 
 pub linking_kept : (functions objects : List (List ℕ)) → IsKept functions objects IsLinking
 linking_kept functions objects = record {
   calm = λ w v good r all. calm_linked w v r all;
-  declared = λ around w v x storage steps base has_init named what init made f o h good s b t z n good2 is m all. init_linked good2 m (name_linked n all);
+  declared = λ around w v x storage steps base has_init named what init made f o h good s b t z n good2 is m r q all. init_linked good2 m (name_linked n all);
   moved = λ w v same all. same_linked w v same.functions same.linked all;
 }

@@ -268,6 +268,6 @@ init_in {w = w} good is (given {u = u} {v = v} {object = object} {init = init} {
 pub functions_kept : (functions objects : List (List ℕ)) → IsKept functions objects AreIn
 functions_kept functions objects = record {
   calm = in_calm;
-  declared = λ around w v x storage steps base has_init named what init made f o h good s b t z n good2 is m all. init_in good2 is m (name_in s b t z n all);
+  declared = λ around w v x storage steps base has_init named what init made f o h good s b t z n good2 is m r q all. init_in good2 is m (name_in s b t z n all);
   moved = λ w v same all. in_same w v same.structs same.objects same.functions all;
 }

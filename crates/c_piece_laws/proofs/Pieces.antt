@@ -288,6 +288,6 @@ init_in {w = w} good (given {u = u} {v = v} {object = now} {init = init} {by = b
 pub bytes_kept : (functions objects : List (List ℕ)) → IsKept functions objects AreBytes
 bytes_kept functions objects = record {
   calm = λ w v good r all. in_calm w v r all;
-  declared = λ around w v x storage steps base has_init named what init made f o h good s b t z n good2 is m all. init_in good2 m (name_in n all);
+  declared = λ around w v x storage steps base has_init named what init made f o h good s b t z n good2 is m r q all. init_in good2 m (name_in n all);
   moved = λ w v same all. in_same w v same.objects same.initial all;
 }

@@ -28,7 +28,7 @@ use Rattle.c_typing_steps.proofs.Keeps.{IsKept, decl_keeps, items_keep}
 pub nothing_kept : (functions objects : List (List ℕ)) → IsKept functions objects (λ w. Unit {0})
 nothing_kept functions objects = record {
   calm = λ w v good r p. tt;
-  declared = λ around w v x storage steps base has_init named what init made f o h good s b t z n good2 is m p. tt;
+  declared = λ around w v x storage steps base has_init named what init made f o h good s b t z n good2 is m r q p. tt;
   moved = λ w v same p. tt;
 }
 

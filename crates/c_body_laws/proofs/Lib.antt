@@ -1,0 +1,10 @@
+pub mod Onward
+pub mod Ends
+pub mod Entities
+pub mod States
+pub mod Usable
+pub mod Heads
+pub mod Cases
+pub mod Declared
+pub mod Declarations
+pub mod Statements

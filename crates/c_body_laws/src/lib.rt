@@ -1,0 +1,4 @@
+//! Bodies.
+#![tactic(auto)]
+
+ghost use Rattle.c_body_laws.specs.BodyLaws.{BodiesAreTyped};
