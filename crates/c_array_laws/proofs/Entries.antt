@@ -89,7 +89,7 @@ get_last_or (z ∷ xs) y zero x e = inl e
 get_last_or (z ∷ xs) y (suc k) x e = ⊎_elim (λ a. inl a) (λ b. let n = b.0 in inr (omega (arith, n), b.1)) (get_last_or xs y k x e)
 
 -- the one that is set, or another
-set_or : {A : Type 0} (xs : List A) (n : ℕ) (y : A) (k : ℕ) (x : A) → slice_get (set xs n y) k ≡ Some x → ((k ≡ n) × (x ≡ y)) ⊎ ((slice_get xs k ≡ Some x) × (k ≡ n → ⊥))
+pub set_or : {A : Type 0} (xs : List A) (n : ℕ) (y : A) (k : ℕ) (x : A) → slice_get (set xs n y) k ≡ Some x → ((k ≡ n) × (x ≡ y)) ⊎ ((slice_get xs k ≡ Some x) × (k ≡ n → ⊥))
 set_or [] n y k x e = absurd (none-some x e)
 set_or (z ∷ xs) zero y zero x e = inl (refl, sym (same_Some y x e))
 set_or (z ∷ xs) zero y (suc k) x e = inr (e, λ h. absurd (omega (arith, h)))

@@ -103,7 +103,7 @@ no_name b (first_missing ty c total r n h) = refl
 no_name b (object_again form ty c m l n size total e is k q a s) = ap (λ x. if x then [] else []) b
 no_name b (missing_again ty before c l size total d k q) = refl
 
-nothing_listed :
+pub nothing_listed :
     {around : Context} {first : Pos} {storage : List StorageWord} {base : Form} {w v : World} {done made : Made} {items : List InitDeclaratorTree}
     → around.in_block ≡ false → done.objects ≡ [] → MakesDeclarators around first storage base w done items made v → made.objects ≡ []
 nothing_listed b d steps.none = d

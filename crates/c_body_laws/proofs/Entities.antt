@@ -61,13 +61,13 @@ entity_onward w v on (Enumeration n) h = h
 links_onward : (w v : World) → Onward w v → (linked : List Linked) → All (λ l. IsEntity w l.meaning) linked → All (λ l. IsEntity v l.meaning) linked
 links_onward w v on linked all = All-weaker (λ l. IsEntity w l.meaning) (λ l. IsEntity v l.meaning) (λ l h. entity_onward w v on l.meaning h) linked all
 
-same_links : (w v : World) → Onward w v → v.linked ≡ w.linked → AreEntities w → AreEntities v
+pub same_links : (w v : World) → Onward w v → v.linked ≡ w.linked → AreEntities w → AreEntities v
 same_links w v on e all = subst (All (λ l. IsEntity v l.meaning)) (sym e) (links_onward w v on w.linked all)
 
 more_links : (w v : World) (l : Linked) → Onward w v → IsEntity v l.meaning → AreEntities w → All (λ k. IsEntity v k.meaning) (w.linked ++ l ∷ [])
 more_links w v l on h all = All-push (λ k. IsEntity v k.meaning) w.linked l (links_onward w v on w.linked all) h
 
-new_links : (w : World) (named : DeclaredName) (later : Bool) (params : List ParameterTree) (types : List CTypeTree) (result : CTypeTree) → Onward w (new_function w named later params types result) → AreEntities w
+pub new_links : (w : World) (named : DeclaredName) (later : Bool) (params : List ParameterTree) (types : List CTypeTree) (result : CTypeTree) → Onward w (new_function w named later params types result) → AreEntities w
     → AreEntities (new_function w named later params types result)
 new_links w named true params types result on all = more_links w (new_function w named true params types result) _ on (ap is_some (get_last w.functions _)) all
 new_links w named false params types result on all = more_links w (new_function w named false params types result) _ on (ap is_some (get_last w.functions _)) all
@@ -118,7 +118,7 @@ size_linked : {w v : World} {object : ObjectNow} {by : Initialised} {ty : CTypeT
 size_linked (as_it_was m) = refl
 size_linked (by_count m c t) = refl
 
-init_linked : {w v : World} {what : Declares} {init : Option InitTree} {made : Made} → Good w → MakesInit w what init made v → v.linked ≡ w.linked
+pub init_linked : {w v : World} {what : Declares} {init : Option InitTree} {made : Made} → Good w → MakesInit w what init made v → v.linked ≡ w.linked
 init_linked good no_object = refl
 init_linked good bare = refl
 init_linked {w = w} good (given {u = u} {v = v} {object = object} {init = init} {by = by} {ty = ty} t s) =

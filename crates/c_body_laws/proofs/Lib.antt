@@ -8,3 +8,7 @@ pub mod Cases
 pub mod Declared
 pub mod Declarations
 pub mod Statements
+pub mod ParamNames
+pub mod Signatures
+pub mod FileSigned
+pub mod FileEnds

@@ -19,10 +19,10 @@ use Rattle.c_typing.proofs.Reaches.{Reaches, stays, after, named, literal, struc
 abbrev Keep : {A : Type 0} → (A → A → Type 0) → List A → List A → Type 0
 Keep {A} R xs ys = (k : ℕ) (x : A) → slice_get xs k ≡ Some x → (y : A) × (slice_get ys k ≡ Some y) × R x y
 
-keep_same : {A : Type 0} (R : A → A → Type 0) → ((x : A) → R x x) → (xs ys : List A) → ys ≡ xs → Keep R xs ys
+pub keep_same : {A : Type 0} (R : A → A → Type 0) → ((x : A) → R x x) → (xs ys : List A) → ys ≡ xs → Keep R xs ys
 keep_same R r xs ys e k x q = (x, ap (λ l. slice_get l k) e ∙ q, r x)
 
-keep_more : {A : Type 0} (R : A → A → Type 0) → ((x : A) → R x x) → (xs ys more : List A) → ys ≡ xs ++ more → Keep R xs ys
+pub keep_more : {A : Type 0} (R : A → A → Type 0) → ((x : A) → R x x) → (xs ys more : List A) → ys ≡ xs ++ more → Keep R xs ys
 keep_more R r xs ys more e k x q = (x, ap (λ l. slice_get l k) e ∙ get_append xs more k x q, r x)
 
 keep_then : {A : Type 0} (R : A → A → Type 0) → ((x y z : A) → R x y → R y z → R x z) → (xs ys zs : List A) → Keep R xs ys → Keep R ys zs → Keep R xs zs
@@ -35,7 +35,7 @@ keep_set R r (a ∷ xs) zero y z e s (suc k) x q = (x, q, r x)
 keep_set R r (a ∷ xs) (suc n) y z e s zero x q = (x, q, r x)
 keep_set R r (a ∷ xs) (suc n) y z e s (suc k) x q = keep_set R r xs n y z e s k x q
 
-keep_change :
+pub keep_change :
     {A : Type 0} (R : A → A → Type 0) → ((x : A) → R x x) → (xs : List A) (n : ℕ) (change : A → A) → ((y : A) → slice_get xs n ≡ Some y → R y (change y)) → (o : Option A) → slice_get xs n ≡ o
     → Keep R xs (unwrap_or (option_map (λ y. set xs n (change y)) o) xs)
 keep_change R r xs n change s None e = keep_same R r xs xs refl
@@ -43,7 +43,7 @@ keep_change R r xs n change s (Some y) e = keep_set R r xs n y (change y) e (s y
 
 -- ---- objects and functions
 
-same_object : (x : ObjectTree) → IsSameObject x x
+pub same_object : (x : ObjectTree) → IsSameObject x x
 same_object x = record { name = refl; pos = refl; ty = same x.ty; read_only = refl; is_static = refl }
 
 pub last_then : {s t u : CTypeTree} → IsLastType s t → IsLastType t u → IsLastType s u
@@ -54,7 +54,7 @@ last_then (sized of c zero) (sized _ _ m) = sized of c m
 object_then : (x y z : ObjectTree) → IsSameObject x y → IsSameObject y z → IsSameObject x z
 object_then x y z a b = record { name = a.name ∙ b.name; pos = a.pos ∙ b.pos; ty = last_then a.ty b.ty; read_only = a.read_only ∙ b.read_only; is_static = a.is_static ∙ b.is_static }
 
-same_function : (f : TFunctionTree) → IsSameFunction f f
+pub same_function : (f : TFunctionTree) → IsSameFunction f f
 same_function f = record { name = refl; result = refl }
 
 function_then : (f g h : TFunctionTree) → IsSameFunction f g → IsSameFunction g h → IsSameFunction f h

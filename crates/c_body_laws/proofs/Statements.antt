@@ -115,7 +115,7 @@ ends_reached {u} {v} scope s r ends = ends_onward u v scope s.good s.pair r ends
 
 -- ---- what a block lists
 
-own_lives : (standing : Standing) (objects : List ℕ) → Lives (in_block objects standing) objects
+pub own_lives : (standing : Standing) (objects : List ℕ) → Lives (in_block objects standing) objects
 own_lives standing objects = record {
   listed = All-contains_itself objects;
   live = All-weaker (Contains objects) (Contains (objects ++ standing.scope.live)) (λ o c. Contains-append_left objects standing.scope.live o c) objects (All-contains_itself objects);

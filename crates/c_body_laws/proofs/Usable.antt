@@ -69,7 +69,7 @@ usable_inside w scope objects all =
 
 -- ---- names that are declared
 
-entity_usable : (w : World) (scope : Scope) (m : Meaning) → IsEntity w m → IsUsable w scope m
+pub entity_usable : (w : World) (scope : Scope) (m : Meaning) → IsEntity w m → IsUsable w scope m
 entity_usable w scope (Object n) h = by (slice_get w.objects n) h
   where
     by : (o : Option ObjectTree) → IsSomeAnd o (λ x. IsTrue x.is_static) → IsSomeAnd o (λ x. IsTrue x.is_static ⊎ Contains scope.live n)
@@ -86,7 +86,7 @@ abbrev pub IsListedNow : Scope → Declares → Type 0
 IsListedNow scope NoObject = Unit {0}
 IsListedNow scope (AnObject object) = IsTrue object.is_static ⊎ Contains scope.live object.number
 
-one_more : (w v : World) (scope : Scope) (b : Binding) → v.names ≡ w.names ++ b ∷ [] → Onward w v → IsUsable v scope b.meaning → AreUsable w scope → AreUsable v scope
+pub one_more : (w v : World) (scope : Scope) (b : Binding) → v.names ≡ w.names ++ b ∷ [] → Onward w v → IsUsable v scope b.meaning → AreUsable w scope → AreUsable v scope
 one_more w v scope b e on h all =
     subst (All (λ c. IsUsable v scope c.meaning)) (sym e) (All-push (λ c. IsUsable v scope c.meaning) w.names b (names_onward w v scope on w.names all) h)
 
