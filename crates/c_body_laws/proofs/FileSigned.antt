@@ -24,7 +24,7 @@ use Rattle.c_typing.specs.Declarators.{DeclaredName, ParameterTree, Step, laid, 
 use Rattle.c_typing.specs.Context.{Context, has_name, functions_defined_by, to_names, name_in}
 use Rattle.c_typing.specs.Decls.{Declares, Made, new_function, parameter_object, numbers_from, number_of, is_function_so, file_object_of, defined_if, missing_if}
 use Rattle.c_typing.specs.Laws.{IsSameObject, IsSameFunction}
-use Rattle.c_typing.specs.File.{Begun, in_body, with_object_meaning, with_function_at, defined_function, with_body, definition_ends}
+use Rattle.c_typing.specs.File.{Begun, in_body, with_object_meaning, with_function_at, defined_function, with_body, definition_ends, nothing_yet}
 use Rattle.c_typing.proofs.Changes.{Constants, Any}
 use Rattle.c_typing.proofs.FormsGo.{AreFormedSteps, found_each}
 use Rattle.c_typing.proofs.Good.{Good}
@@ -287,6 +287,10 @@ known_onward w at name m = record {
   names = refl;
 }
 
+pub function_onward : {around : Context} {w v : World} {named : DeclaredName} {list : List ParameterTree} {types : List CTypeTree} {result : CTypeTree} {n : ℕ} → MakesFunction around w named list types result true (Some n) v → Onward w v
+function_onward {around = around} {w = w} {named = named} {list = list} {types = types} {result = result} (new_name r e) = new_onward w named (has_name around.functions named.name) list types result
+function_onward {w = w} {named = named} (known_name l e so) = known_onward w named.pos named.name l.meaning
+
 abbrev pub change_of : World → DeclaredName → List ParameterTree → TFunctionTree → TFunctionTree
 change_of v named list = defined_function named (numbers_from (length v.objects) (length list))
 
@@ -475,3 +479,11 @@ all_matched functions w b n f e =
     ⊎_elim (λ m. m) (λ i.
     let d = has_in (IsDone w) functions i.entry.name b.done.all i.named in
     d.done n (ap (λ l. l.meaning) (same_Some d.entry i.entry (sym d.there ∙ i.there)) ∙ i.is)) (b.signed.matched n f e)
+
+-- nothing is declared yet
+pub nothing_between : (functions : List (List ℕ)) → Between functions [] nothing_yet
+nothing_between functions = record {
+  signed = record { pair = refl; matched = λ n f e. absurd (none-some f e) };
+  done = record { pair = refl; all = All-nil (IsDone nothing_yet) };
+  links = All-nil (λ l. IsEntity nothing_yet l.meaning);
+}

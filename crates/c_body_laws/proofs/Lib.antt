@@ -12,3 +12,5 @@ pub mod ParamNames
 pub mod Signatures
 pub mod FileSigned
 pub mod FileEnds
+pub mod Bodies
+pub mod FileBodies

@@ -16,6 +16,7 @@ use Rattle.c_function_laws.proofs.FileParams.{functions_take_scalars, bodies_are
 use Rattle.c_object_laws.specs.ObjectLaws.{IsOpenArray}
 use Rattle.c_object_laws.proofs.FileObjects.{objects_are_typed}
 use Rattle.c_array_laws.proofs.FileArrays.{arrays_have_sizes}
+use Rattle.c_body_laws.proofs.FileBodies.{bodies_are_typed}
 use Rattle.c_piece_laws.proofs.FilePieces.{pieces_are_static}
 use Rattle.c_well_typed_laws.specs.WhatIsLeft.{WhatIsLeft}
 
@@ -30,6 +31,7 @@ pub what_is_left : WhatIsLeft
 what_is_left file program types left =
     let takes = functions_take_scalars file program types in
     let blocks = bodies_are_blocks file program types in
+    let typed = bodies_are_typed file program types in
     let labels = labels_are_there file program types in
     let lists = objects_are_listed file program types in
     let objects = objects_are_typed file program types in
@@ -42,7 +44,7 @@ what_is_left file program types left =
         params = (takes k d h).params;
         result = (takes k d h).result;
         result_proper = (takes k d h).result_proper;
-        body = body_typed program _ _ (blocks k d h) (left.bodies k d h) (labels k d h);
+        body = body_typed program _ _ (blocks k d h) (typed k d h) (labels k d h);
       };
       names_distinct = names_are_distinct file program types;
       listed_objects = lists.automatic;
