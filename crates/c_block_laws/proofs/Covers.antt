@@ -70,7 +70,7 @@ has_right (x ∷ xs) ys name e = by (bytes_eq x name) (has_right xs ys name e)
 has_itself : (name : List ℕ) (rest : List (List ℕ)) → has_name (name ∷ rest) name ≡ true
 has_itself name rest = ap (λ b. is_some (if b then Some name else find (λ n. bytes_eq n name) rest)) ((bytes_eq-Decides name name).1 refl)
 
-has_each : (front xs ys : List (List ℕ)) → All (λ name. has_name (front ++ xs ++ ys) name ≡ true) xs
+pub has_each : (front xs ys : List (List ℕ)) → All (λ name. has_name (front ++ xs ++ ys) name ≡ true) xs
 has_each front [] ys = All-nil (λ name. has_name (front ++ [] ++ ys) name ≡ true)
 has_each front (x ∷ xs) ys =
     All-cons (λ name. has_name (front ++ (x ∷ xs) ++ ys) name ≡ true) x xs

@@ -92,8 +92,8 @@ after_grows {names} {w} {v} at g = record {
 no_name :
     {around : Context} {w v : World} {storage : List StorageWord} {steps : List Step} {base : Form} {has_init : Bool} {named : DeclaredName} {what : Declares}
     → around.in_block ≡ false → MakesName around w storage steps base has_init named what v → number_of what ≡ []
-no_name b (type_name form e) = refl
-no_name b reserved = refl
+no_name b (type_name form d e) = refl
+no_name b (reserved y) = refl
 no_name b (first_function types result r e n) = refl
 no_name b (function_again types result l n so) = refl
 no_name b (local ty c s size inside e h) = absurd (false≢true (sym b ∙ inside))
@@ -103,7 +103,7 @@ no_name b (first_missing ty c total r n h) = refl
 no_name b (object_again form ty c m l n size total e is k q a s) = ap (λ x. if x then [] else []) b
 no_name b (missing_again ty before c l size total d k q) = refl
 
-nothing_listed :
+pub nothing_listed :
     {around : Context} {first : Pos} {storage : List StorageWord} {base : Form} {w v : World} {done made : Made} {items : List InitDeclaratorTree}
     → around.in_block ≡ false → done.objects ≡ [] → MakesDeclarators around first storage base w done items made v → made.objects ≡ []
 nothing_listed b d steps.none = d
@@ -133,7 +133,7 @@ set_lists (x ∷ xs) (suc n) f g o e =
     omega (arith, a, b, c)
 
 -- the function of this number
-changed_at : (fs : List TFunctionTree) (n : ℕ) (f : TFunctionTree) (change : TFunctionTree → TFunctionTree) → slice_get fs n ≡ Some f
+pub changed_at : (fs : List TFunctionTree) (n : ℕ) (f : TFunctionTree) (change : TFunctionTree → TFunctionTree) → slice_get fs n ≡ Some f
     → unwrap_or (option_map (λ g. set fs n (change g)) (slice_get fs n)) fs ≡ set fs n (change f)
 changed_at fs n f change e = ap (λ o. unwrap_or (option_map (λ g. set fs n (change g)) o) fs) e
 
@@ -152,7 +152,7 @@ pub record IsThere (named : DeclaredName) (v : World) (n : ℕ) : Type 0 where
   pub bare : function.body ≡ None
   pub params : function.params ≡ []
 
-found_name : (xs : List Linked) (name : List ℕ) (l : Linked) → find (λ k. bytes_eq k.name name) xs ≡ Some l → l.name ≡ name
+pub found_name : (xs : List Linked) (name : List ℕ) (l : Linked) → find (λ k. bytes_eq k.name name) xs ≡ Some l → l.name ≡ name
 found_name [] name l e = no_some l e
 found_name (x ∷ xs) name l e = by (bytes_eq x.name name) refl e (found_name xs name l)
   where
@@ -245,13 +245,13 @@ head_is {around = around} {w = w} {named = named} {types = types} {result = resu
 
 -- ---- the body of a definition, and its end
 
-below : (xs : List TFunctionTree) (n : ℕ) (f : TFunctionTree) → slice_get xs n ≡ Some f → n < length xs
+pub below : (xs : List TFunctionTree) (n : ℕ) (f : TFunctionTree) → slice_get xs n ≡ Some f → n < length xs
 below [] n f e = no_some f e
 below (x ∷ xs) zero f e = omega arith
 below (x ∷ xs) (suc n) f e = let h = below xs n f e in omega arith
 
 -- the functions behind the body: the one changed, and others behind
-ended_functions :
+pub ended_functions :
     (fs new : List TFunctionTree) (n : ℕ) (f g : TFunctionTree) (change : TFunctionTree → TFunctionTree) → slice_get fs n ≡ Some f
     → unwrap_or (option_map (λ x. set (set fs n g ++ new) n (change x)) (slice_get (set fs n g ++ new) n)) (set fs n g ++ new) ≡ set fs n (change g) ++ new
 ended_functions fs new n f g change e =
@@ -373,7 +373,7 @@ definition_at {around} {x} {y} {z} {steps} {base} {named} {begun} {body} {made} 
 
 -- ---- the file
 
-outer_at :
+pub outer_at :
     {w v : World} {around : Context} {tree : OuterTree} → around.in_block ≡ false → All (λ name. has_name around.functions name ≡ true) (functions_defined_by tree) → Good w → ScalarNames w
     → AtFile around.functions w → IsLinking w → MakesOuter w around tree v → EndsSo around.functions v
 outer_at {around = around} b covers good scalar at all (outers.declares d) =

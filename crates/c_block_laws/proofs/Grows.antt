@@ -145,8 +145,8 @@ local_grows around w named ty c false size = grows_by around.functions w _ _ ref
 pub name_grows :
     {around : Context} {w v : World} {storage : List StorageWord} {steps : List Step} {base : Form} {has_init : Bool} {named : DeclaredName} {what : Declares}
     → MakesName around w storage steps base has_init named what v → Grows around.functions w v (λ o. count o (number_of what))
-name_grows {around = around} {w = w} (type_name form e) = grows_same around.functions w _ refl (λ o. refl)
-name_grows {around = around} {w = w} reserved = grows_same around.functions w _ refl (λ o. refl)
+name_grows {around = around} {w = w} (type_name form d e) = grows_same around.functions w _ refl (λ o. refl)
+name_grows {around = around} {w = w} (reserved y) = grows_same around.functions w _ refl (λ o. refl)
 name_grows {around = around} {w = w} {named = named} (first_function types result r e n) = function_grows around w named (has_name around.functions named.name) _ types result refl
 name_grows {around = around} {w = w} (function_again types result l n so) = grows_same around.functions w _ refl (λ o. refl)
 name_grows {around = around} {w = w} {named = named} (local ty c s size b e h) = local_grows around w named ty c s size

@@ -96,8 +96,8 @@ missing_linked w name ty c all =
 name_linked :
     {around : Context} {w v : World} {storage : List StorageWord} {steps : List Step} {base : Form} {has_init : Bool} {named : DeclaredName} {what : Declares}
     → MakesName around w storage steps base has_init named what v → IsLinking w → IsLinking v
-name_linked (type_name form e) all = all
-name_linked reserved all = all
+name_linked (type_name form d e) all = all
+name_linked (reserved y) all = all
 name_linked {around = around} {w = w} {named = named} (first_function types result r e n) all = function_linked w named (has_name around.functions named.name) _ types result all
 name_linked (function_again types result l n so) all = all
 name_linked (local ty c s size b e h) all = all
@@ -131,6 +131,6 @@ init_linked {w = w} good (given {u = u} {v = v} {object = object} {init = init} 
 pub linking_kept : (functions objects : List (List ℕ)) → IsKept functions objects IsLinking
 linking_kept functions objects = record {
   calm = λ w v good r all. calm_linked w v r all;
-  declared = λ around w v x storage steps base has_init named what init made f o good s b t z n good2 is m all. init_linked good2 m (name_linked n all);
+  declared = λ around w v x storage steps base has_init named what init made f o h good s b t z n good2 is m r q all. init_linked good2 m (name_linked n all);
   moved = λ w v same all. same_linked w v same.functions same.linked all;
 }

@@ -159,7 +159,7 @@ new_in w named false params types result scalar r f all =
 pub given_scalar : (params : List ParameterTree) (names tags : _) (rest : List Step) → AreScalarSteps (FunctionOf params names tags ∷ rest) → All (λ p. IsScalar p.ty) params
 given_scalar params names tags rest all = (All-head IsScalarStep (FunctionOf params names tags) rest all).0
 
-parameters_scalar : (steps : List Step) (named : DeclaredName) (types : List CTypeTree) → AreScalarSteps steps → All IsScalar types → All (λ p. IsScalar p.ty) (parameters_of steps types named.pos)
+pub parameters_scalar : (steps : List Step) (named : DeclaredName) (types : List CTypeTree) → AreScalarSteps steps → All IsScalar types → All (λ p. IsScalar p.ty) (parameters_of steps types named.pos)
 parameters_scalar [] named types s all = All-map (λ p. IsScalar p.ty) _ types all
 parameters_scalar (PointerTo c ∷ rest) named types s all = All-map (λ p. IsScalar p.ty) _ types all
 parameters_scalar (ArrayOf at n ∷ rest) named types s all = All-map (λ p. IsScalar p.ty) _ types all
@@ -216,8 +216,8 @@ again_scalar w ty c has_init l n x m so e h =
 name_in :
     {around : Context} {w v : World} {storage : List StorageWord} {steps : List Step} {base : Form} {has_init : Bool} {named : DeclaredName} {what : Declares}
     → AreFormedSteps w.structs steps → IsFormedForm w.structs base → AreScalarSteps steps → IsScalarForm base → MakesName around w storage steps base has_init named what v → AreIn w → AreIn v
-name_in {w = w} {v = v} s f t b (type_name form e) all = in_same w v refl refl refl all
-name_in s f t b reserved all = all
+name_in {w = w} {v = v} s f t b (type_name form d e) all = in_same w v refl refl refl all
+name_in s f t b (reserved y) all = all
 name_in {around = around} {w = w} {steps = steps} {base = base} {named = named} s f t b (first_function types result r e n) all =
     let form = function_form w named steps base types result s f t b e in
     new_in w named (has_name around.functions named.name) (parameters_of steps types named.pos) types result (parameters_scalar steps named types t form.params) form.result_is form.formed all
@@ -268,6 +268,6 @@ init_in {w = w} good is (given {u = u} {v = v} {object = object} {init = init} {
 pub functions_kept : (functions objects : List (List ℕ)) → IsKept functions objects AreIn
 functions_kept functions objects = record {
   calm = in_calm;
-  declared = λ around w v x storage steps base has_init named what init made f o good s b t z n good2 is m all. init_in good2 is m (name_in s b t z n all);
+  declared = λ around w v x storage steps base has_init named what init made f o h good s b t z n good2 is m r q all. init_in good2 is m (name_in s b t z n all);
   moved = λ w v same all. in_same w v same.structs same.objects same.functions all;
 }

@@ -55,10 +55,10 @@ pairs_cons R x xs one all zero (suc j) d h l = one j d (omega arith)
 pairs_cons R x xs one all (suc i) zero d h l = absurd (omega arith)
 pairs_cons R x xs one all (suc i) (suc j) d h l = all i j d (omega arith) (omega arith)
 
-pairs_head : {A : Type 0} (R : A → A → Type 0) (x : A) (xs : List A) → AllPairs R (x ∷ xs) → All (R x) xs
+pub pairs_head : {A : Type 0} (R : A → A → Type 0) (x : A) (xs : List A) → AllPairs R (x ∷ xs) → All (R x) xs
 pairs_head R x xs all = λ k d h. all 0 (suc k) d (omega arith) (omega arith)
 
-pairs_tail : {A : Type 0} (R : A → A → Type 0) (x : A) (xs : List A) → AllPairs R (x ∷ xs) → AllPairs R xs
+pub pairs_tail : {A : Type 0} (R : A → A → Type 0) (x : A) (xs : List A) → AllPairs R (x ∷ xs) → AllPairs R xs
 pairs_tail R x xs all = λ i j d h l. all (suc i) (suc j) d (omega arith) (omega arith)
 
 pub pairs_append : {A : Type 0} (R : A → A → Type 0) (xs ys : List A) → AllPairs R xs → AllPairs R ys → All (λ x. All (R x) ys) xs → AllPairs R (xs ++ ys)

@@ -72,7 +72,7 @@ by_value_with scope w static ty e s u f sized good =
     is_with (λ g. typed_so (reaches.stays v2) (λ ends.
     by_part scope ty (item ∷ []) (whole_is w scope ty s (ends_before w v scope good r (ends_before v v2 scope k.good r2 ends)) f sized) (a ends)))))
 
-sized_with :
+pub sized_with :
     (scope : Scope) (w : World) (static : Bool) (ty : CTypeTree) (init : InitTree) (s : ℕ) → AreUsable w scope → IsFormed w.structs ty → size_in w.structs ty ≡ Some s → Good w
     → AllWith Constants w (Is-filled scope ty) (TypesInit w static ty (frame_of w.structs (whole_part ty)) init)
 sized_with scope w static ty (inits.Braces at items) s u f sized good =
@@ -134,7 +134,7 @@ no_value scope w static of c e {P = P} =
     then_with (valued (go w e)) (λ x v r k.
     so_with (fill_refused v static of c (expr_pos e) x {P = λ item u. ⊥}) (λ item v2 r2 q k2. absurd q))
 
-open_with :
+pub open_with :
     (scope : Scope) (w : World) (static : Bool) (of : CTypeTree) (c : Bool) (init : InitTree) (s : ℕ) → AreUsable w scope → IsFormed w.structs of → size_in w.structs of ≡ Some s → Good w
     → AllWith Constants w (λ by v. EndsFrom v scope → AreFilled scope (Array of c by.count) by.items) (TypesInit w static (Array of c 0) (open_frame (Array of c 0)) init)
 open_with scope w static of c (inits.Braces at items) s u f sized good =

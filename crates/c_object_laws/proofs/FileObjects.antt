@@ -45,7 +45,7 @@ function_in {around = around} {w = w} {named = named} {params = params} {types =
     by false = refl
 function_in {w = w} {v = v} good (known_name l e so) all = (in_same w v refl refl all, refl)
 
-head_in :
+pub head_in :
     {around : Context} {w y : World} {steps : List Step} {base : Form} {named : DeclaredName} {begun : Begun}
     → AreFormedSteps w.structs steps → AreScalarSteps steps → MakesHead around w steps base named begun y → ObjectsIn w → ObjectsIn y
 head_in {w = w} {y = y} {named = named} s t (head {params = params} {names = names} {tags = tags} {rest = rest} {n = n} {v = v} e l is (counted {total = total})) all =
@@ -57,7 +57,7 @@ head_in {w = w} {y = y} {named = named} s t (head {params = params} {names = nam
 ended_in : (begun : Begun) (brace : Pos) (made : Made) (z : World) → ObjectsIn z → ObjectsIn (definition_ends begun brace made z)
 ended_in begun brace made z all = in_same z (definition_ends begun brace made z) refl refl all
 
-outer_in : {w v : World} {around : Context} {tree : OuterTree} → Good w → ScalarNames w → MakesOuter w around tree v → ObjectsIn w → ObjectsIn v
+pub outer_in : {w v : World} {around : Context} {tree : OuterTree} → Good w → ScalarNames w → MakesOuter w around tree v → ObjectsIn w → ObjectsIn v
 outer_in {around = around} good names (outers.declares d) all = (decl_keeps (objects_kept around.functions around.objects) refl refl good d (record { names = names; has = all })).has
 outer_in {w = w} {around = around} good names (outers.defines {brace = brace} {begun = begun} {made = made} {u = u} {x = x} {y = y} {z = z} t n h i) all =
     let facts = head_facts good t in

@@ -74,7 +74,7 @@ unsized_open : (structs : List StructDefTree) (ty : CTypeTree) → IsOpen struct
 unsized_open structs ty o = ap is_unsized o.is
 
 -- a formed type is no array without size
-formed_sized : (structs : List StructDefTree) (ty : CTypeTree) → IsFormed structs ty → is_unsized ty ≡ true → ⊥
+pub formed_sized : (structs : List StructDefTree) (ty : CTypeTree) → IsFormed structs ty → is_unsized ty ≡ true → ⊥
 formed_sized structs Void f e = false≢true e
 formed_sized structs (Int t) f e = false≢true e
 formed_sized structs (Pointer to c) f e = false≢true e
@@ -185,7 +185,7 @@ in_calm w v good r all =
 pub in_same : (w v : World) → v.structs ≡ w.structs → v.objects ≡ w.objects → ObjectsIn w → ObjectsIn v
 in_same w v s o all = subst (λ objects. All (IsObjectIn v.structs) objects) (sym o) (subst (λ structs. All (IsObjectIn structs) w.objects) (sym s) all)
 
-each_object : (P : ObjectTree → Type 0) (xs : List ObjectTree) (n : ℕ) (x : ObjectTree) → All P xs → slice_get xs n ≡ Some x → P x
+pub each_object : (P : ObjectTree → Type 0) (xs : List ObjectTree) (n : ℕ) (x : ObjectTree) → All P xs → slice_get xs n ≡ Some x → P x
 each_object P [] n x all e = no_some x e
 each_object P (y ∷ rest) zero x all e = subst P (same_Some y x e) (All-head P y rest all)
 each_object P (y ∷ rest) (suc n) x all e = each_object P rest n x (All-tail P y rest all) e
@@ -295,11 +295,11 @@ again_in w ty c has_init form how measured l n size x may m so file e i =
       marks = ⊎_elim (λ d. inl (record { is_const = d.is_const; read_only = d.read_only ∙ sym (same d.is_const) })) (λ t. absurd (no_literal x ty c t parts.0 parts.1)) i.marks;
     }
 
-name_in :
+pub name_in :
     {around : Context} {w v : World} {storage : List StorageWord} {steps : List Step} {base : Form} {has_init : Bool} {named : DeclaredName} {what : Declares}
     → AreFormedSteps w.structs steps → IsFormedForm w.structs base → AreScalarSteps steps → IsScalarForm base → MakesName around w storage steps base has_init named what v → ObjectsIn w → ObjectsIn v
-name_in {w = w} {v = v} s f t b (type_name form e) all = in_same w v refl refl all
-name_in s f t b reserved all = all
+name_in {w = w} {v = v} s f t b (type_name form d e) all = in_same w v refl refl all
+name_in s f t b (reserved y) all = all
 name_in {around = around} {w = w} {steps = steps} {base = base} {named = named} s f t b (first_function types result r e n) all =
     let formed : IsFormedForm w.structs (Callable types result) = laid_formed w named steps base (Callable types result) s f e in
     let scalar : IsScalarForm (Callable types result) = laid_is_scalar w named steps base (Callable types result) s f t b e in
@@ -374,7 +374,7 @@ measured_in w object count of c x t e some fits i =
     subst (λ ty. IsObjectIn w.structs (sized_object (measured_type ty count) (size_or_zero w (measured_type ty count)) x)) (sym t)
     (array_in w of c count x e some (subst (λ ty. size_or_zero w (measured_type ty count) ≤ 2 ^ 40) t fits) i)
 
-was_open : (w v : World) (object : ObjectNow) → Reaches Constants w v → (m : IsMeasured object w) → (x : ObjectTree) → slice_get v.objects object.number ≡ Some x → x.ty ≡ Array m.of m.is_const 0
+pub was_open : (w v : World) (object : ObjectNow) → Reaches Constants w v → (m : IsMeasured object w) → (x : ObjectTree) → slice_get v.objects object.number ≡ Some x → x.ty ≡ Array m.of m.is_const 0
 was_open w v object r m x e = by (slice_get w.objects object.number) refl m.there
   where
     by : (o : Option ObjectTree) → slice_get w.objects object.number ≡ o → IsSomeAnd o (λ y. y.ty ≡ Array m.of m.is_const 0) → x.ty ≡ Array m.of m.is_const 0
@@ -408,6 +408,6 @@ init_in {w = w} good is (given {u = u} {v = v} {object = object} {init = init} {
 pub objects_kept : (functions objects : List (List ℕ)) → IsKept functions objects ObjectsIn
 objects_kept functions objects = record {
   calm = in_calm;
-  declared = λ around w v x storage steps base has_init named what init made f o good s b t z n good2 is m all. init_in good2 is m (name_in s b t z n all);
+  declared = λ around w v x storage steps base has_init named what init made f o h good s b t z n good2 is m r q all. init_in good2 is m (name_in s b t z n all);
   moved = λ w v same all. in_same w v same.structs same.objects all;
 }

@@ -6,7 +6,7 @@
 //!
 //! For example, `const char a[] = "ab";` is read-only and no literal, and the object of `"ab"` in `char *p = "ab";` is one.
 //!
-//! That no array is left without size at the end of the file is open: the law tells both cases.
+//! The law tells of an array without size too; that none is left at the end of a file is a law above this crate.
 #![tactic(auto)]
 
 ghost use Rattle.c_object_laws.specs.ObjectLaws.{ObjectsAreTyped};

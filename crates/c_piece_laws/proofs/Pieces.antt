@@ -254,8 +254,8 @@ new_in w entity false params types result all = in_more w (new_function w entity
 name_in :
     {around : Context} {w v : World} {storage : List StorageWord} {steps : List Step} {base : Form} {has_init : Bool} {named : DeclaredName} {what : Declares}
     → MakesName around w storage steps base has_init named what v → AreBytes w → AreBytes v
-name_in {w = w} {v = v} (type_name form e) all = in_same w v refl refl all
-name_in reserved all = all
+name_in {w = w} {v = v} (type_name form d e) all = in_same w v refl refl all
+name_in (reserved y) all = all
 name_in {around = around} {w = w} {steps = steps} {named = entity} (first_function types result r e n) all =
     new_in w entity (has_name around.functions entity.name) (parameters_of steps types entity.pos) types result all
 name_in {w = w} {v = v} (function_again types result l n so) all = in_same w v refl refl all
@@ -288,6 +288,6 @@ init_in {w = w} good (given {u = u} {v = v} {object = now} {init = init} {by = b
 pub bytes_kept : (functions objects : List (List ℕ)) → IsKept functions objects AreBytes
 bytes_kept functions objects = record {
   calm = λ w v good r all. in_calm w v r all;
-  declared = λ around w v x storage steps base has_init named what init made f o good s b t z n good2 is m all. init_in good2 m (name_in n all);
+  declared = λ around w v x storage steps base has_init named what init made f o h good s b t z n good2 is m r q all. init_in good2 m (name_in n all);
   moved = λ w v same all. in_same w v same.objects same.initial all;
 }

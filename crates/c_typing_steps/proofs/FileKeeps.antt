@@ -28,7 +28,7 @@ use Rattle.c_typing_steps.proofs.Keeps.{IsKept, decl_keeps, items_keep}
 pub nothing_kept : (functions objects : List (List ℕ)) → IsKept functions objects (λ w. Unit {0})
 nothing_kept functions objects = record {
   calm = λ w v good r p. tt;
-  declared = λ around w v x storage steps base has_init named what init made f o good s b t z n good2 is m p. tt;
+  declared = λ around w v x storage steps base has_init named what init made f o h good s b t z n good2 is m r q p. tt;
   moved = λ w v same p. tt;
 }
 
@@ -69,7 +69,7 @@ objects_scalar first names all =
 function_scalar :
     {around : Context} {w v : World} {named : DeclaredName} {params : List ParameterTree} {types : List CTypeTree} {result : CTypeTree} {n : Option ℕ}
     → MakesFunction around w named params types result true n v → ScalarNames w → ScalarNames v
-function_scalar (reserved_function b) all = all
+function_scalar (reserved_function y b) all = all
 function_scalar {around = around} {w = w} {named = named} {params = params} {types = types} {result = result} (new_name r e) all = by (has_name around.functions named.name)
   where
     by : (later : Bool) → ScalarNames (new_function w named later params types result)

@@ -53,8 +53,8 @@ pub record IsKept (functions objects : List (List ℕ)) (P : World → Type 0) :
   pub calm : (w v : World) → Good w → Reaches Constants w v → P w → P v
   pub declared :
       (around : Context) (w v x : World) (storage : List StorageWord) (steps : List Step) (base : Form) (has_init : Bool) (named : DeclaredName) (what : Declares) (init : Option InitTree) (made : Made)
-      → around.functions ≡ functions → around.objects ≡ objects → Good w → AreFormedSteps w.structs steps → IsFormedForm w.structs base → AreScalarSteps steps → IsScalarForm base
-      → MakesName around w storage steps base has_init named what v → Good v → WhatIn what v → MakesInit v what init made x → P w → P x
+      → around.functions ≡ functions → around.objects ≡ objects → has_init ≡ is_some init → Good w → AreFormedSteps w.structs steps → IsFormedForm w.structs base → AreScalarSteps steps → IsScalarForm base
+      → MakesName around w storage steps base has_init named what v → Good v → WhatIn what v → MakesInit v what init made x → Reaches Any w v → Reaches Any v x → P w → P x
   pub moved : (w v : World) → HasSame w v → P w → P v
 
 known_scalar : (w : World) (types : List CTypeTree) (result : CTypeTree) (m : Meaning) → is_function_so w types result false m ≡ true → IsScalarMeaning m
@@ -66,12 +66,12 @@ known_scalar w types result (TypeName form) e = absurd (false≢true e)
 known_scalar w types result (Enumeration n) e = tt
 
 -- names that are declared
-name_scalar :
+pub name_scalar :
     {around : Context} {w v : World} {storage : List StorageWord} {steps : List Step} {base : Form} {has_init : Bool} {named : DeclaredName} {what : Declares}
     → AreFormedSteps w.structs steps → IsFormedForm w.structs base → AreScalarSteps steps → IsScalarForm base → MakesName around w storage steps base has_init named what v → ScalarNames w → ScalarNames v
-name_scalar {w = w} {steps = steps} {base = base} {named = named} s f t b (type_name form e) all =
+name_scalar {w = w} {steps = steps} {base = base} {named = named} s f t b (type_name form d e) all =
     All-push (λ x. IsScalarMeaning x.meaning) w.names _ all (typed_from (subst (λ z. TypedAs (λ y v. IsScalarForm y) z) e (laid_scalar w named.pos steps base s f t b)))
-name_scalar s f t b reserved all = all
+name_scalar s f t b (reserved y) all = all
 name_scalar {around = around} {w = w} {steps = steps} {named = named} s f t b (first_function types result r e n) all = by (has_name around.functions named.name)
   where
     by : (later : Bool) → ScalarNames (new_function w named later (parameters_of steps types named.pos) types result)
@@ -97,7 +97,7 @@ static_scalar w object ty by all = at object.is_static
     at true = all
     at false = all
 
-init_scalar : {w v : World} {what : Declares} {init : Option InitTree} {made : Made} → Good w → MakesInit w what init made v → ScalarNames w → ScalarNames v
+pub init_scalar : {w v : World} {what : Declares} {init : Option InitTree} {made : Made} → Good w → MakesInit w what init made v → ScalarNames w → ScalarNames v
 init_scalar good no_object all = all
 init_scalar good bare all = all
 init_scalar {w = w} good (given {u = u} {v = v} {object = object} {init = init} {by = by} {ty = ty} t s) all =
@@ -114,8 +114,8 @@ declarators_keep {around = around} {storage = storage} {base = base} k f o good 
     let names = name_scalar facts.steps facts.formed steps scalar n (scalar_calm w u facts.calm p.names) in
     declarators_keep k f o facts.last facts.last_formed scalar r (record {
       names = init_scalar facts.declared m names;
-      has = k.declared around u v x storage shape.steps base (is_some item.init) named what item.init made f o facts.good facts.steps facts.formed steps scalar n facts.declared facts.what_in m
-          (k.calm w u good facts.calm p.has);
+      has = k.declared around u v x storage shape.steps base (is_some item.init) named what item.init made f o refl facts.good facts.steps facts.formed steps scalar n facts.declared facts.what_in m
+          facts.declares facts.starts (k.calm w u good facts.calm p.has);
     })
 
 pub decl_keeps :
@@ -127,23 +127,23 @@ decl_keeps {w = w} {decl = decl} k f o good d p =
     let base = typed_from (subst (λ z. TypedAs (λ y v. IsScalarForm y) z) d.told (told_scalar OfDeclaration (first_of decl.pos decl.specs) d.specs d.behind specs)) in
     declarators_keep k f o facts.good facts.formed base d.rest (record { names = scalar_calm w d.behind facts.calm p.names; has = k.calm w d.behind good facts.calm p.has })
 
-value_keeps :
+pub value_keeps :
     {functions objects : List (List ℕ)} {P : World → Type 0} {w v : World} {e : written.ExprTree} {x : TExprTree} → IsKept functions objects P → Good w → IsValue w e x v → Both P w → Both P v
 value_keeps {w = w} {v = v} k good q p = let r = value_reach good q in record { names = scalar_calm w v r p.names; has = k.calm w v good r p.has }
 
-condition_keeps :
+pub condition_keeps :
     {functions objects : List (List ℕ)} {P : World → Type 0} {w v : World} {e : Option written.ExprTree} {x : Option TExprTree}
     → IsKept functions objects P → Good w → MayCondition w e x v → Both P w → Both P v
 condition_keeps k good no_condition p = p
 condition_keeps k good (a_condition q) p = value_keeps k good q.value p
 
-step_keeps :
+pub step_keeps :
     {functions objects : List (List ℕ)} {P : World → Type 0} {w v : World} {e : Option written.ExprTree} {x : Option TExprTree}
     → IsKept functions objects P → Good w → MayStep w e x v → Both P w → Both P v
 step_keeps k good no_step p = p
 step_keeps k good (a_step q) p = value_keeps k good q p
 
-start_keeps :
+pub start_keeps :
     {functions objects : List (List ℕ)} {P : World → Type 0} {w v : World} {around : Context} {s : ForStartTree} {made : Made}
     → IsKept functions objects P → around.functions ≡ functions → around.objects ≡ objects → Good w → MakesStart w around s made v → Both P w → Both P v
 start_keeps k f o good nothing p = p
@@ -154,11 +154,11 @@ start_keeps k f o good (declares d) p = decl_keeps k f o good d p
 pub the_same : (w v : World) → v.structs ≡ w.structs → v.objects ≡ w.objects → v.functions ≡ w.functions → v.signatures ≡ w.signatures → v.linked ≡ w.linked → v.initial ≡ w.initial → HasSame w v
 the_same w v s o f g l i = record { structs = s; objects = o; functions = f; signatures = g; linked = l; initial = i }
 
-over : {functions objects : List (List ℕ)} {P : World → Type 0} → IsKept functions objects P → (w v : World) → HasSame w v → (ScalarNames w → ScalarNames v) → Both P w → Both P v
+pub over : {functions objects : List (List ℕ)} {P : World → Type 0} → IsKept functions objects P → (w v : World) → HasSame w v → (ScalarNames w → ScalarNames v) → Both P w → Both P v
 over k w v same names p = record { names = names p.names; has = k.moved w v same p.has }
 
 -- the names that stay when a scope ends
-shut_names : (u v : World) → ScalarNames v → ScalarNames (closed u v)
+pub shut_names : (u v : World) → ScalarNames v → ScalarNames (closed u v)
 shut_names u v all = All-take (λ b. IsScalarMeaning b.meaning) (length u.names) v.names all
 
 mutual

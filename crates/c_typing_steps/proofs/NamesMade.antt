@@ -114,7 +114,7 @@ pub function_as :
 function_as around w named params types result has_body =
     as_if (names.is_reserved named.name)
     (λ r. as_if (decls.is_input_type types result (names.input_type named.name) && not has_body)
-    (λ e. typed_as (reserved_function (no_body has_body (and_parts (decls.is_input_type types result (names.input_type named.name)) (not has_body) e).1))) (λ e. refused_as))
+    (λ e. typed_as (reserved_function r (no_body has_body (and_parts (decls.is_input_type types result (names.input_type named.name)) (not has_body) e).1))) (λ e. refused_as))
     (λ r. other_as named.pos (decls.binding_here w named.name) (names.linked_as w named.name) (decls.is_function_so w types result has_body) _
     (λ l e a. main_as named (decls.is_main_shape types result) (again_as around w named params types result has_body l r e a)))
   where
@@ -128,7 +128,7 @@ prototype :
     (o : Outcome (Option ℕ)) → laid w named.pos steps base ≡ Typed (Callable types result) w
     → TypedAs (MakesFunction around w named (decls.parameters_of steps types named.pos) types result false) o
     → TypedAs (MakesName around w storage steps base has_init named) (decls.no_object o)
-prototype _ e (typed_as (reserved_function b)) = typed_as reserved
+prototype _ e (typed_as (reserved_function r b)) = typed_as (reserved r)
 prototype _ e (typed_as (new_name r n)) = typed_as (first_function _ _ r e n)
 prototype _ e (typed_as (known_name l n so)) = typed_as (function_again _ _ l n so)
 prototype _ e refused_as = refused_as
@@ -207,7 +207,7 @@ IsComplete w (Plain ty c) = (size : ℕ) × (complete_size w.structs ty ≡ Some
 IsComplete w (Unsized of c) = Unit {0}
 IsComplete w (Callable params result) = Unit {0}
 
-no_size : (w : World) (ty : CTypeTree) (size : ℕ) → complete_size w.structs ty ≡ Some size → is_unsized ty ≡ true → ⊥
+pub no_size : (w : World) (ty : CTypeTree) (size : ℕ) → complete_size w.structs ty ≡ Some size → is_unsized ty ≡ true → ⊥
 no_size w ty size e u = by (is_unsized ty) u e
   where
     by : (b : Bool) → b ≡ true → (if b then None else told_size (sized (size_in w.structs ty))) ≡ Some size → ⊥
@@ -272,10 +272,10 @@ form_as (Callable params result) e = refused_as
 
 typedef_as :
     {around : Context} {w : World} {storage : List StorageWord} {steps : List Step} {base : Form} {has_init : Bool} {named : DeclaredName} (form : Form)
-    → laid w named.pos steps base ≡ Typed form w → TypedAs (MakesName around w storage steps base has_init named) (decls.typedef_declared w named form)
-typedef_as (Plain ty c) e = as_declared _ _ (λ d. typed_as (type_name _ e))
-typedef_as (Unsized of c) e = as_declared _ _ (λ d. refused_as)
-typedef_as (Callable params result) e = as_declared _ _ (λ d. typed_as (type_name _ e))
+    → is_word Typedef storage ≡ true → laid w named.pos steps base ≡ Typed form w → TypedAs (MakesName around w storage steps base has_init named) (decls.typedef_declared w named form)
+typedef_as (Plain ty c) t e = as_declared _ _ (λ d. typed_as (type_name _ t e))
+typedef_as (Unsized of c) t e = as_declared _ _ (λ d. refused_as)
+typedef_as (Callable params result) t e = as_declared _ _ (λ d. typed_as (type_name _ t e))
 
 object_as :
     {around : Context} {w : World} {storage : List StorageWord} {steps : List Step} {base : Form} {named : DeclaredName} (form : Form) (has_init : Bool)
@@ -295,7 +295,7 @@ entity_as (Unsized of c) has_init e = object_as (Unsized of c) has_init e
 name_as :
     {around : Context} {w : World} {storage : List StorageWord} {steps : List Step} {base : Form} {named : DeclaredName} (has_init : Bool) (o : Outcome Form)
     → laid w named.pos steps base ≡ o → StaysAt w o → TypedAs (MakesName around w storage steps base has_init named) (decls.name_declared around storage steps named has_init o)
-name_as {storage = storage} has_init (Typed form _) e stays_at = as_if (is_word Typedef storage) (λ t. typedef_as form e) (λ t. entity_as form has_init e)
+name_as {storage = storage} has_init (Typed form _) e stays_at = as_if (is_word Typedef storage) (λ t. typedef_as form t e) (λ t. entity_as form has_init e)
 name_as has_init (Refused r) e s = refused_as
 
 -- what a declarator declares, by its name

@@ -49,8 +49,8 @@ function_steady w named false params types result = record { labels = refl; case
 pub name_steady :
     {around : Context} {w v : World} {storage : List StorageWord} {steps : List Step} {base : Form} {has_init : Bool} {named : DeclaredName} {what : Declares}
     → MakesName around w storage steps base has_init named what v → Steady w v
-name_steady (type_name form e) = record { labels = refl; cases = refl; default = refl }
-name_steady reserved = record { labels = refl; cases = refl; default = refl }
+name_steady (type_name form d e) = record { labels = refl; cases = refl; default = refl }
+name_steady (reserved y) = record { labels = refl; cases = refl; default = refl }
 name_steady {around = around} {w = w} {named = named} (first_function types result r e n) = function_steady w named (has_name around.functions named.name) _ types result
 name_steady (function_again types result l n so) = record { labels = refl; cases = refl; default = refl }
 name_steady (local ty c s size b e h) = record { labels = refl; cases = refl; default = refl }

@@ -1,13 +1,14 @@
 -- What a declarator declares, by the ways in which typing comes to it.
 use Rattle.std.specs.Prelude.{◌≡◌, ℕ, Bool, true, false, not, ◌&&◌, Option, Some, None, List, length}
 use Rattle.c_written.specs.declared.written.StorageWord.{StorageWord}
+use Rattle.c_written.specs.declared.written.StorageWord.TheVariants.{Typedef}
 use Rattle.c_syntax.specs.Types.{CTypeTree, Array}
 use Rattle.c_typing.specs.World.{World, Form, Plain, Unsized, Callable, Object, Missing, Linked, TypeName, Typed}
 use Rattle.c_typing.specs.Names.{is_reserved, with_name, linked_as}
 use Rattle.c_typing.specs.Operands.{is_unsized, complete_size}
 use Rattle.c_typing.specs.Declarators.{DeclaredName, ParameterTree, Step, laid}
 use Rattle.c_typing.specs.Context.{Context, has_name}
-use Rattle.c_typing.specs.Decls.{FileObject, Declares, AnObject, NoObject, local_object, local_now, object_of, with_object, with_linked, with_sized, with_defined, with_type, file_now, file_object_of, is_object_again, is_function_so, new_function, parameters_of, number_of, composite_type}
+use Rattle.c_typing.specs.Decls.{FileObject, Declares, AnObject, NoObject, local_object, local_now, object_of, with_object, with_linked, with_sized, with_defined, with_type, file_now, file_object_of, is_object_again, is_function_so, new_function, parameters_of, number_of, composite_type, is_word}
 
 -- the type that a declaration gives an object, const as it is declared: one that is complete, or an array whose size is not told
 pub data IsObjectForm (w : World) : CTypeTree → Bool → Form → Type 0 where
@@ -26,7 +27,7 @@ with_sum w total = record w { total = total }
 -- what a declaration of a function comes to: nothing for a reserved name, else a function, new or known, by its number
 pub data MakesFunction (around : Context) (w : World) (named : DeclaredName) (params : List ParameterTree) (types : List CTypeTree) (result : CTypeTree) (has_body : Bool) :
     Option ℕ → World → Type 0 where
-  reserved_function : has_body ≡ false → MakesFunction around w named params types result has_body None w
+  reserved_function : is_reserved named.name ≡ true → has_body ≡ false → MakesFunction around w named params types result has_body None w
   new_name :
       is_reserved named.name ≡ false → linked_as w named.name ≡ None
       → MakesFunction around w named params types result has_body (Some (length w.functions)) (new_function w named (has_name around.functions named.name) params types result)
@@ -37,8 +38,8 @@ pub data MakesFunction (around : Context) (w : World) (named : DeclaredName) (pa
 -- what a name is declared as, from its steps and the type of the specs
 pub data MakesName (around : Context) (w : World) (storage : List StorageWord) (steps : List Step) (base : Form) (has_init : Bool) (named : DeclaredName) :
     Declares → World → Type 0 where
-  type_name : (form : Form) → laid w named.pos steps base ≡ Typed form w → MakesName around w storage steps base has_init named NoObject (with_name w named.pos named.name (TypeName form))
-  reserved : MakesName around w storage steps base has_init named NoObject w
+  type_name : (form : Form) → is_word Typedef storage ≡ true → laid w named.pos steps base ≡ Typed form w → MakesName around w storage steps base has_init named NoObject (with_name w named.pos named.name (TypeName form))
+  reserved : is_reserved named.name ≡ true → MakesName around w storage steps base has_init named NoObject w
   first_function :
       (types : List CTypeTree) (result : CTypeTree) → is_reserved named.name ≡ false → laid w named.pos steps base ≡ Typed (Callable types result) w
       → linked_as w named.name ≡ None

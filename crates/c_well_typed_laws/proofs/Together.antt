@@ -1,11 +1,13 @@
 -- What is proved of typed files, together.
-use Rattle.std.proofs.Common.{List, ⊎_elim}
-use Rattle.std.specs.Prelude.{◌⊎◌, Option, None, Some, IfSome}
+use Rattle.std.proofs.Common.{◌≡◌, List, ap, sym, ◌∙◌, ⊎_elim}
+use Rattle.std.proofs.lemmas.Bool.{false≢true}
+use Rattle.std.specs.Prelude.{◌⊎◌, false, Option, None, Some, IfSome}
 use Rattle.c_syntax.specs.TypedStmt.{TStmtTree}
 use Rattle.c_syntax.specs.Types.{ObjectTree}
 use Rattle.c_syntax.specs.Program.{StructDefTree, TFunctionTree, TProgramTree}
 use Rattle.c_layout.specs.TypedNodes.{IsBlock, IsTypedStmt}
 use Rattle.c_layout.specs.WellTyped.{IsTypedObject, IsTypedBody, body_standing}
+use Rattle.c_typing.specs.Operands.{is_unsized}
 use Rattle.c_typing_laws.proofs.WholePrograms.{tables_are_typed, initials_are_given}
 use Rattle.c_typing_laws.proofs.DistinctNames.{names_are_distinct}
 use Rattle.c_block_laws.specs.JumpLaws.{HasItsLabels}
@@ -13,6 +15,8 @@ use Rattle.c_block_laws.proofs.Programs.{labels_are_there, objects_are_listed}
 use Rattle.c_function_laws.proofs.FileParams.{functions_take_scalars, bodies_are_blocks}
 use Rattle.c_object_laws.specs.ObjectLaws.{IsOpenArray}
 use Rattle.c_object_laws.proofs.FileObjects.{objects_are_typed}
+use Rattle.c_array_laws.proofs.FileArrays.{arrays_have_sizes}
+use Rattle.c_body_laws.proofs.FileBodies.{bodies_are_typed}
 use Rattle.c_piece_laws.proofs.FilePieces.{pieces_are_static}
 use Rattle.c_well_typed_laws.specs.WhatIsLeft.{WhatIsLeft}
 
@@ -20,25 +24,27 @@ body_typed : (program : TProgramTree) (f : TFunctionTree) (body : Option TStmtTr
 body_typed program f None b t l = tt
 body_typed program f (Some s) b t l = record { block = b; typed = t; labels_distinct = l.distinct; gotos_there = l.there }
 
-object_is : (structs : List StructDefTree) (x : ObjectTree) → IsTypedObject structs x ⊎ IsOpenArray x → (IsOpenArray x → ⊥) → IsTypedObject structs x
-object_is structs x t no_open = ⊎_elim (λ i. i) (λ o. absurd (no_open o)) t
+object_is : (structs : List StructDefTree) (x : ObjectTree) → IsTypedObject structs x ⊎ IsOpenArray x → is_unsized x.ty ≡ false → IsTypedObject structs x
+object_is structs x t sized = ⊎_elim (λ i. i) (λ o. absurd (false≢true (sym sized ∙ ap is_unsized o.ty))) t
 
 pub what_is_left : WhatIsLeft
 what_is_left file program types left =
     let takes = functions_take_scalars file program types in
     let blocks = bodies_are_blocks file program types in
+    let typed = bodies_are_typed file program types in
     let labels = labels_are_there file program types in
     let lists = objects_are_listed file program types in
     let objects = objects_are_typed file program types in
+    let sizes = arrays_have_sizes file program types in
     let given = initials_are_given file program types in
     let pieces = pieces_are_static file program types in record {
       structs = tables_are_typed file program types;
-      objects = λ k d h. object_is program.structs _ (objects k d h) (left.sizes_told k d h);
+      objects = λ k d h. object_is program.structs _ (objects k d h) (sizes k d h);
       functions = λ k d h. record {
         params = (takes k d h).params;
         result = (takes k d h).result;
         result_proper = (takes k d h).result_proper;
-        body = body_typed program _ _ (blocks k d h) (left.bodies k d h) (labels k d h);
+        body = body_typed program _ _ (blocks k d h) (typed k d h) (labels k d h);
       };
       names_distinct = names_are_distinct file program types;
       listed_objects = lists.automatic;

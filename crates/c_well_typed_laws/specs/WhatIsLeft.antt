@@ -1,16 +1,12 @@
 -- What makes the program of a typed file well typed, beside what is proved of all typed files.
-use Rattle.std.specs.Prelude.{◌≡◌, length, IfSome, IsSomeAnd, All, slice_get}
+use Rattle.std.specs.Prelude.{◌≡◌, length, IsSomeAnd, All, slice_get}
 use Rattle.c_written.specs.WrittenFile.{FileTree}
 use Rattle.c_syntax.specs.Program.{TProgramTree}
-use Rattle.c_layout.specs.TypedNodes.{IsTypedStmt}
-use Rattle.c_layout.specs.WellTyped.{IsWellTyped, body_standing}
+use Rattle.c_layout.specs.WellTyped.{IsWellTyped}
 use Rattle.c_typing.specs.File.{TypesFile, Program}
-use Rattle.c_object_laws.specs.ObjectLaws.{IsOpenArray}
 
--- its statements are typed, no array is left without size, and initial values have as many bytes as their objects
+-- initial values have as many bytes as their objects
 pub record HasWhatIsLeft (program : TProgramTree) : Type 0 where
-  pub bodies : All (λ f. IfSome f.body (IsTypedStmt (body_standing program f))) program.functions
-  pub sizes_told : All (λ x. IsOpenArray x → ⊥) program.objects
   pub sizes : All (λ i. IsSomeAnd (slice_get program.objects i.object) (λ x. length i.bytes ≡ x.size)) program.initial
 
 abbrev pub WhatIsLeft : Type 0

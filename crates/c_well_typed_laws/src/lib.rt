@@ -1,10 +1,9 @@
 //! The program of a typed file is well typed, as far as it is proved.
 //!
-//! What holds of all typed files comes together here: the tables of structs, names, labels and gotos, lists of objects,
-//! parameters and results of functions, types of objects, and what initial values point to.
+//! What holds of all typed files comes together here: the tables of structs, names, statements, labels and gotos, lists of
+//! objects, parameters and results of functions, types and sizes of objects, and what initial values point to.
 //!
-//! What is left is a premise: that statements are typed, that no array is left without size, and that an initial value
-//! has as many bytes as its object.
+//! What is left is a premise: that an initial value has as many bytes as its object.
 #![tactic(auto)]
 
 ghost use Rattle.c_well_typed_laws.specs.WhatIsLeft.{WhatIsLeft};

@@ -1,0 +1,5 @@
+pub mod Words
+pub mod Entries
+pub mod Waiting
+pub mod Done
+pub mod FileArrays

@@ -1,0 +1,16 @@
+pub mod Onward
+pub mod Ends
+pub mod Entities
+pub mod States
+pub mod Usable
+pub mod Heads
+pub mod Cases
+pub mod Declared
+pub mod Declarations
+pub mod Statements
+pub mod ParamNames
+pub mod Signatures
+pub mod FileSigned
+pub mod FileEnds
+pub mod Bodies
+pub mod FileBodies

@@ -1,0 +1,12 @@
+-- The bodies of typed functions.
+use Rattle.std.specs.Prelude.{IfSome, All}
+use Rattle.c_written.specs.WrittenFile.{FileTree}
+use Rattle.c_syntax.specs.Program.{TProgramTree}
+use Rattle.c_layout.specs.TypedNodes.{IsTypedStmt}
+use Rattle.c_layout.specs.WellTyped.{body_standing}
+use Rattle.c_typing.specs.File.{TypesFile, Program}
+
+-- each statement of a body has the types that it asks for, and stands where it may (C11 6.8, 6.9.1)
+abbrev pub BodiesAreTyped : Type 0
+BodiesAreTyped =
+    (file : FileTree) (program : TProgramTree) → TypesFile file (Program program) → All (λ f. IfSome f.body (IsTypedStmt (body_standing program f))) program.functions
