@@ -8,14 +8,14 @@ ghost use Rattle.c_typing.specs.Constants as constants;
 ghost use Rattle.c_type_addresses.specs.Views.{address_of};
 
 use crate::moves::{Address, moved, moved_back, moved_forward, static_object};
-use c_syntax::{Objects, TBinaryOp, TExpr, TLvalue};
+use c_syntax::{Object, TBinaryOp, TExpr, TLvalue};
 use c_type_constants::constant_value;
 use c_type_conversions::is_pointer;
 use std::alloc::AllocError as NoMemory;
 
 /// The static address that an expression is, with a constant offset (C11 6.6p9), or `None` where it is none.
 #[cycle(addresses)]
-pub fn static_address(objects: &Objects, e: &TExpr) -> Result<Option<Address>, NoMemory>
+pub fn static_address(objects: &[Object], e: &TExpr) -> Result<Option<Address>, NoMemory>
     ensures { IfOk result (λ address. option_map address_of address ≡ constants.static_address (map object_tree objects.now) (texpr_tree e.now)) }
 {
     match e {
@@ -67,7 +67,7 @@ pub fn static_address(objects: &Objects, e: &TExpr) -> Result<Option<Address>, N
 // An address that an operator moves.
 #[cycle(addresses)]
 fn moved_address(
-    objects: &Objects,
+    objects: &[Object],
     op: TBinaryOp,
     left: &TExpr,
     right: &TExpr,
@@ -102,7 +102,7 @@ fn moved_address(
 
 /// The static address of a place, or `None` where it has none.
 #[cycle(addresses)]
-pub fn static_place(objects: &Objects, place: &TLvalue) -> Result<Option<Address>, NoMemory>
+pub fn static_place(objects: &[Object], place: &TLvalue) -> Result<Option<Address>, NoMemory>
     ensures { IfOk result (λ address. option_map address_of address ≡ constants.static_place (map object_tree objects.now) (tlvalue_tree place.now)) }
 {
     match place {

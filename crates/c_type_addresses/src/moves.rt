@@ -7,7 +7,7 @@ ghost use Rattle.c_typing.specs.Constants as constants;
 ghost use Rattle.c_type_addresses.specs.Distances.{IsDistance};
 ghost use Rattle.c_type_addresses.specs.Views.{address_of};
 
-use c_syntax::Objects;
+use c_syntax::Object;
 
 /// What a static pointer holds.
 #[derive(Clone, Copy, Debug, PartialEq, Eq)]
@@ -19,10 +19,10 @@ pub enum Address {
 }
 
 /// The start of the object of this number, where it has static duration.
-pub(crate) fn static_object(objects: &Objects, n: u64) -> Option<Address>
+pub(crate) fn static_object(objects: &[Object], n: u64) -> Option<Address>
     ensures { option_map address_of result ≡ constants.static_object (map object_tree objects.now) n }
 {
-    match objects.as_slice().get(n as usize) {
+    match objects.get(n as usize) {
         None => None,
         Some(object) => if object.is_static {
             Some(Address::Inside {
@@ -37,7 +37,7 @@ pub(crate) fn static_object(objects: &Objects, n: u64) -> Option<Address>
 
 /// An address that is moved by a distance in bytes, where `None` is one that is too far for any object.
 pub(crate) fn moved(
-    objects: &Objects,
+    objects: &[Object],
     from: Option<Address>,
     distance: Option<i128>,
 ) -> Option<Address>
@@ -52,7 +52,7 @@ pub(crate) fn moved(
 }
 
 // The address at this distance from an offset in an object.
-fn inside(objects: &Objects, n: u64, offset: u64, distance: Option<i128>) -> Option<Address>
+fn inside(objects: &[Object], n: u64, offset: u64, distance: Option<i128>) -> Option<Address>
     ensures { (d : ℤ) → IsDistance distance d
         → option_map address_of result ≡ constants.inside (map object_tree objects.now) n (pos offset +ℤ d) }
 {
@@ -63,10 +63,10 @@ fn inside(objects: &Objects, n: u64, offset: u64, distance: Option<i128>) -> Opt
 }
 
 // The size of the object of this number.
-fn size_of(objects: &Objects, n: u64) -> Option<u64>
+fn size_of(objects: &[Object], n: u64) -> Option<u64>
     ensures { result ≡ option_map (λ object. object.size) (slice_get (map object_tree objects.now) n) }
 {
-    match objects.as_slice().get(n as usize) {
+    match objects.get(n as usize) {
         None => None,
         Some(object) => Some(object.size),
     }
@@ -101,7 +101,7 @@ fn at_distance(size: u64, n: u64, offset: u64, distance: i128) -> Option<Address
 
 /// An address that is moved by a number of elements of this size.
 pub(crate) fn moved_forward(
-    objects: &Objects,
+    objects: &[Object],
     from: Option<Address>,
     element: u64,
     count: Option<i128>,
@@ -117,7 +117,7 @@ pub(crate) fn moved_forward(
 
 /// An address that is moved back by a number of elements of this size.
 pub(crate) fn moved_back(
-    objects: &Objects,
+    objects: &[Object],
     from: Option<Address>,
     element: u64,
     count: Option<i128>,

@@ -1,7 +1,7 @@
 // Each call once.
 #![tactic(auto, using(c_syntax::proofs::Trees::the_trees))]
 
-use c_syntax::{CType, IntType, Name, Object, Objects, Pos, TExpr, TLvalue};
+use c_syntax::{CType, IntType, Name, Object, Pos, TExpr, TLvalue};
 use c_type_addresses::{Address, static_address, static_place};
 use std::alloc::{AllocError, Global};
 use std::test::Fail;
@@ -15,7 +15,7 @@ const AT: Pos = Pos {
 const INT: CType = CType::Int(IntType::Int);
 
 // static int a;
-fn objects(alloc: Global) -> Result<Objects, AllocError> {
+fn objects(alloc: Global) -> Result<Vec<Object>, AllocError> {
     let mut items = Vec::new(alloc);
     items.push(Object {
         name: Name::new(alloc),
@@ -25,7 +25,7 @@ fn objects(alloc: Global) -> Result<Objects, AllocError> {
         read_only: false,
         is_static: true,
     })?;
-    Ok(Objects::from_vec(items))
+    Ok(items)
 }
 
 fn variable() -> TLvalue {
@@ -45,11 +45,11 @@ fn addresses(rt: HostRuntime) -> Result<(), Fail> {
         object: 0,
         offset: 0,
     });
-    assert_eq!(rt; static_place(&objects, &variable())?, start);
+    assert_eq!(rt; static_place(objects.as_slice(), &variable())?, start);
     let address = TExpr::AddressOf {
         pos: AT,
         place: Box::new(alloc, variable())?,
     };
-    assert_eq!(rt; static_address(&objects, &address)?, start);
+    assert_eq!(rt; static_address(objects.as_slice(), &address)?, start);
     Ok(())
 }

@@ -1,0 +1,3 @@
+pub mod LabelForms
+pub mod Finding
+pub mod Words
