@@ -1,2 +1,3 @@
+pub mod CodeTrees
 mod Samples
 mod Kept

@@ -6,3 +6,4 @@ pub mod Meaning
 pub mod Formed
 pub mod Samples
 pub mod Laws
+pub mod Sizes

@@ -50,30 +50,34 @@ fn refused(alloc: Global, error: &TypeError) -> Result<String, AllocError> {
 
 // The letters of a type, from the outermost.
 fn letters(alloc: Global, front: &str, ty: &CType, is_const: bool) -> Result<String, AllocError> {
-    let mut line = String::from_str(alloc, front)?;
     let mut ty = ty;
-    let mut is_const = is_const;
+    let mut line = String::from_str(alloc, front)?;
+    constant(&mut line, is_const)?;
     loop {
-        if is_const {
-            line.push('k')?;
-        }
-        let target = match ty {
+        match ty {
             CType::Pointer(target) => {
                 line.push('p')?;
-                target
+                constant(&mut line, target.is_const)?;
+                ty = &target.ty;
             }
             CType::Array(target, _) => {
                 line.push('a')?;
-                target
+                constant(&mut line, target.is_const)?;
+                ty = &target.ty;
             }
             _ => {
                 line.push(core(ty))?;
                 return Ok(line);
             }
-        };
-        ty = &target.ty;
-        is_const = target.is_const;
+        }
     }
+}
+
+fn constant(line: &mut String, is_const: bool) -> Result<(), AllocError> {
+    if is_const {
+        line.push('k')?;
+    }
+    Ok(())
 }
 
 fn core(ty: &CType) -> char {
