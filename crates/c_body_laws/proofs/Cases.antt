@@ -1,6 +1,6 @@
 -- The cases of a switch: no two are equal, each fits the switch's type, and there is one default at most.
 use Rattle.std.proofs.Common.{◌≡◌, ℕ, ◌+◌, ◌<◌, true, false, List, [], ◌∷◌, ◌++◌, length, get_or, refl, ap, sym, subst, ◌∙◌, arith}
-use Rattle.std.specs.Prelude.{◌≢◌, ℤ, Bool, if◌then◌else◌, is_some, Option, None, Some, option_map, All, AllPairs, map, find}
+use Rattle.std.specs.Prelude.{◌≢◌, ℤ, Bool, if◌then◌else◌, Option, None, Some, option_map, All, AllPairs, map, find}
 use Rattle.std.specs.Ordering.{int_eq}
 use Rattle.std.proofs.lemmas.Bool.{false≢true}
 use Rattle.std.proofs.lemmas.Bool.Decides.{Decides-int_eq}
@@ -12,11 +12,11 @@ use Rattle.c_written.specs.declared.place.Pos.{Pos}
 use Rattle.c_written.specs.declared.int_type.IntType.{IntType}
 use Rattle.c_written.specs.Integer.{wrapped, HasNumber}
 use Rattle.c_written.specs.WrittenFile.{ForStartTree, StmtTree, BlockItemTrees}
-use Rattle.c_syntax.specs.TypedStmt.{TStmtTree, TStmtTrees, Case, Default, Label, none, more}
+use Rattle.c_syntax.specs.TypedStmt.{TStmtTree, TStmtTrees, Case, Default, Label, none}
 use Rattle.c_layout.specs.Jumps.{cases_among, defaults_among}
 use Rattle.c_values.proofs.Settled.{wrapped_is_of}
 use Rattle.c_typing.specs.World.{World, CaseAt}
-use Rattle.c_typing.specs.Names.{opened, closed}
+use Rattle.c_typing.specs.Names.{opened}
 use Rattle.c_typing.specs.Context.{Context}
 use Rattle.c_typing.specs.Decls.{Made, both}
 use Rattle.c_typing.specs.Stmts.{one, case_before}
@@ -25,8 +25,8 @@ use Rattle.c_typing.proofs.Good.{Good}
 use Rattle.c_typing.proofs.Reaches as reaches
 use Rattle.c_typing.proofs.Reaches.{enters}
 use Rattle.c_typing_steps.specs.StmtSteps.{with_label, with_case, with_default, MakesStart, nothing, value, declares, MakesStmt, label, case, default, block, empty, expression, if_alone, if_else, switch_block, switch_one, while, do_while, for, goto, continue, break, return_bare, return_value, MakesItems, no_items, declaration, statement}
-use Rattle.c_typing_steps.proofs.Reached.{good_by, value_reach, may_condition_reach, may_step_reach, start_reach, into_switch, decl_reach, stmt_reach}
-use Rattle.c_typing_steps.proofs.Steady.{Steady, steady_then, still, value_steady, may_condition_steady, may_step_steady, decl_steady}
+use Rattle.c_typing_steps.proofs.Reached.{good_by, value_reach, may_condition_reach, may_step_reach, start_reach, decl_reach, stmt_reach}
+use Rattle.c_typing_steps.proofs.Steady.{Steady, value_steady, may_condition_steady, may_step_steady, decl_steady}
 use Rattle.c_body_laws.proofs.Heads.{case_of, default_of, cases_more, defaults_more, cases_both, defaults_both, head_decl, head_cases, head_defaults}
 
 abbrev pub values_of : List CaseAt → List ℤ

@@ -1,24 +1,22 @@
 -- Declarations in blocks are typed.
-use Rattle.std.proofs.Common.{◌≡◌, ℕ, true, false, List, [], ◌∷◌, ◌++◌, refl, ap, sym, subst, ◌∙◌}
-use Rattle.std.specs.Prelude.{Bool, if◌then◌else◌, is_some, IsTrue, Option, None, Some, IsSomeAnd, All, Contains, map, slice_get}
-use Rattle.std.proofs.lemmas.Bool.{false≢true}
+use Rattle.std.proofs.Common.{◌≡◌, ℕ, true, false, List, [], ◌∷◌, ◌++◌, refl, sym, subst, ◌∙◌}
+use Rattle.std.specs.Prelude.{Bool, if◌then◌else◌, is_some, IsTrue, Option, IsSomeAnd, All, Contains, map, slice_get}
 use Rattle.std.proofs.lemmas.List.Elements.{All-nil, All-head}
 use Rattle.c_written.specs.declared.place.Pos.{Pos}
 use Rattle.c_written.specs.declared.written.StorageWord.{StorageWord}
 use Rattle.c_written.specs.WrittenDecl.{InitTree, InitDeclaratorTree, DeclTree}
-use Rattle.c_syntax.specs.Types.{CTypeTree, ObjectTree}
+use Rattle.c_syntax.specs.Types.{CTypeTree}
 use Rattle.c_syntax.specs.TypedStmt.{TInitTree, TStmtTrees, none, more}
 use Rattle.c_layout.specs.TypedNodes.{Scope, Standing, IsTypedStmt, AreTypedItems, AreTypedInits}
 use Rattle.c_typing.specs.World.{World, Form, Typed}
 use Rattle.c_typing.specs.Formed.{IsFormedForm}
 use Rattle.c_typing.specs.Specifiers.{no_specs_yet, OfDeclaration}
 use Rattle.c_typing.specs.Typing.{first_of}
-use Rattle.c_typing.specs.Declarators.{Shape}
 use Rattle.c_typing.specs.Inits.{Initialised, static_bytes}
 use Rattle.c_typing.specs.Names.{with_initial}
 use Rattle.c_typing.specs.Context.{Context}
 use Rattle.c_typing.specs.Settled.{settled_init, settled_stmt, settled_stmts}
-use Rattle.c_typing.specs.Decls.{Declares, AnObject, NoObject, ObjectNow, Made, nothing_made, both, made_of, made_then, automatic, static_made, with_static, size_or_zero, is_struct_alone}
+use Rattle.c_typing.specs.Decls.{Declares, AnObject, ObjectNow, Made, nothing_made, both, made_of, automatic, static_made, with_static, size_or_zero, is_struct_alone}
 use Rattle.c_typing.proofs.Changes.{Any}
 use Rattle.c_typing.proofs.Good.{Good}
 use Rattle.c_typing.proofs.DeclsGo.{WhatIn}
@@ -27,7 +25,7 @@ use Rattle.c_typing.proofs.Reaches as reaches
 use Rattle.c_typing_steps.specs.DeclSteps as steps
 use Rattle.c_typing_steps.specs.DeclSteps.{MakesSize, as_it_was, by_count, MakesInit, no_object, bare, given, MakesDeclarators, one_more, MakesDecl}
 use Rattle.c_typing_steps.proofs.Outcomes.{TypedAs, typed_from}
-use Rattle.c_typing_steps.proofs.Reached.{step_facts, spec_facts, declarators_reach}
+use Rattle.c_typing_steps.proofs.Reached.{step_facts, spec_facts}
 use Rattle.c_typing_steps.proofs.Steady.{init_calm}
 use Rattle.c_typing_steps.proofs.Scalars.{IsScalarForm, scalar_calm, scalar_specs, told_scalar, scalar_declarator}
 use Rattle.c_typing_steps.proofs.Keeps.{name_scalar, init_scalar}
@@ -38,9 +36,9 @@ use Rattle.c_block_laws.proofs.Grows.{number_of, init_objects}
 use Rattle.c_object_laws.proofs.Objects.{ObjectsIn, name_in}
 use Rattle.c_body_laws.proofs.Onward.{Onward, ArePaired, paired, onward}
 use Rattle.c_body_laws.proofs.Ends.{ends_onward}
-use Rattle.c_body_laws.proofs.Entities.{AreEntities, name_links}
-use Rattle.c_body_laws.proofs.Declared.{IsThere, IsDeclared, name_declared, declared_lives, IsFilled, size_filled, inits_typed, no_inits, behind_reach}
-use Rattle.c_body_laws.proofs.States.{Holds, holds_kept, State}
+use Rattle.c_body_laws.proofs.Declared.{IsThere, IsDeclared, name_declared, declared_lives, size_filled, inits_typed, no_inits, behind_reach}
+use Rattle.c_body_laws.proofs.Sizes.{AreSized, sized_step, sized_calm, name_initial, init_sized}
+use Rattle.c_body_laws.proofs.States.{holds_kept, State}
 use Rattle.c_body_laws.proofs.Usable.{name_usable, names_onward}
 
 abbrev pub settled : Standing → TStmtTrees → TStmtTrees
@@ -134,10 +132,11 @@ init_usable {v = v} {x = x} scope good is (given {u = u} {v = z} {object = objec
 
 -- ---- declarations
 
--- what is typed of the items of a part, and which names may be used behind it
+-- what is typed of the items of a part, which names may be used behind it, and initial values there
 pub record After (standing : Standing) (v : World) (items : TStmtTrees) : Type 0 where
   pub typed : EndsFrom v standing.scope → AreTypedItems standing (settled standing items)
   pub usable : AreUsable v standing.scope
+  pub sized : AreSized standing.scope.program v
 
 pub declarators_objects :
     {around : Context} {first : Pos} {storage : List StorageWord} {base : Form} {w v : World} {done made : Made} {items : List InitDeclaratorTree} (standing : Standing)
@@ -179,12 +178,14 @@ declarators_typed {around = around} {storage = storage} {base = base} {v = last}
       typed = λ ends. typed_both standing done.items made.items (before.typed (ends_onward w x standing.scope s.good s.pair all_reach ends))
           (init_typed standing facts.declared pair2 objects usable there facts.what_in facts.starts both_lives.1 m ends);
       usable = init_usable standing.scope facts.declared facts.what_in m usable;
+      sized = init_sized standing.scope facts.declared pair2 objects usable there facts.what_in m
+          (sized_step standing.scope.program u v facts.good pair facts.declares (name_initial n) (sized_calm standing.scope.program w u s.good s.pair facts.calm before.sized));
     }) r
 
 pub decl_typed :
-    {around : Context} {w v : World} {decl : DeclTree} {made : Made} (standing : Standing) → State w → Lives standing made.objects → AreUsable w standing.scope → MakesDecl w around decl made v
-    → After standing v made.items
-decl_typed {around = around} {w = w} {decl = decl} standing s lives usable d =
+    {around : Context} {w v : World} {decl : DeclTree} {made : Made} (standing : Standing) → State w → Lives standing made.objects → AreUsable w standing.scope → AreSized standing.scope.program w
+    → MakesDecl w around decl made v → After standing v made.items
+decl_typed {around = around} {w = w} {decl = decl} standing s lives usable sized d =
     let facts = spec_facts s.good d in
     let k = holds_kept around.functions around.objects in
     let specs = typed_from (scalar_specs w (is_struct_alone decl.specs decl.inits) no_specs_yet decl.specs s.good s.both.names (All-nil IsScalarForm) (Typed d.specs d.behind) d.types) in
@@ -193,4 +194,8 @@ decl_typed {around = around} {w = w} {decl = decl} standing s lives usable d =
       good = facts.good;
       pair = paired w d.behind facts.reached s.pair;
       both = record { names = scalar_calm w d.behind facts.calm s.both.names; has = k.calm w d.behind s.good facts.calm s.both.has };
-    }) facts.formed base lives (record { typed = λ ends. typed_none standing; usable = usable_after w d.behind standing.scope facts.calm usable }) d.rest
+    }) facts.formed base lives (record {
+      typed = λ ends. typed_none standing;
+      usable = usable_after w d.behind standing.scope facts.calm usable;
+      sized = sized_calm standing.scope.program w d.behind s.good s.pair facts.calm sized;
+    }) d.rest

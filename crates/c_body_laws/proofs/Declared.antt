@@ -1,6 +1,6 @@
 -- The object that a declarator declares, and what its initialiser stores there.
-use Rattle.std.proofs.Common.{◌≡◌, ℕ, zero, suc, true, false, List, [], ◌∷◌, ◌++◌, length, refl, ap, sym, subst, ◌∙◌, inl, inr, ⊎_elim, arith}
-use Rattle.std.specs.Prelude.{◌⊎◌, Bool, ◌==◌, not, ◌&&◌, if◌then◌else◌, is_some, IsTrue, Option, None, Some, IsSomeAnd, option_map, unwrap_or, All, AllPairs, Contains, map, set, slice_get}
+use Rattle.std.proofs.Common.{◌≡◌, ℕ, zero, suc, ◌*◌, true, false, List, [], ◌∷◌, refl, ap, sym, subst, ◌∙◌, inl, inr, ⊎_elim}
+use Rattle.std.specs.Prelude.{◌⊎◌, Bool, ◌==◌, not, ◌&&◌, if◌then◌else◌, IsTrue, Option, None, Some, IsSomeAnd, option_map, unwrap_or, All, AllPairs, Contains, map, set, slice_get}
 use Rattle.std.proofs.lemmas.Bool.{false≢true, and_parts}
 use Rattle.std.proofs.lemmas.List.Elements.{All-nil, All-map, All-weaker, All-head}
 use Rattle.c_written.specs.declared.written.StorageWord.{StorageWord}
@@ -10,10 +10,9 @@ use Rattle.c_syntax.specs.TypedStmt.{TInitTree, Store, Copy}
 use Rattle.c_syntax.specs.Program.{StructDefTree}
 use Rattle.c_layout.specs.Layout.{size_in}
 use Rattle.c_layout.specs.TypedNodes.{Scope, object_type, IsTypedInit, AreApart, AreTypedInits}
-use Rattle.c_typing.specs.World.{World, Form, Object, Linked, Typed}
+use Rattle.c_typing.specs.World.{World, Form, Object, Typed}
 use Rattle.c_typing.specs.Names.{with_initial}
 use Rattle.c_typing.specs.Formed.{IsFormed}
-use Rattle.c_typing.specs.SameTypes.{is_same_truth}
 use Rattle.c_typing.specs.Operands.{is_unsized, complete_size}
 use Rattle.c_typing.specs.Declarators.{DeclaredName, Step}
 use Rattle.c_typing.specs.Context.{Context}
@@ -21,27 +20,28 @@ use Rattle.c_typing.specs.CurrentObject.{frame_of, open_frame}
 use Rattle.c_typing.specs.Inits.{Initialised, TypesInit, whole_part, static_bytes}
 use Rattle.c_typing.specs.Settled.{settled_init}
 use Rattle.c_typing.specs.Laws.{IsLastType, sized}
-use Rattle.c_typing.specs.Decls.{Declares, AnObject, NoObject, ObjectNow, Made, with_sized, sized_object, with_total, with_static, size_or_zero, measured_type, frame_for, made_of, is_same_object, is_object_so, is_read_only, has_initial, file_object_of, composite_type}
+use Rattle.c_typing.specs.Decls.{Declares, AnObject, NoObject, ObjectNow, Made, with_sized, sized_object, with_total, with_static, size_or_zero, measured_type, frame_for, is_object_so, has_initial, file_object_of, composite_type}
 use Rattle.c_typing.proofs.Changes.{Constants, Any}
-use Rattle.c_typing.proofs.Good.{Good}
+use Rattle.c_typing.proofs.Good.{Good, is_later}
+use Rattle.c_typing.proofs.Later.{later_size}
 use Rattle.c_typing.proofs.DeclsGo.{WhatIn, IsMeasured}
 use Rattle.c_typing.proofs.FormsGo.{found_each}
 use Rattle.c_typing.proofs.MadeTables.{get_last, get_set}
 use Rattle.c_typing.proofs.Reaches as reaches
-use Rattle.c_typing.proofs.Reaches.{Reaches, GoesWith, typed_so}
+use Rattle.c_typing.proofs.Reaches.{Reaches, GoesWith, typed_so, kept}
 use Rattle.c_typing_steps.specs.NameSteps.{with_sum, IsFileSize, told, not_told, MakesName, type_name, reserved, first_function, function_again, local, local_open, first_object, first_missing, object_again, missing_again}
-use Rattle.c_typing_steps.specs.DeclSteps.{MakesSize, as_it_was, by_count, MakesInit, no_object, bare, given}
+use Rattle.c_typing_steps.specs.DeclSteps.{MakesSize, as_it_was, by_count, MakesInit}
 use Rattle.c_typing_steps.proofs.NamesMade.{no_size}
 use Rattle.c_typing_steps.proofs.Reached.{good_by}
 use Rattle.c_typing_steps.proofs.Steady.{init_calm}
-use Rattle.c_typing_laws.specs.ExpressionLaws.{AreUsable, EndsAs, EndsFrom}
+use Rattle.c_typing_laws.specs.ExpressionLaws.{AreUsable, EndsFrom}
 use Rattle.c_typing_laws.proofs.Lasts.{last_complete}
-use Rattle.c_block_laws.proofs.Grows.{number_of, init_objects}
+use Rattle.c_block_laws.proofs.Grows.{init_objects}
 use Rattle.c_initialiser_laws.specs.InitLaws.{AreFilled}
 use Rattle.c_initialiser_laws.proofs.Items.{pairs_nil, pairs_cons, pairs_head, pairs_tail}
 use Rattle.c_initialiser_laws.proofs.Whole.{sized_with, open_with}
-use Rattle.c_object_laws.proofs.Objects.{IsOpen, IsWhole, IsObjectIn, ObjectsIn, each_object, formed_sized, was_open}
-use Rattle.c_body_laws.proofs.Onward.{Onward, onward, ArePaired, paired}
+use Rattle.c_object_laws.proofs.Objects.{IsWhole, IsObjectIn, ObjectsIn, each_object, formed_sized, was_open}
+use Rattle.c_body_laws.proofs.Onward.{onward, ArePaired, paired}
 use Rattle.c_body_laws.proofs.Ends.{ends_onward, ends_same}
 use Rattle.c_body_laws.proofs.Entities.{IsEntity, AreEntities}
 use Rattle.c_body_laws.proofs.Usable.{IsListedNow}
@@ -159,7 +159,7 @@ last_is : (v : World) (scope : Scope) (n : ℕ) (x : ObjectTree) → EndsFrom v 
 last_is v scope n x ends e size_is =
     let last = ends.objects n x e in ap (λ o. unwrap_or (option_map (λ y. y.ty) o) Void) last.there ∙ last_complete last.ty size_is
 
-static_same : (w : World) (object : ObjectNow) (ty : CTypeTree) (by : Initialised) (P : World → Type 0) → P w → P (with_initial w object.number (static_bytes w.objects (size_or_zero w ty) by.items)) → P (with_static w object ty by)
+pub static_same : (w : World) (object : ObjectNow) (ty : CTypeTree) (by : Initialised) (P : World → Type 0) → P w → P (with_initial w object.number (static_bytes w.objects (size_or_zero w ty) by.items)) → P (with_static w object ty by)
 static_same w object ty by P p q = at object.is_static
   where
     at : (b : Bool) → P (if b then with_initial w object.number (static_bytes w.objects (size_or_zero w ty) by.items) else w)
@@ -255,7 +255,7 @@ size_filled {v = v} {u = u} {object = object} init {by = by} scope good pair obj
 static_reach : (w : World) (object : ObjectNow) (ty : CTypeTree) (by : Initialised) → Reaches Any w (with_static w object ty by)
 static_reach w object ty by = static_same w object ty by (Reaches Any w) (reaches.stays w) (reaches.initial w object.number _)
 
-size_reach : {v u x : World} {object : ObjectNow} {by : Initialised} {ty : CTypeTree} → Reaches Constants v u → WhatIn (AnObject object) v → MakesSize u object by ty x → Reaches Any u x
+pub size_reach : {v u x : World} {object : ObjectNow} {by : Initialised} {ty : CTypeTree} → Reaches Constants v u → WhatIn (AnObject object) v → MakesSize u object by ty x → Reaches Any u x
 unfolding measured_world
 size_reach {u = u} r what (as_it_was m) = reaches.stays u
 size_reach {v = v} {u = u} {object = object} {by = by} r what (by_count m c k) = measured_reach v u object by.count r (what m)
@@ -288,3 +288,22 @@ inits_typed scope object ty items f = record {
 
 pub no_inits : (scope : Scope) (n : ℕ) → AreTypedInits scope n []
 no_inits scope n = record { typed = All-nil (IsTypedInit scope (object_type scope.program n)); apart = pairs_nil (AreApart scope.program.structs) }
+
+-- ---- sizes
+
+-- the type behind the initialiser has a size
+pub ty_sized :
+    {v u x : World} {object : ObjectNow} (init : InitTree) {by : Initialised} {ty : CTypeTree} → Good v → ObjectsIn v → IsThere v true object → WhatIn (AnObject object) v
+    → TypesInit v object.is_static object.ty (frame_for v object) init (Typed by u) → MakesSize u object by ty x → (size : ℕ) × (size_in x.structs ty ≡ Some size)
+ty_sized {v = v} {u = u} {object = object} init {by = by} good objects there what t (as_it_was m) =
+    let r = init_calm object init by good t in
+    let k = kept v u r good in
+    let is = whole_of v object there.own there.ty (there.told_size m refl) (each_object (IsObjectIn v.structs) v.objects object.number there.own objects there.there) in
+    (there.own.size, later_size v.structs u.structs (is_later v u good k.good k.frame) object.ty there.own.size is.sized)
+ty_sized {v = v} {u = u} {object = object} init {by = by} good objects there what t (by_count m c f) =
+    let r = init_calm object init by good t in
+    let k = kept v u r good in
+    let measured = what m in
+    let before = open_of v object there.own measured there.ty (each_object (IsObjectIn v.structs) v.objects object.number there.own objects there.there) in
+    let element = later_size v.structs u.structs (is_later v u good k.good k.frame) measured.of before.1 before.2 in
+    (by.count * before.1, ap (size_in u.structs) (measured_is object v by.count measured) ∙ ap (option_map (λ s. by.count * s)) element)

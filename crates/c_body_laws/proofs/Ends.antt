@@ -1,8 +1,8 @@
 -- The program at the end of the file, as it is seen from worlds before.
-use Rattle.std.proofs.Common.{◌≡◌, ℕ, ◌<◌, List, [], length, refl, ap, sym, subst, ◌∙◌, arith}
-use Rattle.std.specs.Prelude.{Option, None, Some, option_map, unwrap_or, All, slice_get}
-use Rattle.std.proofs.lemmas.Option.{same_Some, slice_get_within}
-use Rattle.c_syntax.specs.Types.{CTypeTree, Void, ObjectTree}
+use Rattle.std.proofs.Common.{◌≡◌, ℕ, List, [], ap, sym, subst, ◌∙◌, arith}
+use Rattle.std.specs.Prelude.{Some, option_map, unwrap_or, All, slice_get}
+use Rattle.std.proofs.lemmas.Option.{slice_get_within}
+use Rattle.c_syntax.specs.Types.{Void}
 use Rattle.c_syntax.specs.Program.{TFunctionTree}
 use Rattle.c_layout.specs.ProperTypes.{IsProperType}
 use Rattle.c_layout.specs.TypedNodes.{Scope}
@@ -13,7 +13,7 @@ use Rattle.c_typing.proofs.Changes.{Changes}
 use Rattle.c_typing.proofs.Good.{Good, is_later}
 use Rattle.c_typing.proofs.Reaches.{Reaches, kept}
 use Rattle.c_typing_laws.specs.NodeLaws.{IsCallable}
-use Rattle.c_typing_laws.specs.ExpressionLaws.{EndsAs, EndsFrom}
+use Rattle.c_typing_laws.specs.ExpressionLaws.{EndsFrom}
 use Rattle.c_typing_laws.proofs.WholeExpressions.{later_then}
 use Rattle.c_initialiser_laws.proofs.Frames.{get_some}
 use Rattle.c_body_laws.proofs.Onward.{Onward, onward, last_then, ArePaired}
@@ -81,4 +81,22 @@ ends_same v u scope s o f g ends = record {
   functions = λ n h e.
       callable_then u v scope n (ap (λ l. unwrap_or (option_map (λ x. x.result) (slice_get l n)) Void) (sym f)) (ap (λ l. unwrap_or (slice_get l n) []) (sym g))
       (ends.functions n h (ap (λ l. slice_get l n) f ∙ e));
+}
+
+-- so it does where structs are the same
+pub ends_still : (u v : World) (scope : Scope) → ArePaired u → v.structs ≡ u.structs → Onward u v → EndsFrom v scope → EndsFrom u scope
+ends_still u v scope pair s on ends = record {
+  structs = subst (λ structs. IsLater structs scope.program.structs) s ends.structs;
+  table = ends.table;
+  objects = λ n x e.
+      let y = on.objects n x e in
+      let last = ends.objects n y.0 y.1 in record {
+        object = last.object;
+        there = last.there;
+        typed = last.typed;
+        ty = last_then y.2.ty last.ty;
+        read_only = last.read_only ∙ sym y.2.read_only;
+        is_static = last.is_static ∙ sym y.2.is_static;
+      };
+  functions = λ n f e. callable_before u v scope pair on ends n f e;
 }

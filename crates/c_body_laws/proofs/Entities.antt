@@ -1,5 +1,5 @@
 -- What a name of the file is linked to stands in the program: an object of static duration, or a function.
-use Rattle.std.proofs.Common.{◌≡◌, ℕ, true, false, List, [], ◌∷◌, ◌++◌, length, refl, ap, sym, subst, ◌∙◌}
+use Rattle.std.proofs.Common.{◌≡◌, ℕ, true, false, List, [], ◌∷◌, ◌++◌, refl, ap, sym, subst, ◌∙◌}
 use Rattle.std.specs.Prelude.{Bool, ◌&&◌, if◌then◌else◌, IsTrue, IsSome, is_some, Option, None, Some, IsSomeAnd, All, map, slice_get, bytes_eq}
 use Rattle.std.proofs.lemmas.Bool.{false≢true}
 use Rattle.std.proofs.lemmas.List.Elements.{All-push, All-weaker, All-map}
@@ -13,9 +13,7 @@ use Rattle.c_typing.specs.Declarators.{DeclaredName, ParameterTree, Step}
 use Rattle.c_typing.specs.Context.{Context, has_name}
 use Rattle.c_typing.specs.Inits.{Initialised, static_bytes}
 use Rattle.c_typing.specs.Decls.{Declares, ObjectNow, Made, new_function, with_static, size_or_zero, defined_if, missing_if, file_object_of}
-use Rattle.c_typing.proofs.Changes.{Constants, Any}
 use Rattle.c_typing.proofs.MadeTables.{get_last}
-use Rattle.c_typing.proofs.Reaches.{Reaches}
 use Rattle.c_typing_steps.specs.NameSteps.{MakesName, type_name, reserved, first_function, function_again, local, local_open, first_object, first_missing, object_again, missing_again}
 use Rattle.c_typing_steps.specs.DeclSteps.{MakesSize, as_it_was, by_count, MakesInit, no_object, bare, given}
 use Rattle.c_typing_steps.proofs.Calm.{calm}

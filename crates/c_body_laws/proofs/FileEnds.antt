@@ -1,25 +1,25 @@
 -- The program at the end of a file goes on from the last world of it.
-use Rattle.std.proofs.Common.{◌≡◌, ℕ, ◌≤◌, false, List, [], ◌∷◌, ◌++◌, length, refl, ap, sym, subst, ◌∙◌, ⊎_elim, arith}
-use Rattle.std.specs.Prelude.{◌⊎◌, Option, None, Some, IsSomeAnd, option_map, unwrap_or, All, flat_map, map, slice_get}
+use Rattle.std.proofs.Common.{◌≡◌, ℕ, false, List, [], ◌∷◌, refl, ap, sym, subst, ◌∙◌, ⊎_elim, arith}
+use Rattle.std.specs.Prelude.{◌⊎◌, Option, None, Some, IsSomeAnd, option_map, unwrap_or, All, map, slice_get}
 use Rattle.std.proofs.lemmas.Bool.{false≢true}
-use Rattle.std.proofs.lemmas.Option.{same_Some, none-some, slice_get-map}
+use Rattle.std.proofs.lemmas.Option.{same_Some, slice_get-map}
 use Rattle.std.proofs.lemmas.List.Elements.{All-nil, All-cons, All-head, All-tail, All-weaker}
 use Rattle.c_written.specs.WrittenFile.{FileTree}
-use Rattle.c_syntax.specs.Types.{CTypeTree, Void, ObjectTree}
+use Rattle.c_syntax.specs.Types.{Void, ObjectTree}
 use Rattle.c_syntax.specs.Program.{TFunctionTree}
 use Rattle.c_layout.specs.ProperTypes.{IsProperType}
 use Rattle.c_layout.specs.WellTyped.{IsTypedObject}
 use Rattle.c_layout.specs.TypedNodes.{Scope}
-use Rattle.c_typing.specs.World.{World, Typed}
+use Rattle.c_typing.specs.World.{World}
 use Rattle.c_typing.specs.Context.{file_context}
-use Rattle.c_typing.specs.Nodes.{params_of, result_of}
+use Rattle.c_typing.specs.Nodes.{result_of}
 use Rattle.c_typing.specs.Operands.{is_unsized}
 use Rattle.c_typing.specs.Settled.{settled_function}
 use Rattle.c_typing.specs.Laws.{same}
 use Rattle.c_typing.specs.Later.{IsLater}
-use Rattle.c_typing.specs.File.{TypesFile, TypesOuters, Program, nothing_yet, program_of}
+use Rattle.c_typing.specs.File.{TypesFile, Program, program_of}
 use Rattle.c_typing.proofs.Good.{Good}
-use Rattle.c_typing.proofs.SoundTables.{typed_table, proper}
+use Rattle.c_typing.proofs.SoundTables.{typed_table}
 use Rattle.c_typing_laws.specs.NodeLaws.{IsCallable}
 use Rattle.c_typing_laws.specs.ExpressionLaws.{EndsFrom}
 use Rattle.c_array_laws.proofs.Entries.{each}

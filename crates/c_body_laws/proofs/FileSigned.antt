@@ -1,15 +1,13 @@
 -- The functions of a file have parameters of the types that they are called with.
-use Rattle.std.proofs.Common.{◌≡◌, ℕ, zero, suc, ◌+◌, true, false, List, [], ◌∷◌, ◌++◌, length, refl, ap, sym, subst, ◌∙◌, inl, inr, ⊎_elim, arith}
-use Rattle.std.specs.Prelude.{◌⊎◌, Bool, ◌&&◌, not, ◌==◌, if◌then◌else◌, IsSome, is_some, Option, None, Some, option_map, unwrap_or, All, find, flat_map, map, set, slice_get, bytes_eq}
+use Rattle.std.proofs.Common.{◌≡◌, ℕ, ◌+◌, true, false, List, [], ◌∷◌, ◌++◌, length, refl, ap, sym, subst, ◌∙◌, inl, inr, ⊎_elim}
+use Rattle.std.specs.Prelude.{◌⊎◌, Bool, ◌&&◌, ◌==◌, if◌then◌else◌, is_some, Option, None, Some, option_map, unwrap_or, All, find, flat_map, map, set, slice_get, bytes_eq}
 use Rattle.std.proofs.lemmas.Bool.{false≢true, and_parts, eqb-true, eqb-false}
 use Rattle.std.proofs.lemmas.Option.{same_Some, none-some}
 use Rattle.std.proofs.lemmas.List.{append-nil, append_assoc, length_push, length-set}
 use Rattle.std.proofs.lemmas.List.Elements.{All-nil, All-cons, All-append, All-weaker}
 use Rattle.c_written.specs.declared.place.Pos.{Pos}
 use Rattle.c_written.specs.declared.written.StorageWord.{StorageWord}
-use Rattle.c_written.specs.WrittenDecl.{InitTree}
 use Rattle.c_written.specs.WrittenFile.{OuterTree}
-use Rattle.c_written.specs.WrittenFile as files
 use Rattle.c_syntax.specs.Types.{CTypeTree, Void}
 use Rattle.c_syntax.specs.declared.statement.BlockKind.TheVariants as kinds
 use Rattle.c_syntax.specs.TypedStmt.{Block}
@@ -19,29 +17,27 @@ use Rattle.c_typing.specs.World.{World, Form, Callable, Typed, Binding, TagBindi
 use Rattle.c_typing.specs.Names.{closed, with_name}
 use Rattle.c_typing.specs.Nodes.{params_of}
 use Rattle.c_typing.specs.SameTypes.{is_same, are_same}
-use Rattle.c_typing.specs.Formed.{IsFormedForm}
 use Rattle.c_typing.specs.Declarators.{DeclaredName, ParameterTree, Step, laid, types_of_params}
 use Rattle.c_typing.specs.Context.{Context, has_name, functions_defined_by, to_names, name_in}
 use Rattle.c_typing.specs.Decls.{Declares, Made, new_function, parameter_object, numbers_from, number_of, is_function_so, file_object_of, defined_if, missing_if}
 use Rattle.c_typing.specs.Laws.{IsSameObject, IsSameFunction}
 use Rattle.c_typing.specs.File.{Begun, in_body, with_object_meaning, with_function_at, defined_function, with_body, definition_ends, nothing_yet}
-use Rattle.c_typing.proofs.Changes.{Constants, Any}
-use Rattle.c_typing.proofs.FormsGo.{AreFormedSteps, found_each}
+use Rattle.c_typing.proofs.Changes.{Constants}
+use Rattle.c_typing.proofs.FormsGo.{found_each}
 use Rattle.c_typing.proofs.Good.{Good}
 use Rattle.c_typing.proofs.MadeTables.{get_append, get_last, get_set, get_other}
 use Rattle.c_typing.proofs.Reaches as reaches
 use Rattle.c_typing.proofs.Reaches.{Reaches, quiet}
 use Rattle.c_typing.proofs.Same.{one_type}
 use Rattle.c_typing_steps.specs.NameSteps.{MakesFunction, new_name, known_name, MakesName, type_name, reserved, first_function, function_again, local, local_open, first_object, first_missing, object_again, missing_again}
-use Rattle.c_typing_steps.specs.DeclSteps.{MakesInit}
 use Rattle.c_typing_steps.specs.FileSteps as outers
 use Rattle.c_typing_steps.specs.FileSteps.{counted, MakesHead, head, MakesOuter, MakesOuters, no_more, and_then}
 use Rattle.c_typing_steps.proofs.Calm.{calm}
 use Rattle.c_typing_steps.proofs.Reached.{good_by, head_facts, outer_reach}
-use Rattle.c_typing_steps.proofs.Scalars.{IsScalarForm, AreScalarSteps, ScalarNames}
+use Rattle.c_typing_steps.proofs.Scalars.{AreScalarSteps, ScalarNames}
 use Rattle.c_typing_steps.proofs.Keeps.{IsKept, the_same, decl_keeps, items_keep}
 use Rattle.c_typing_steps.proofs.FileKeeps.{head_scalar, body_scalar, outer_scalar}
-use Rattle.c_array_laws.proofs.Entries.{own_bytes, found_more, found_last, found_mapped, name_if, has_in, set_or, split_all}
+use Rattle.c_array_laws.proofs.Entries.{own_bytes, found_more, found_last, found_mapped, name_if, has_in, set_or}
 use Rattle.c_block_laws.proofs.Covers.{named_is}
 use Rattle.c_block_laws.proofs.FileLists.{changed_at}
 use Rattle.c_function_laws.proofs.Params.{HasScalar, numbers_scalar, given_scalar}
@@ -164,9 +160,11 @@ changed_matched w n change same k m = by (slice_get w.functions n) refl
   where
     there : (g : TFunctionTree) → slice_get w.functions n ≡ Some g → (b : Bool) → (k == n) ≡ b → (h : TFunctionTree) × (slice_get (set w.functions n (change g)) k ≡ Some h) × (h.params ≡ m.function.params)
     there g e true q =
-        let at = eqb-true k n q in
-        (change g, ap (slice_get (set w.functions n (change g))) at ∙ get_set w.functions n g (change g) e,
-          same g ∙ ap (λ x. x.params) (same_Some g m.function (sym e ∙ ap (slice_get w.functions) (sym at) ∙ m.there)))
+        let at = eqb-true k n q in (
+          change g,
+          ap (slice_get (set w.functions n (change g))) at ∙ get_set w.functions n g (change g) e,
+          same g ∙ ap (λ x. x.params) (same_Some g m.function (sym e ∙ ap (slice_get w.functions) (sym at) ∙ m.there)),
+        )
     there g e false q = (m.function, get_other w.functions n k (change g) (eqb-false k n q) ∙ m.there, refl)
 
     by : (o : Option TFunctionTree) → slice_get w.functions n ≡ o → IsMatched (record w { functions = unwrap_or (option_map (λ f. set w.functions n (change f)) o) w.functions }) k

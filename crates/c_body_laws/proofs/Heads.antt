@@ -8,7 +8,7 @@ use Rattle.c_written.specs.WrittenDecl.{InitTree, InitDeclaratorTree, DeclTree}
 use Rattle.c_syntax.specs.Types.{ObjectTree}
 use Rattle.c_syntax.specs.TypedStmt.{TInitTree, TStmtTree, TStmtTrees, Empty, Expr, Block, Declare, Static, If, While, DoWhile, For, Switch, Break, Continue, Goto, Return, Label, Case, Default, none, more}
 use Rattle.c_layout.specs.Jumps.{cases_among, defaults_among}
-use Rattle.c_layout.specs.TypedNodes.{IsHead, AreHead}
+use Rattle.c_layout.specs.TypedNodes.{AreHead}
 use Rattle.c_typing.specs.World.{World, Form}
 use Rattle.c_typing.specs.Context.{Context}
 use Rattle.c_typing.specs.Settled.{settled_stmt, settled_stmts}

@@ -14,3 +14,4 @@ pub mod FileSigned
 pub mod FileEnds
 pub mod Bodies
 pub mod FileBodies
+pub mod Sizes

@@ -1,10 +1,9 @@
 -- The parameters of a function have the types that it is called with.
-use Rattle.std.proofs.Common.{◌≡◌, ℕ, zero, suc, ◌+◌, ◌<◌, true, false, List, [], ◌∷◌, ◌++◌, length, refl, ap, sym, subst, ◌∙◌, inl, inr, ⊎_elim, arith}
-use Rattle.std.specs.Prelude.{◌⊎◌, Bool, ◌&&◌, not, if◌then◌else◌, is_some, Option, None, Some, IsSomeAnd, option_map, unwrap_or, All, find, map, set, slice_get, bytes_eq}
-use Rattle.std.proofs.lemmas.Bool.{false≢true, and_parts}
-use Rattle.std.proofs.lemmas.Option.{same_Some, none-some, slice_get_within}
+use Rattle.std.proofs.Common.{◌≡◌, ℕ, ◌+◌, true, false, List, [], ◌∷◌, ◌++◌, length, refl, ap, sym, subst, ◌∙◌, inl, inr, ⊎_elim, arith}
+use Rattle.std.specs.Prelude.{◌⊎◌, Bool, ◌&&◌, if◌then◌else◌, Option, None, Some, IsSomeAnd, option_map, unwrap_or, All, find, map, slice_get, bytes_eq}
+use Rattle.std.proofs.lemmas.Option.{same_Some, slice_get_within}
 use Rattle.std.proofs.lemmas.List.{append_assoc, length_push}
-use Rattle.std.proofs.lemmas.List.Elements.{All-nil, All-weaker, All-head, All-tail}
+use Rattle.std.proofs.lemmas.List.Elements.{All-weaker, All-head, All-tail}
 use Rattle.c_written.specs.declared.written.StorageWord.{StorageWord}
 use Rattle.c_written.specs.WrittenDecl.{InitTree}
 use Rattle.c_syntax.specs.Types.{CTypeTree, Void, Int, Pointer, Array, Struct, Function, ObjectTree}
@@ -14,19 +13,17 @@ use Rattle.c_typing.specs.World.{World, Form, Plain, Unsized, Callable, Meaning,
 use Rattle.c_typing.specs.World as world
 use Rattle.c_typing.specs.Names.{with_initial}
 use Rattle.c_typing.specs.Nodes.{params_of}
-use Rattle.c_typing.specs.SameTypes.{is_same, are_same}
 use Rattle.c_typing.specs.Operands.{is_unsized}
 use Rattle.c_typing.specs.Formed.{IsFormedForm}
 use Rattle.c_typing.specs.Declarators.{DeclaredName, ParameterTree, Step, PointerTo, ArrayOf, OpenArray, FunctionOf, laid, after_step, result_form, types_of_params}
 use Rattle.c_typing.specs.Context.{Context, has_name}
 use Rattle.c_typing.specs.Inits.{Initialised, static_bytes}
-use Rattle.c_typing.specs.Decls.{Declares, ObjectNow, Made, new_function, parameters_of, parameter_object, numbers_from, with_static, size_or_zero, is_function_so, file_object_of, defined_if, missing_if}
-use Rattle.c_typing.proofs.Changes.{Constants, Any}
+use Rattle.c_typing.specs.Decls.{Declares, ObjectNow, Made, new_function, parameters_of, parameter_object, numbers_from, with_static, size_or_zero, file_object_of, defined_if, missing_if}
+use Rattle.c_typing.proofs.Changes.{Constants}
 use Rattle.c_typing.proofs.FormsGo.{AreFormedSteps}
 use Rattle.c_typing.proofs.Good.{Good}
 use Rattle.c_typing.proofs.MadeTables.{get_append, get_last}
 use Rattle.c_typing.proofs.Reaches.{Reaches, quiet}
-use Rattle.c_typing.proofs.Same.{one_type}
 use Rattle.c_typing_steps.specs.NameSteps.{MakesName, type_name, reserved, first_function, function_again, local, local_open, first_object, first_missing, object_again, missing_again}
 use Rattle.c_typing_steps.specs.DeclSteps.{MakesSize, as_it_was, by_count, MakesInit, no_object, bare, given}
 use Rattle.c_typing_steps.proofs.Calm.{calm}
@@ -58,9 +55,10 @@ scalar_kept w v on o h = by (slice_get w.objects o) refl h
     by None e s = absurd s
     by (Some x) e s =
         let y = on.objects o x e in
-        let same = last_complete y.2.ty (scalar_told x.ty s) in
-        (ap (λ z. unwrap_or (option_map (λ k. k.ty) z) Void) y.1 ∙ same ∙ ap (λ z. unwrap_or (option_map (λ k. k.ty) z) Void) (sym e),
-          subst (λ z. IsSomeAnd z (λ k. IsScalar k.ty)) (sym y.1) (subst IsScalar (sym same) s))
+        let same = last_complete y.2.ty (scalar_told x.ty s) in (
+          ap (λ z. unwrap_or (option_map (λ k. k.ty) z) Void) y.1 ∙ same ∙ ap (λ z. unwrap_or (option_map (λ k. k.ty) z) Void) (sym e),
+          subst (λ z. IsSomeAnd z (λ k. IsScalar k.ty)) (sym y.1) (subst IsScalar (sym same) s),
+        )
 
 map_same : {A B : Type 0} (f g : A → B) (xs : List A) → All (λ x. f x ≡ g x) xs → map f xs ≡ map g xs
 map_same f g [] all = refl

@@ -1,18 +1,19 @@
 -- Statements are typed.
-use Rattle.std.proofs.Common.{◌≡◌, ℕ, ◌+◌, ◌≤◌, true, false, List, [], ◌∷◌, ◌++◌, refl, ap, sym, subst, ◌∙◌, arith}
-use Rattle.std.specs.Prelude.{ℤ, Bool, IsTrue, Option, None, Some, option_map, IfSome, All, Contains}
-use Rattle.std.proofs.lemmas.Option.{none-some, same_Some}
+use Rattle.std.proofs.Common.{◌≡◌, ℕ, ◌≤◌, true, false, List, [], ◌++◌, refl, ap, sym, subst, ◌∙◌, arith}
+use Rattle.std.specs.Prelude.{ℤ, IsTrue, Option, None, Some, option_map, IfSome, All, Contains}
+use Rattle.std.proofs.lemmas.Option.{none-some}
 use Rattle.std.proofs.lemmas.List.Elements.{All-weaker, All-contains_itself, Contains-append_left}
 use Rattle.c_written.specs.declared.place.Pos.{Pos}
 use Rattle.c_written.specs.declared.int_type.IntType.{IntType}
 use Rattle.c_written.specs.Integer.{HasNumber}
 use Rattle.c_written.specs.Written as written
 use Rattle.c_written.specs.WrittenFile.{ForStartTree, StmtTree, BlockItemTrees}
-use Rattle.c_syntax.specs.Types.{CTypeTree, Void, Int, ObjectTree}
+use Rattle.c_syntax.specs.Types.{Int}
 use Rattle.c_syntax.specs.TypedExpr.{TExprTree}
 use Rattle.c_syntax.specs.TypedParts.{texpr_type}
 use Rattle.c_syntax.specs.GivenType.{given_type}
-use Rattle.c_syntax.specs.TypedStmt.{TStmtTree, TStmtTrees, Block, none, more}
+use Rattle.c_syntax.specs.TypedStmt.{TStmtTree, TStmtTrees}
+use Rattle.c_syntax.specs.Program.{TProgramTree}
 use Rattle.c_layout.specs.Conversion.{promoted}
 use Rattle.c_layout.specs.Jumps.{cases_among, defaults_among}
 use Rattle.c_layout.specs.ProperTypes.{IsProperType}
@@ -20,19 +21,17 @@ use Rattle.c_layout.specs.RowTypes.{IsPromoted}
 use Rattle.c_layout.specs.TypedNodes.{Scope, Standing, in_block, in_switch, in_loop, IsTypedExpr, IsTypedCondition, AreHead, SwitchRow, ReturnRow, IsTypedStmt, AreTypedItems}
 use Rattle.c_typing.specs.World.{World, Typed}
 use Rattle.c_typing.specs.Names.{opened, closed}
-use Rattle.c_typing.specs.Operands.{not_used, as_int}
 use Rattle.c_typing.specs.Rows.{store_row}
-use Rattle.c_typing.specs.Typing.{Types, Valued}
 use Rattle.c_typing.specs.Context.{Context, inside_block, inside_loop, inside_switch}
 use Rattle.c_typing.specs.Settled.{settled_expr, settled_stmt, settled_stmts}
-use Rattle.c_typing.specs.Decls.{Made, nothing_made, both}
+use Rattle.c_typing.specs.Decls.{Made}
 use Rattle.c_typing.specs.Stmts.{Switched, one, without_cases}
 use Rattle.c_typing.proofs.Changes.{Constants, Any}
 use Rattle.c_typing.proofs.Good.{Good}
 use Rattle.c_typing.proofs.Reaches as reaches
 use Rattle.c_typing.proofs.Reaches.{Reaches, GoesWith, typed_so, enters}
 use Rattle.c_typing_steps.specs.StmtSteps.{IsValue, IsCondition, MayCondition, no_condition, a_condition, MayStep, no_step, a_step, IsSwitched, MakesStart, nothing, value, declares, MakesStmt, label, case, default, block, empty, expression, if_alone, if_else, switch_block, switch_one, while, do_while, for, goto, continue, break, return_bare, return_value, MakesItems, no_items, declaration, statement}
-use Rattle.c_typing_steps.proofs.Reached.{value_reach, may_condition_reach, may_step_reach, start_reach, into_switch, decl_reach, stmt_reach, items_reach}
+use Rattle.c_typing_steps.proofs.Reached.{value_reach, may_condition_reach, may_step_reach, start_reach, decl_reach, stmt_reach, items_reach}
 use Rattle.c_typing_laws.specs.TypedValues.{IsTypedValue, last_expr}
 use Rattle.c_typing_laws.specs.ExpressionLaws.{AreUsable, EndsFrom}
 use Rattle.c_typing_laws.proofs.WholeExpressions as whole
@@ -46,10 +45,11 @@ use Rattle.c_initialiser_laws.proofs.Items.{pairs_nil}
 use Rattle.c_body_laws.proofs.Onward.{onward}
 use Rattle.c_body_laws.proofs.Ends.{ends_onward, ends_live, ends_same}
 use Rattle.c_body_laws.proofs.States.{State, state_value, state_condition, state_step, state_start, state_decl, state_stmt, state_labelled, state_cased, state_opened, state_closed}
+use Rattle.c_body_laws.proofs.Sizes.{AreSized, sized_same, sized_calm}
 use Rattle.c_body_laws.proofs.Usable.{usable_shut, usable_inside}
-use Rattle.c_body_laws.proofs.Heads.{head_none, head_decl, head_settled, cases_settled, defaults_settled}
-use Rattle.c_body_laws.proofs.Cases.{Cased, CasedItems, Distinct, values_of, count_default, stmt_cased, items_cased}
-use Rattle.c_body_laws.proofs.Declarations.{settled, Lives, lives_split, typed_none, typed_both, After, decl_typed}
+use Rattle.c_body_laws.proofs.Heads.{head_decl, head_settled, cases_settled, defaults_settled}
+use Rattle.c_body_laws.proofs.Cases.{Cased, Distinct, values_of, count_default, stmt_cased, items_cased}
+use Rattle.c_body_laws.proofs.Declarations.{settled, Lives, lives_split, typed_both, After, decl_typed}
 
 -- what may stand here may stand there
 pub record Fits (around : Context) (standing : Standing) : Type 0 where
@@ -105,6 +105,23 @@ may_step_usable : {w v : World} {e : Option written.ExprTree} {x : Option TExprT
 may_step_usable scope good u no_step = u
 may_step_usable scope good u (a_step q) = value_usable scope good u q
 
+-- ---- initial values
+
+value_sized : {w v : World} {e : written.ExprTree} {x : TExprTree} (program : TProgramTree) → State w → IsValue w e x v → AreSized program w → AreSized program v
+value_sized {w} {v} program st q z = sized_calm program w v st.good st.pair (value_reach st.good q) z
+
+may_condition_sized : {w v : World} {e : Option written.ExprTree} {x : Option TExprTree} (program : TProgramTree) → State w → MayCondition w e x v → AreSized program w → AreSized program v
+may_condition_sized program st no_condition z = z
+may_condition_sized program st (a_condition q) z = value_sized program st q.value z
+
+may_step_sized : {w v : World} {e : Option written.ExprTree} {x : Option TExprTree} (program : TProgramTree) → State w → MayStep w e x v → AreSized program w → AreSized program v
+may_step_sized program st no_step z = z
+may_step_sized program st (a_step q) z = value_sized program st q z
+
+-- with other labels, cases and scopes
+moved : (standing : Standing) (w v : World) → v.structs ≡ w.structs → v.objects ≡ w.objects → v.functions ≡ w.functions → v.signatures ≡ w.signatures → v.initial ≡ w.initial → AreSized standing.scope.program w → AreSized standing.scope.program v
+moved standing w v s o f g i z = sized_same standing.scope.program w v s o f g i z
+
 -- ---- the program at the end, from inside a scope
 
 ends_scope : {u v : World} (scope : Scope) → State u → Reaches Any (opened u) v → EndsFrom v scope → EndsFrom u scope
@@ -141,9 +158,10 @@ switch_facts {w = w} {v = v} {values = values} c cases default_none =
 
 switch_value : {w v : World} {e : written.ExprTree} {s : Switched} (scope : Scope) → Good w → AreUsable w scope → IsSwitched w e s v → EndsFrom v scope → IsTypedValue scope s.value × (texpr_type s.value ≡ Int s.ty)
 switch_value {s = s} scope good u q ends =
-    let t = value_typed scope good u q.value ends in
-    (subst (IsTypedValue scope) (sym (ap (λ z. z.value) q.is)) (as_int_value scope (promoted q.own) q.own q.operand t q.integer),
-      ap (λ z. texpr_type z.value) q.is ∙ as_int_type (promoted q.own) q.own q.operand q.integer ∙ ap (λ z. Int z.ty) (sym q.is))
+    let t = value_typed scope good u q.value ends in (
+      subst (IsTypedValue scope) (sym (ap (λ z. z.value) q.is)) (as_int_value scope (promoted q.own) q.own q.operand t q.integer),
+      ap (λ z. texpr_type z.value) q.is ∙ as_int_type (promoted q.own) q.own q.operand q.integer ∙ ap (λ z. Int z.ty) (sym q.is),
+    )
 
 switch_row :
     (around : Context) {w v x y : World} {e : written.ExprTree} {s : Switched} {values : List ℤ} {defaults : ℕ} (scope : Scope) (items : TStmtTrees) → IsSwitched x e s y → IsTypedValue scope s.value → texpr_type s.value ≡ Int s.ty
@@ -168,13 +186,13 @@ unfolding IsTypedStmt AreTypedItems settled_stmt settled_stmts
 only standing s t = (t, tt)
 
 start_typed :
-    {w v : World} {around : Context} {s : ForStartTree} {made : Made} (standing : Standing) → State w → AreUsable w standing.scope → Lives standing made.objects → MakesStart w around s made v
+    {w v : World} {around : Context} {s : ForStartTree} {made : Made} (standing : Standing) → State w → AreUsable w standing.scope → AreSized standing.scope.program w → Lives standing made.objects → MakesStart w around s made v
     → After standing v made.items × AreHead made.items
 unfolding IsTypedStmt AreTypedItems settled_stmt settled_stmts AreHead
-start_typed standing st u lives nothing = (record { typed = λ ends. tt; usable = u }, tt)
-start_typed standing st u lives (value {x = x} q) =
-    (record { typed = λ ends. (dropped standing.scope x (value_typed standing.scope st.good u q ends).typed, tt); usable = value_usable standing.scope st.good u q }, (tt, tt))
-start_typed standing st u lives (declares d) = (decl_typed standing st lives u d, head_decl d)
+start_typed standing st u z lives nothing = (record { typed = λ ends. tt; usable = u; sized = z }, tt)
+start_typed standing st u z lives (value {x = x} q) =
+    (record { typed = λ ends. (dropped standing.scope x (value_typed standing.scope st.good u q ends).typed, tt); usable = value_usable standing.scope st.good u q; sized = value_sized standing.scope.program st q z }, (tt, tt))
+start_typed standing st u z lives (declares d) = (decl_typed standing st lives u z d, head_decl d)
 
 return_typed :
     {around : Context} (standing : Standing) (x y : TExprTree) → Fits around standing → IsTypedValue standing.scope x → store_row around.result (texpr_type x) x ≡ Some y
@@ -187,84 +205,99 @@ mutual
   unfolding IsTypedStmt AreTypedItems settled_stmt settled_stmts cases_among defaults_among
 
   pub stmt_typed :
-      {w v : World} {around : Context} {s : StmtTree} {items : TStmtTrees} (standing : Standing) → State w → Fits around standing → AreUsable w standing.scope → MakesStmt w around s items v → After standing v items
-  stmt_typed standing st fits u (label {at = at} {name = name} q) =
-      let a = stmt_typed standing (state_labelled at name st) fits u q in record { typed = λ ends. (tt, a.typed ends); usable = a.usable }
-  stmt_typed standing st fits u (case {u = x} t n q e d s) =
+      {w v : World} {around : Context} {s : StmtTree} {items : TStmtTrees} (standing : Standing) → State w → Fits around standing → AreUsable w standing.scope → AreSized standing.scope.program w
+      → MakesStmt w around s items v → After standing v items
+  stmt_typed standing st fits u z (label {at = at} {name = name} q) =
+      let a = stmt_typed standing (state_labelled at name st) fits u (moved standing _ _ refl refl refl refl refl z) q in record { typed = λ ends. (tt, a.typed ends); usable = a.usable; sized = a.sized }
+  stmt_typed standing st fits u z (case {u = x} t n q e d s) =
       let sx = state_value st q in
-      let a = stmt_typed standing (state_cased _ x.default sx) fits (value_usable standing.scope st.good u q) s in record { typed = λ ends. (fits.cases t e, a.typed ends); usable = a.usable }
-  stmt_typed {w = w} standing st fits u (default {at = at} t e d q) =
-      let a = stmt_typed standing (state_cased w.cases (Some at) st) fits u q in record { typed = λ ends. (fits.cases t e, a.typed ends); usable = a.usable }
-  stmt_typed {w = w} standing st fits u (block {v = v} {made = made} q) =
+      let a = stmt_typed standing (state_cased _ x.default sx) fits (value_usable standing.scope st.good u q) (moved standing x _ refl refl refl refl refl (value_sized standing.scope.program st q z)) s in
+      record { typed = λ ends. (fits.cases t e, a.typed ends); usable = a.usable; sized = a.sized }
+  stmt_typed {w = w} standing st fits u z (default {at = at} t e d q) =
+      let a = stmt_typed standing (state_cased w.cases (Some at) st) fits u (moved standing w _ refl refl refl refl refl z) q in record { typed = λ ends. (fits.cases t e, a.typed ends); usable = a.usable; sized = a.sized }
+  stmt_typed {w = w} standing st fits u z (block {v = v} {made = made} q) =
       let inner = in_block made.objects standing in
       let so = state_opened st in
-      let a = items_typed inner so (fits_block made.objects fits) (own_lives standing made.objects) (record { typed = λ ends. tt; usable = usable_inside w standing.scope made.objects u }) q in record {
+      let a = items_typed inner so (fits_block made.objects fits) (own_lives standing made.objects) (record { typed = λ ends. tt; usable = usable_inside w standing.scope made.objects u; sized = moved standing w (opened w) refl refl refl refl refl z }) q in record {
         typed = λ ends. (a.typed (ends_live v standing.scope (made.objects ++ standing.scope.live) (ends_same (closed w v) v standing.scope refl refl refl refl ends)), tt);
         usable = usable_shut w v standing.scope (onward (opened w) v (items_reach so.good q)) u;
+        sized = moved standing v (closed w v) refl refl refl refl refl a.sized;
       }
-  stmt_typed standing st fits u empty = record { typed = λ ends. (tt, tt); usable = u }
-  stmt_typed standing st fits u (expression {x = x} q) =
-      record { typed = λ ends. (dropped standing.scope x (value_typed standing.scope st.good u q ends).typed, tt); usable = value_usable standing.scope st.good u q }
-  stmt_typed {w = w} standing st fits u (if_alone {u = x} {v = v} q s) =
+  stmt_typed standing st fits u z empty = record { typed = λ ends. (tt, tt); usable = u; sized = z }
+  stmt_typed standing st fits u z (expression {x = x} q) =
+      record { typed = λ ends. (dropped standing.scope x (value_typed standing.scope st.good u q ends).typed, tt); usable = value_usable standing.scope st.good u q; sized = value_sized standing.scope.program st q z }
+  stmt_typed {w = w} standing st fits u z (if_alone {u = x} {v = v} q s) =
       let scope = standing.scope in
       let so = state_opened st in
       let sx = state_value so q.value in
       let ux = value_usable scope so.good u q.value in
+      let zx = value_sized scope.program so q.value (moved standing w (opened w) refl refl refl refl refl z) in
       let r = stmt_reach (enters sx.good) s in
-      let a = stmt_typed (in_block [] standing) (state_opened sx) (fits_block [] fits) ux s in record {
+      let a = stmt_typed (in_block [] standing) (state_opened sx) (fits_block [] fits) ux (moved standing x (opened x) refl refl refl refl refl zx) s in record {
         typed = λ ends.
             let e = ends_same (closed w (closed x v)) v scope refl refl refl refl ends in
             ((condition_typed scope so.good u q (ends_scope scope sx r e), tt, a.typed e, tt, tt), tt);
         usable = usable_shut w (closed x v) scope (onward (opened w) (closed x v) (reaches.after _ _ _ (value_reach {may = Any} so.good q.value) (reaches.scoped x v r))) u;
+        sized = moved standing v (closed w (closed x v)) refl refl refl refl refl a.sized;
       }
-  stmt_typed {w = w} standing st fits u (if_else {u = x} {v = v} {x = y} q s t) =
+  stmt_typed {w = w} standing st fits u z (if_else {u = x} {v = v} {x = y} q s t) =
       let scope = standing.scope in
       let so = state_opened st in
       let sx = state_value so q.value in
       let ux = value_usable scope so.good u q.value in
+      let zx = value_sized scope.program so q.value (moved standing w (opened w) refl refl refl refl refl z) in
       let sxo = state_opened sx in
       let r = stmt_reach sxo.good s in
       let sv = state_stmt sxo s in
       let sc = state_closed sx r sv in
       let sco = state_opened sc in
       let r2 = stmt_reach sco.good t in
-      let a = stmt_typed (in_block [] standing) sxo (fits_block [] fits) ux s in
-      let b = stmt_typed (in_block [] standing) sco (fits_block [] fits) (usable_shut x v scope (onward (opened x) v r) ux) t in record {
+      let a = stmt_typed (in_block [] standing) sxo (fits_block [] fits) ux (moved standing x (opened x) refl refl refl refl refl zx) s in
+      let b = stmt_typed (in_block [] standing) sco (fits_block [] fits) (usable_shut x v scope (onward (opened x) v r) ux) (moved standing v (opened (closed x v)) refl refl refl refl refl a.sized) t in record {
         typed = λ ends.
             let e = ends_same (closed w (closed (closed x v) y)) y scope refl refl refl refl ends in
             let f = ends_same (closed x v) v scope refl refl refl refl (ends_scope scope sc r2 e) in
             ((condition_typed scope so.good u q (ends_scope scope sx r f), tt, a.typed f, tt, b.typed e), tt);
         usable = usable_shut w (closed (closed x v) y) scope
             (onward (opened w) (closed (closed x v) y) (reaches.after _ _ _ (value_reach {may = Any} so.good q.value) (reaches.after _ _ _ (reaches.scoped x v r) (reaches.scoped (closed x v) y r2)))) u;
+        sized = moved standing y (closed w (closed (closed x v) y)) refl refl refl refl refl b.sized;
       }
-  stmt_typed {w = w} {around = around} standing st fits u (switch_block {u = x} {v = v} {s = s} {made = made} q i) =
+  stmt_typed {w = w} {around = around} standing st fits u z (switch_block {u = x} {v = v} {s = s} {made = made} q i) =
       let scope = standing.scope in
       let so = state_opened st in
       let sx = state_cased [] None (state_value so q.value) in
       let ux = value_usable scope so.good u q.value in
+      let zx = value_sized scope.program so q.value (moved standing w (opened w) refl refl refl refl refl z) in
       let sxo = state_opened sx in
       let r = items_reach sxo.good i in
       let c = items_cased sxo.good i in
       let inner = in_switch made.objects standing in
       let a = items_typed inner sxo (fits_switch s.ty made.objects fits) (record { listed = (own_lives standing made.objects).listed; live = (own_lives standing made.objects).live })
-      (record { typed = λ ends. tt; usable = usable_inside x scope made.objects ux }) i in record {
+      (record { typed = λ ends. tt; usable = usable_inside x scope made.objects ux; sized = moved standing x (opened (without_cases x)) refl refl refl refl refl zx }) i in record {
         typed = λ ends.
             let e = ends_same _ v scope refl refl refl refl ends in
             let f = ends_same (without_cases x) x scope refl refl refl refl (ends_scope scope sx r e) in
-            let value = switch_value scope so.good u q f in
-            ((value.0.typed, switch_row around scope made.items q value.0 value.1 c.cased refl refl c.cases_are (let d = c.defaults_are in omega (arith, d)),
-              a.typed (ends_live v scope (made.objects ++ scope.live) e)), tt);
+            let value = switch_value scope so.good u q f in (
+              (
+                value.0.typed,
+                switch_row around scope made.items q value.0 value.1 c.cased refl refl c.cases_are (let d = c.defaults_are in omega (arith, d)),
+                a.typed (ends_live v scope (made.objects ++ scope.live) e),
+              ),
+              tt,
+            );
         usable = usable_shut w (closed (without_cases x) v) scope
             (onward (opened w) (closed (without_cases x) v) (reaches.after _ _ _ (value_reach {may = Any} so.good q.value) (reaches.after _ _ _ (reaches.cased x [] None) (reaches.scoped (without_cases x) v r)))) u;
+        sized = moved standing v _ refl refl refl refl refl a.sized;
       }
-  stmt_typed {w = w} {around = around} standing st fits u (switch_one {u = x} {v = v} {s = s} {items = items} q i) =
+  stmt_typed {w = w} {around = around} standing st fits u z (switch_one {u = x} {v = v} {s = s} {items = items} q i) =
       let scope = standing.scope in
       let so = state_opened st in
       let sx = state_cased [] None (state_value so q.value) in
       let ux = value_usable scope so.good u q.value in
+      let zx = value_sized scope.program so q.value (moved standing w (opened w) refl refl refl refl refl z) in
       let sxo = state_opened sx in
       let r = stmt_reach sxo.good i in
-      let a = stmt_typed (in_switch [] standing) sxo (fits_switch s.ty [] fits) ux i in record {
+      let a = stmt_typed (in_switch [] standing) sxo (fits_switch s.ty [] fits) ux (moved standing x (opened (without_cases x)) refl refl refl refl refl zx) i in record {
         typed = λ ends.
             let e = ends_same _ v scope refl refl refl refl ends in
             let f = ends_same (without_cases x) x scope refl refl refl refl (ends_scope scope sx r e) in
@@ -272,20 +305,23 @@ mutual
             ((value.0.typed, switch_row around scope items q value.0 value.1 (stmt_cased sxo.good i) refl refl refl refl, a.typed e), tt);
         usable = usable_shut w v scope
             (onward (opened w) v (reaches.after _ _ _ (value_reach {may = Any} so.good q.value) (reaches.after _ _ _ (reaches.cased x [] None) (reaches.after _ _ _ (reaches.opens _) r)))) u;
+        sized = moved standing v _ refl refl refl refl refl a.sized;
       }
-  stmt_typed {w = w} standing st fits u (while {u = x} {v = v} q s) =
+  stmt_typed {w = w} standing st fits u z (while {u = x} {v = v} q s) =
       let scope = standing.scope in
       let so = state_opened st in
       let sx = state_value so q.value in
       let ux = value_usable scope so.good u q.value in
+      let zx = value_sized scope.program so q.value (moved standing w (opened w) refl refl refl refl refl z) in
       let r = stmt_reach (enters sx.good) s in
-      let a = stmt_typed (in_block [] (in_loop standing)) (state_opened sx) (fits_loop fits) ux s in record {
+      let a = stmt_typed (in_block [] (in_loop standing)) (state_opened sx) (fits_loop fits) ux (moved standing x (opened x) refl refl refl refl refl zx) s in record {
         typed = λ ends.
             let e = ends_same (closed w (closed x v)) v scope refl refl refl refl ends in
             ((condition_typed scope so.good u q (ends_scope scope sx r e), tt, a.typed e), tt);
         usable = usable_shut w (closed x v) scope (onward (opened w) (closed x v) (reaches.after _ _ _ (value_reach {may = Any} so.good q.value) (reaches.scoped x v r))) u;
+        sized = moved standing v (closed w (closed x v)) refl refl refl refl refl a.sized;
       }
-  stmt_typed {w = w} standing st fits u (do_while {u = x} {v = v} s q) =
+  stmt_typed {w = w} standing st fits u z (do_while {u = x} {v = v} s q) =
       let scope = standing.scope in
       let so = state_opened st in
       let soo = state_opened so in
@@ -293,18 +329,20 @@ mutual
       let sc = state_closed so r (state_stmt soo s) in
       let uc = usable_shut (opened w) x scope (onward (opened (opened w)) x r) u in
       let r2 = value_reach {may = Any} sc.good q.value in
-      let a = stmt_typed (in_block [] (in_loop standing)) soo (fits_loop fits) u s in record {
+      let a = stmt_typed (in_block [] (in_loop standing)) soo (fits_loop fits) u (moved standing w (opened (opened w)) refl refl refl refl refl z) s in record {
         typed = λ ends.
             let e = ends_same (closed w v) v scope refl refl refl refl ends in
             let f = ends_same (closed (opened w) x) x scope refl refl refl refl (ends_reached scope sc r2 e) in
             ((condition_typed scope sc.good uc q e, tt, a.typed f), tt);
         usable = usable_shut w v scope (onward (opened w) v (reaches.after _ _ _ (reaches.scoped (opened w) x r) r2)) u;
+        sized = moved standing v (closed w v) refl refl refl refl refl
+            (value_sized scope.program sc q.value (moved standing x (closed (opened w) x) refl refl refl refl refl a.sized));
       }
-  stmt_typed {w = w} standing st fits u (for {u = x} {v = y} {x = z} {y = v} {head = head} s c n q) =
+  stmt_typed {w = w} standing st fits u before (for {u = x} {v = y} {x = z} {y = v} {head = head} s c n q) =
       let inner = in_block head.objects standing in
       let scope = inner.scope in
       let so = state_opened st in
-      let start = start_typed inner so (usable_inside w standing.scope head.objects u) (own_lives standing head.objects) s in
+      let start = start_typed inner so (usable_inside w standing.scope head.objects u) (moved standing w (opened w) refl refl refl refl refl before) (own_lives standing head.objects) s in
       let r = start_reach so.good s in
       let sx = state_start so s in
       let r2 = may_condition_reach {may = Any} sx.good c in
@@ -315,7 +353,8 @@ mutual
       let uz = may_step_usable scope sy.good uy n in
       let szo = state_opened sz in
       let r4 = stmt_reach szo.good q in
-      let a = stmt_typed (in_block [] (in_loop inner)) szo (fits_loop (fits_block head.objects fits)) uz q in record {
+      let zz = may_step_sized scope.program sy n (may_condition_sized scope.program sx c start.0.sized) in
+      let a = stmt_typed (in_block [] (in_loop inner)) szo (fits_loop (fits_block head.objects fits)) uz (moved standing z (opened z) refl refl refl refl refl zz) q in record {
         typed = λ ends.
             let e = ends_live v standing.scope (head.objects ++ standing.scope.live) (ends_same (closed w (closed z v)) v standing.scope refl refl refl refl ends) in
             let ez = ends_scope scope sz r4 e in
@@ -324,13 +363,14 @@ mutual
             ((head_settled scope.program.objects head.items start.1, start.0.typed ex, may_condition_typed scope sx.good start.0.usable c ey, may_step_typed scope sy.good uy n ez, tt, a.typed e), tt);
         usable = usable_shut w (closed z v) standing.scope
             (onward (opened w) (closed z v) (reaches.after _ _ _ r (reaches.after _ _ _ r2 (reaches.after _ _ _ r3 (reaches.scoped z v r4))))) u;
+        sized = moved standing v (closed w (closed z v)) refl refl refl refl refl a.sized;
       }
-  stmt_typed standing st fits u (goto e) = record { typed = λ ends. (tt, tt); usable = u }
-  stmt_typed standing st fits u (continue e) = record { typed = λ ends. (fits.continues e, tt); usable = u }
-  stmt_typed standing st fits u (break e) = record { typed = λ ends. (fits.breaks e, tt); usable = u }
-  stmt_typed standing st fits u (return_bare e) = record { typed = λ ends. (fits.result ∙ e, tt); usable = u }
-  stmt_typed standing st fits u (return_value {x = x} {y = y} q e) =
-      record { typed = λ ends. (return_typed standing x y fits (value_typed standing.scope st.good u q ends) e, tt); usable = value_usable standing.scope st.good u q }
+  stmt_typed standing st fits u z (goto e) = record { typed = λ ends. (tt, tt); usable = u; sized = z }
+  stmt_typed standing st fits u z (continue e) = record { typed = λ ends. (fits.continues e, tt); usable = u; sized = z }
+  stmt_typed standing st fits u z (break e) = record { typed = λ ends. (fits.breaks e, tt); usable = u; sized = z }
+  stmt_typed standing st fits u z (return_bare e) = record { typed = λ ends. (fits.result ∙ e, tt); usable = u; sized = z }
+  stmt_typed standing st fits u z (return_value {x = x} {y = y} q e) =
+      record { typed = λ ends. (return_typed standing x y fits (value_typed standing.scope st.good u q ends) e, tt); usable = value_usable standing.scope st.good u q; sized = value_sized standing.scope.program st q z }
 
   pub items_typed :
       {w v : World} {around : Context} {done made : Made} {items : BlockItemTrees} (standing : Standing) → State w → Fits around standing → Lives standing made.objects → After standing w done.items
@@ -338,14 +378,16 @@ mutual
   items_typed standing st fits lives before no_items = before
   items_typed {w = w} standing st fits lives before (declaration {u = x} {done = done} {made = made} d q) =
       let here = lives_split standing done.objects made.objects (items_objects standing q lives) in
-      let a = decl_typed standing st here.1 before.usable d in
+      let a = decl_typed standing st here.1 before.usable before.sized d in
       items_typed standing (state_decl st d) fits lives (record {
         typed = λ ends. typed_both standing done.items made.items (before.typed (ends_reached standing.scope st (decl_reach st.good d) ends)) (a.typed ends);
         usable = a.usable;
+        sized = a.sized;
       }) q
   items_typed {w = w} standing st fits lives before (statement {u = x} {done = done} {items = items} s q) =
-      let a = stmt_typed standing st fits before.usable s in
+      let a = stmt_typed standing st fits before.usable before.sized s in
       items_typed standing (state_stmt st s) fits lives (record {
         typed = λ ends. typed_both standing done.items items (before.typed (ends_reached standing.scope st (stmt_reach st.good s) ends)) (a.typed ends);
         usable = a.usable;
+        sized = a.sized;
       }) q

@@ -1,7 +1,6 @@
 -- What holds of each world inside a body.
 use Rattle.std.proofs.Common.{◌≡◌, ℕ, List, [], refl}
-use Rattle.std.specs.Prelude.{Option, None, All}
-use Rattle.std.proofs.lemmas.List.Elements.{All-push}
+use Rattle.std.specs.Prelude.{Option}
 use Rattle.c_written.specs.declared.place.Pos.{Pos}
 use Rattle.c_written.specs.Written as written
 use Rattle.c_written.specs.WrittenDecl.{DeclTree}
@@ -12,14 +11,12 @@ use Rattle.c_typing.specs.World.{World, CaseAt}
 use Rattle.c_typing.specs.Names.{opened, closed}
 use Rattle.c_typing.specs.Context.{Context}
 use Rattle.c_typing.specs.Decls.{Made}
-use Rattle.c_typing.specs.Stmts.{without_cases}
 use Rattle.c_typing.proofs.Changes.{Any}
 use Rattle.c_typing.proofs.Good.{Good}
 use Rattle.c_typing.proofs.Reaches as reaches
 use Rattle.c_typing.proofs.Reaches.{Reaches, enters}
-use Rattle.c_typing_steps.specs.StmtSteps.{IsValue, MayCondition, MayStep, MakesStart, MakesStmt, with_label, with_case, with_default}
+use Rattle.c_typing_steps.specs.StmtSteps.{IsValue, MayCondition, MayStep, MakesStart, MakesStmt, with_label}
 use Rattle.c_typing_steps.specs.DeclSteps.{MakesDecl}
-use Rattle.c_typing_steps.proofs.Scalars.{ScalarNames}
 use Rattle.c_typing_steps.proofs.Reached.{good_by, value_reach, may_condition_reach, may_step_reach, start_reach, decl_reach, stmt_reach}
 use Rattle.c_typing_steps.proofs.Keeps.{Both, IsKept, the_same, over, shut_names, value_keeps, condition_keeps, step_keeps, start_keeps, decl_keeps, stmt_keeps}
 use Rattle.c_object_laws.proofs.Objects.{ObjectsIn, objects_kept}

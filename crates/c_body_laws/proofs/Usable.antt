@@ -1,15 +1,14 @@
 -- Names that may be used where a statement stands.
 use Rattle.std.proofs.Common.{◌≡◌, ℕ, true, false, List, [], ◌∷◌, ◌++◌, length, refl, ap, sym, subst, ◌∙◌, inl, inr, ⊎_elim}
-use Rattle.std.specs.Prelude.{◌⊎◌, Bool, if◌then◌else◌, IsTrue, IsSome, is_some, Option, None, Some, IsSomeAnd, All, Contains, map, take, slice_get}
-use Rattle.std.proofs.lemmas.Bool.{false≢true}
+use Rattle.std.specs.Prelude.{◌⊎◌, Bool, IsTrue, is_some, Option, None, Some, IsSomeAnd, All, Contains, take, slice_get}
 use Rattle.std.proofs.lemmas.List.{take_at}
-use Rattle.std.proofs.lemmas.List.Elements.{All-push, All-append, All-weaker, Contains-append_right}
+use Rattle.std.proofs.lemmas.List.Elements.{All-push, All-weaker, Contains-append_right}
 use Rattle.c_written.specs.declared.written.StorageWord.{StorageWord}
-use Rattle.c_syntax.specs.Types.{CTypeTree, Array, ObjectTree}
+use Rattle.c_syntax.specs.Types.{Array, ObjectTree}
 use Rattle.c_layout.specs.TypedNodes.{Scope}
-use Rattle.c_typing.specs.World.{World, Form, Meaning, Object, Missing, Parameter, Function, TypeName, Enumeration, Binding, Linked}
+use Rattle.c_typing.specs.World.{World, Form, Meaning, Object, Missing, Parameter, Function, TypeName, Enumeration, Binding}
 use Rattle.c_typing.specs.Names.{opened, closed}
-use Rattle.c_typing.specs.Declarators.{DeclaredName, ParameterTree, Step}
+use Rattle.c_typing.specs.Declarators.{DeclaredName, Step}
 use Rattle.c_typing.specs.Context.{Context, has_name}
 use Rattle.c_typing.specs.Decls.{Declares, AnObject, NoObject, new_function, object_of, parameters_of}
 use Rattle.c_typing.proofs.FormsGo.{found_each}

@@ -11,11 +11,24 @@
 //! the file is linked to is there, and static; objects have types and sizes; and the program at the end goes on from it,
 //! with functions whose parameters have the types that they are called with. Cases of a switch are told by those that the
 //! world has gathered.
+//!
+//! An initial value has as many bytes as its object: a literal those of its text and a zero, and a static object those of
+//! its type, into which each item of its initialiser writes a scalar that lies in it.
+//!
+//! | What | Stated in `specs/` | Promised by |
+//! |---|---|---|
+//! | statements of bodies | `BodyLaws` | `bodies_are_typed` |
+//! | sizes of initial values | `BodyLaws` | `initials_have_sizes` |
 #![tactic(auto)]
 
-ghost use Rattle.c_body_laws.specs.BodyLaws.{BodiesAreTyped};
+ghost use Rattle.c_body_laws.specs.BodyLaws.{BodiesAreTyped, InitialsHaveSizes};
 
 /// Each statement in the body of a function has the types that C asks for, and stands where it may (C11 6.8, 6.9.1).
 pub fn bodies_are_typed()
     ensures { BodiesAreTyped }
+{}
+
+/// An initial value has as many bytes as its object (C11 6.7.9).
+pub fn initials_have_sizes()
+    ensures { InitialsHaveSizes }
 {}

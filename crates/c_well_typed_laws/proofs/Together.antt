@@ -16,9 +16,9 @@ use Rattle.c_function_laws.proofs.FileParams.{functions_take_scalars, bodies_are
 use Rattle.c_object_laws.specs.ObjectLaws.{IsOpenArray}
 use Rattle.c_object_laws.proofs.FileObjects.{objects_are_typed}
 use Rattle.c_array_laws.proofs.FileArrays.{arrays_have_sizes}
-use Rattle.c_body_laws.proofs.FileBodies.{bodies_are_typed}
+use Rattle.c_body_laws.proofs.FileBodies.{bodies_are_typed, initials_have_sizes}
 use Rattle.c_piece_laws.proofs.FilePieces.{pieces_are_static}
-use Rattle.c_well_typed_laws.specs.WhatIsLeft.{WhatIsLeft}
+use Rattle.c_well_typed_laws.specs.WellTypedLaws.{TypedIsWellTyped}
 
 body_typed : (program : TProgramTree) (f : TFunctionTree) (body : Option TStmtTree) → IfSome body IsBlock → IfSome body (IsTypedStmt (body_standing program f)) → IfSome body HasItsLabels → IfSome body (IsTypedBody program f)
 body_typed program f None b t l = tt
@@ -27,11 +27,12 @@ body_typed program f (Some s) b t l = record { block = b; typed = t; labels_dist
 object_is : (structs : List StructDefTree) (x : ObjectTree) → IsTypedObject structs x ⊎ IsOpenArray x → is_unsized x.ty ≡ false → IsTypedObject structs x
 object_is structs x t sized = ⊎_elim (λ i. i) (λ o. absurd (false≢true (sym sized ∙ ap is_unsized o.ty))) t
 
-pub what_is_left : WhatIsLeft
-what_is_left file program types left =
+pub typed_is_well_typed : TypedIsWellTyped
+typed_is_well_typed file program types =
     let takes = functions_take_scalars file program types in
     let blocks = bodies_are_blocks file program types in
     let typed = bodies_are_typed file program types in
+    let bytes = initials_have_sizes file program types in
     let labels = labels_are_there file program types in
     let lists = objects_are_listed file program types in
     let objects = objects_are_typed file program types in
@@ -49,6 +50,6 @@ what_is_left file program types left =
       names_distinct = names_are_distinct file program types;
       listed_objects = lists.automatic;
       listed_once = lists.once;
-      initial = λ k d h. record { object = given.are_static k d h; size = left.sizes k d h; bytes = pieces k d h };
+      initial = λ k d h. record { object = given.are_static k d h; size = bytes k d h; bytes = pieces k d h };
       initial_once = given.once;
     }

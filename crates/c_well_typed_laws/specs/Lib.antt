@@ -1,1 +1,1 @@
-pub mod WhatIsLeft
+pub mod WellTypedLaws

@@ -1,14 +1,16 @@
-//! The program of a typed file is well typed, as far as it is proved.
+//! The program of a typed file is well typed.
 //!
 //! What holds of all typed files comes together here: the tables of structs, names, statements, labels and gotos, lists of
-//! objects, parameters and results of functions, types and sizes of objects, and what initial values point to.
+//! objects, parameters and results of functions, types and sizes of objects, and initial values: that each static object
+//! has one, with as many bytes as the object, and what these point to.
 //!
-//! What is left is a premise: that an initial value has as many bytes as its object.
+//! So whatever is proved of well typed programs holds of each file that typing accepts, and nothing is asked of the file
+//! beside that.
 #![tactic(auto)]
 
-ghost use Rattle.c_well_typed_laws.specs.WhatIsLeft.{WhatIsLeft};
+ghost use Rattle.c_well_typed_laws.specs.WellTypedLaws.{TypedIsWellTyped};
 
-/// A typed file's program is well typed where what is left holds of it.
-pub fn what_is_left()
-    ensures { WhatIsLeft }
+/// What is typed is well typed.
+pub fn typed_is_well_typed()
+    ensures { TypedIsWellTyped }
 {}
