@@ -2,5 +2,4 @@ pub mod Changing
 pub mod Weights
 pub mod Merging
 pub mod Cutting
-pub mod RangeCuts
 pub mod Inverting

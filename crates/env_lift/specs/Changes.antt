@@ -10,7 +10,7 @@ use Rattle.num_api.specs.Lives.{is_live}
 use Rattle.var_map.specs.declared.entries.Entry.{Entry}
 use Rattle.var_map.specs.Entries.{value_in}
 use Rattle.env_eval.specs.States.{AllAdmit, known_in}
-use Rattle.env_lift.specs.Standings.{Stands}
+use Rattle.range_cuts.specs.Standings.{Stands}
 
 -- the value, where there is one, admits the number
 abbrev pub MayAdmit : {V : Type 0} → (V → ℤ → Type 0) → Option V → ℤ → Type 0

@@ -1,3 +1,2 @@
-pub mod Standings
 pub mod Changes
 pub mod Laws

@@ -11,15 +11,14 @@ ghost use Rattle.num_api.specs.Known.{IsSharpOn};
 ghost use Rattle.num_api.specs.Lives.{is_live};
 ghost use Rattle.num_api.specs.declared.message.Range.{Range};
 ghost use Rattle.env_eval.specs.States.{AllAdmit, known_in};
-ghost use Rattle.env_lift.specs.Standings.{standing_of, Stands};
+ghost use Rattle.range_cuts.specs.Standings.{standing_of, Stands};
 ghost use Rattle.env_lift.specs.Changes.{IsCut, LiesIn, HasTruth, Compare};
 
 use crate::changes::{narrow, part};
 use crate::inverses::{operand, operands, told_sides, with_truth};
-use crate::ranges::{cut_range, may_be};
-use crate::standings::{Standing, compared, turned};
 use env_eval::eval;
 use num_api::{Live, NExpr, NOp, ValueDomain};
+use range_cuts::{Standing, compared, cut_range, may_be, turned};
 use std::alloc::AllocError as NoMemory;
 use var_map::VarMap;
 

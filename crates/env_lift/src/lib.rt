@@ -6,16 +6,14 @@
 //!
 //! The laws are those of `Oracle` and `NumDomain`, which `num_api` has. Contracts see a state as the list of
 //! its variables with their values, by rising variable; specs/Laws.antt has its weight, specs/Changes.antt
-//! what a cut is, specs/Standings.antt how two numbers stand to each other.
+//! what a cut is.
 #![tactic(auto)]
 
 mod changes;
 mod cuts;
 mod inverses;
 mod merges;
-mod ranges;
 mod rounds;
-mod standings;
 mod state;
 mod told;
 

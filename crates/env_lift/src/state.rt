@@ -8,7 +8,6 @@ ghost use Rattle.env_lift.specs.Laws.{total_weight, known_holds_in, known_some_i
 use crate::changes::{accepted, met};
 use crate::cuts::may_hold;
 use crate::merges::{covers_all, joined, widened};
-use crate::ranges::{may_be, no_numbers};
 use crate::rounds::keep_rounds;
 use crate::told::{put_facts, tell, tell_read};
 use env_eval::eval;
@@ -17,6 +16,7 @@ use num_api::{
     ValueDomain, Var,
 };
 use ramps::{Ramp, Steps};
+use range_cuts::{may_be, no_numbers};
 use std::alloc::{AllocError as NoMemory, Global};
 use std::marker::Model;
 use var_map::VarMap;

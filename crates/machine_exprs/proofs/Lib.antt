@@ -1,2 +1,5 @@
 pub mod Trees
 pub mod Values
+pub mod Congruences
+pub mod Types
+pub mod Rules

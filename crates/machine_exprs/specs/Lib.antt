@@ -1,2 +1,4 @@
 pub mod MExprs
 pub mod Machine
+pub mod Rule
+pub mod Fold

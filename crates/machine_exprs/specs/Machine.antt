@@ -1,9 +1,12 @@
 -- The value of an expression of C under a valuation: each node wraps what it comes to into its type (C11 6.2.5p9, 6.3.1.3; this profile). What a
 -- check asks of a signed result is not asked here.
-use Rattle.std.specs.Prelude.{ℤ, List, Option, Some, None, IfSome}
+use Rattle.std.specs.Prelude.{◌≢◌, ℤ, List, Option, Some, None, IfSome}
+use Rattle.std.specs.Int.RustNames.{FitsSigned}
+use mir.Syntax.{w128}
 use Rattle.c_written.specs.declared.int_type.IntType.{IntType}
 use Rattle.c_written.specs.Integer.{HasNumber, wrapped}
 use Rattle.ext_int.specs.Valuation.{value_at}
+use Rattle.num_api.specs.declared.expr.NOp.TheVariants.{Mul}
 use Rattle.num_api.specs.Value.{unary_value, binary_value, of_one, of_two}
 use Rattle.machine_exprs.specs.MExprs.{MExprTree, Const, Read, Convert, Unary, Binary, type_of}
 
@@ -35,3 +38,13 @@ OperandsFit v (Read x t) = Unit {0}
 OperandsFit v (Convert t a) = FitsType v a × OperandsFit v a
 OperandsFit v (Unary op t a) = FitsType v a × OperandsFit v a
 OperandsFit v (Binary op t a b) = FitsType v a × OperandsFit v a × FitsType v b × OperandsFit v b
+
+-- ---- numbers that the domains can name
+
+-- the exact result of each part is an i128; of a product that is not asked, since of 64-bit numbers it need not be one
+abbrev pub PartsFit : List ℤ → MExprTree → Type 0
+PartsFit v (Const t n) = FitsSigned w128 n
+PartsFit v (Read x t) = FitsSigned w128 (value_at v x)
+PartsFit v (Convert t a) = PartsFit v a
+PartsFit v (Unary op t a) = IfSome (exact_value v (Unary op t a)) (FitsSigned w128) × PartsFit v a
+PartsFit v (Binary op t a b) = (op ≢ Mul → IfSome (exact_value v (Binary op t a b)) (FitsSigned w128)) × PartsFit v a × PartsFit v b

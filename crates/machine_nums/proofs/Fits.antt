@@ -18,8 +18,8 @@ use Rattle.num_api.proofs.Remainders.{rem_same, rem_low, rem_high}
 use Rattle.num_api.specs.Value.{bits_of_both, binary_value, of_two, value_of}
 use Rattle.machine_exprs.specs.Machine.{wrapped_value}
 use Rattle.machine_exprs.proofs.Values.{wrapped-has}
-use Rattle.machine_nums.proofs.Congruences.{wrapped_same}
-use Rattle.machine_nums.proofs.Reaches.{has_between, numbers_are}
+use Rattle.machine_exprs.proofs.Congruences.{wrapped_same}
+use Rattle.machine_exprs.proofs.Types.{wrapped_is}
 
 -- the bits that a number has among the low k are its remainder by 2 to k
 ones-and : (k m : ℕ) → m < 2 ^ k → bit_and (2 ^ k - 1) m ≡ m
@@ -31,15 +31,6 @@ flip-is k m h = let sum = xor_add_and (2 ^ k - 1) m in let both = ones-and k m h
 mask_is : (n : ℤ) (k : ℕ) → bits_of_both n (pos (2 ^ k - 1)) ≡ int_rem_euclid n (pos (2 ^ k))
 mask_is (pos a) k = ap pos (and_mask a k)
 mask_is (negsuc a) k = ap (λ m. pos (bit_xor (2 ^ k - 1) m)) (and_comm (2 ^ k - 1) a ∙ and_mask a k) ∙ ap pos (flip-is k (a % 2 ^ k) (mod-lt a (pow_pos k)))
-
-from_least : (r a : ℤ) → pos 0 ≤ℤ r → a ≤ℤ (r +ℤ a)
-from_least r a h = omega (arith, ints)
-
-to_greatest : (r a b m : ℤ) → m ≡ (b -ℤ a) +ℤ pos 1 → r <ℤ m → (r +ℤ a) ≤ℤ b
-to_greatest r a b m e h = omega (arith, ints)
-
-apart : (n a r : ℤ) → (n -ℤ a) -ℤ r ≡ n -ℤ (r +ℤ a)
-apart n a r = omega (arith, ints)
 
 -- a shift by a multiple of 2 to the width that takes each number into the type wraps it
 shift_wraps : (t : IntType) (s n : ℤ) → IsMultiple (pos (2 ^ width t)) s → HasNumber t (n -ℤ s) → n -ℤ s ≡ wrapped t n
@@ -65,13 +56,7 @@ own_value v t s q is has = no_shift t (value_of v (nexpr_tree q)) (subst (λ (s 
 
 -- wrapping by bits
 bits_wrap : (t : IntType) (n : ℤ) → bits_of_both (n -ℤ least t) (pos (2 ^ width t - 1)) +ℤ least t ≡ wrapped t n
-bits_wrap t n =
-    let m = pos (2 ^ width t) in let x = n -ℤ least t in let r = int_rem_euclid x m in
-    let count = numbers_are t in
-    let low = rem_low x m count.1 in let high = rem_high x m count.1 in
-    let has : HasNumber t (r +ℤ least t) = has_between t (r +ℤ least t) (from_least r (least t) low) (to_greatest r (least t) (pos (greatest t)) m count.0 high) in
-    let same = in_from_off (r +ℤ least t) m n (multiple_along m (x -ℤ r) (n -ℤ (r +ℤ least t)) (apart n (least t) r) (off_from_in r m x (rem_same x m count.1))) in
-    ap (λ (b : ℤ). b +ℤ least t) (mask_is x (width t)) ∙ sym (wrapped_same t n (r +ℤ least t) same ∙ wrapped-has t (r +ℤ least t) has)
+bits_wrap t n = ap (λ (b : ℤ). b +ℤ least t) (mask_is (n -ℤ least t) (width t)) ∙ wrapped_is t n
 
 bits_result : (t : IntType) (o : Option ℤ) → of_two (binary_value Add) (of_two (binary_value And) (of_two (binary_value Sub) o (Some (least t))) (Some (pos (2 ^ width t - 1)))) (Some (least t)) ≡ wrapped_value t o
 bits_result t None = refl

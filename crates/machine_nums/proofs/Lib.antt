@@ -1,3 +1,2 @@
 pub mod Reaches
-pub mod Congruences
 pub mod Fits

@@ -1,9 +1,8 @@
--- What lies between the ends of a type is a number of it, and so is what a shift takes there.
+-- What a shift takes between the ends of a type is a number of it.
 use Rattle.std.proofs.Common.{◌≡◌, ◌^◌, ◌-ℤ◌, ◌+ℤ◌, ◌*ℤ◌, ℤ, pos, ◌≤ℤ◌, arith, sym, subst}
 use Rattle.std.specs.Prelude.{Option, Some, None, IfSome}
 use Rattle.std.proofs.lemmas.Int.{ints}
 use Rattle.c_written.specs.declared.int_type.IntType.{IntType}
-use Rattle.c_written.specs.declared.int_type.IntType.TheVariants.{Char, SChar, UChar, Short, UShort, Int, UInt, Long, ULong, LLong, ULLong}
 use Rattle.c_written.specs.Integer.{HasNumber, width, least, greatest}
 use Rattle.ext_int.specs.Ext.{Below, Above}
 use Rattle.ext_int.specs.declared.Ext.{Ext}
@@ -11,32 +10,7 @@ use Rattle.ext_int.specs.declared.Ext.TheVariants.{Fin}
 use Rattle.num_api.specs.declared.message.Range.{Range}
 use Rattle.num_api.specs.Ranges.{InRange}
 use Rattle.num_api.specs.Residues.{IsMultiple}
-
-pub has_between : (t : IntType) (n : ℤ) → least t ≤ℤ n → n ≤ℤ pos (greatest t) → HasNumber t n
-has_between Char n low high = omega (arith, ints)
-has_between SChar n low high = omega (arith, ints)
-has_between UChar n low high = (omega (arith, ints), omega (arith, ints))
-has_between Short n low high = omega (arith, ints)
-has_between UShort n low high = (omega (arith, ints), omega (arith, ints))
-has_between Int n low high = omega (arith, ints)
-has_between UInt n low high = (omega (arith, ints), omega (arith, ints))
-has_between Long n low high = omega (arith, ints)
-has_between ULong n low high = (omega (arith, ints), omega (arith, ints))
-has_between LLong n low high = omega (arith, ints)
-has_between ULLong n low high = (omega (arith, ints), omega (arith, ints))
-
-pub numbers_are : (t : IntType) → (pos (2 ^ width t) ≡ (pos (greatest t) -ℤ least t) +ℤ pos 1) × (pos 1 ≤ℤ pos (2 ^ width t))
-numbers_are Char = (omega (arith, ints), omega (arith, ints))
-numbers_are SChar = (omega (arith, ints), omega (arith, ints))
-numbers_are UChar = (omega (arith, ints), omega (arith, ints))
-numbers_are Short = (omega (arith, ints), omega (arith, ints))
-numbers_are UShort = (omega (arith, ints), omega (arith, ints))
-numbers_are Int = (omega (arith, ints), omega (arith, ints))
-numbers_are UInt = (omega (arith, ints), omega (arith, ints))
-numbers_are Long = (omega (arith, ints), omega (arith, ints))
-numbers_are ULong = (omega (arith, ints), omega (arith, ints))
-numbers_are LLong = (omega (arith, ints), omega (arith, ints))
-numbers_are ULLong = (omega (arith, ints), omega (arith, ints))
+use Rattle.machine_exprs.proofs.Types.{has_between}
 
 past : (a b n s : ℤ) → a ≤ℤ (b -ℤ s) → b ≤ℤ n → a ≤ℤ (n -ℤ s)
 past a b n s h i = omega (arith, ints)

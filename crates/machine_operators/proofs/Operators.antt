@@ -14,7 +14,8 @@ use Rattle.num_api.specs.declared.expr.NOp.TheVariants as ops
 use Rattle.num_api.specs.Value.{bits_of_both, bits_of_either, bits_of_one}
 use Rattle.residues.proofs.LowBits.{IsByBits, low_bits, bit-both, bit-either, bit-one}
 use Rattle.machine_operators.specs.Laws.{StandsForArithmetic}
-use Rattle.machine_operators.proofs.Congruences.{wrapped_same, same_bits}
+use Rattle.machine_exprs.proofs.Congruences.{wrapped_same}
+use Rattle.machine_operators.proofs.Congruences.{same_bits}
 
 by_zero : (b : Bool) (o : ℤ) (P : ℤ → Type 0) → (b ≡ true → ⊥) → P o → IsSomeAnd (if b then None else Some o) P
 by_zero true o P none h = absurd (none refl)

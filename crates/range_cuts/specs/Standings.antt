@@ -1,8 +1,8 @@
 -- How two numbers stand to each other.
 use Rattle.std.specs.Prelude.{ℤ, ◌≡◌, ◌≤ℤ◌, ◌<ℤ◌}
 use Rattle.num_api.specs.Plain.{Standing, less, at_most, greater, at_least, same, other}
-use Rattle.env_lift.specs.declared.standings.Standing.{Standing as HowItStands}
-use Rattle.env_lift.specs.declared.standings.Standing.TheVariants.{Less, AtMost, Greater, AtLeast, Same, Other}
+use Rattle.range_cuts.specs.declared.standings.Standing.{Standing as HowItStands}
+use Rattle.range_cuts.specs.declared.standings.Standing.TheVariants.{Less, AtMost, Greater, AtLeast, Same, Other}
 
 -- the standing by the plain rule's name
 abbrev pub standing_of : HowItStands → Standing

@@ -5,7 +5,7 @@ use Rattle.std.proofs.lemmas.Int.{to_z-of_z}
 use mir.Syntax.{w128}
 use Rattle.num_api.specs.Ranges.{NoWider}
 use Rattle.num_api.specs.Spans.{span, range_of}
-use Rattle.env_lift.proofs.ranges.apart_from.Goals as goal
+use Rattle.range_cuts.proofs.ranges.apart_from.Goals as goal
 
 pub returns-clause-plain : goal.returns-clause-plain
 returns-clause-plain c = λ p w.

@@ -9,13 +9,13 @@ ghost use Rattle.num_api.specs.Ranges.{InRange, IsPoint, NoWider, holds_some};
 ghost use Rattle.num_api.specs.Spans.{Span, span, range_of};
 ghost use Rattle.num_api.specs.Plain.{cut, without, excludes, other};
 ghost use Rattle.num_api.specs.Value.{has_truth};
-ghost use Rattle.env_lift.specs.Standings.{standing_of, Stands};
+ghost use Rattle.range_cuts.specs.Standings.{standing_of, Stands};
 
 use crate::standings::Standing;
 use ext_int::{Ext, max, min};
 use num_api::Range;
 
-// The range that holds no number.
+/// The range that holds no number.
 pub fn no_numbers() -> Range
     ensures { result ≡ record { lo = High; hi = Low } }
 {
@@ -85,8 +85,8 @@ fn above(s: Range, end: Ext) -> Range
     }
 }
 
-// The number that is the whole range.
-fn number(r: Range) -> Option<i128>
+/// The number that is the whole range.
+pub fn number(r: Range) -> Option<i128>
     ensures some { IfSome result (λ n. IsPoint r n) }
     ensures none { IfNone result ((n : ℤ) → IsPoint r n → ⊥) }
 {
@@ -142,7 +142,7 @@ fn apart(s: Range, t: Range) -> Range
     }
 }
 
-// A range that holds the numbers of the first which stand so to some number of the second.
+/// A range that holds the numbers of the first which stand so to some number of the second.
 pub fn cut_range(how: Standing, s: Range, t: Range) -> Range
     ensures holds { (x y : ℤ) → InRange s x → InRange t y → Stands (standing_of how) x y → InRange result x }
     ensures plain { (p q : Span) → IsTrue (holds_some t) → NoWider s (range_of p) → NoWider t (range_of q)
@@ -189,7 +189,7 @@ fn at_least_zero(end: Ext) -> bool
     }
 }
 
-// Whether some number of the range may have this truth.
+/// Whether some number of the range may have this truth.
 pub fn may_be(r: Range, truth: bool) -> bool
     ensures holds { (n : ℤ) → InRange r n → IsTrue (has_truth truth n) → IsTrue result }
     ensures point { (n : ℤ) → IsPoint r n → has_truth truth n ≡ false → result ≡ false }

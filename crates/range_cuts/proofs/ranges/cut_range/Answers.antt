@@ -2,10 +2,10 @@ use Rattle.std.proofs.Common.{sym, subst}
 use Rattle.num_api.specs.Ranges.{NoWider}
 use Rattle.num_api.specs.Spans.{range_of}
 use Rattle.num_api.specs.Plain.{cut}
-use Rattle.env_lift.specs.declared.standings.Standing.{Standing}
-use Rattle.env_lift.specs.Standings.{standing_of, Stands}
-use Rattle.env_lift.proofs.RangeCuts.{both_inside}
-use Rattle.env_lift.proofs.ranges.cut_range.Goals as goal
+use Rattle.range_cuts.specs.declared.standings.Standing.{Standing}
+use Rattle.range_cuts.specs.Standings.{standing_of, Stands}
+use Rattle.range_cuts.proofs.RangeCuts.{both_inside}
+use Rattle.range_cuts.proofs.ranges.cut_range.Goals as goal
 
 pub returns-in-Less-clause-plain : goal.returns-in-Less-clause-plain
 returns-in-Less-clause-plain c = λ p q h w k.

@@ -3,7 +3,7 @@
 ghost use Rattle.std.specs.Prelude.{◌≡◌, ℤ, IfSome, IfNone, Some, None};
 ghost use Rattle.num_api.specs.Value.{binary_value, has_truth};
 ghost use Rattle.num_api.specs.Plain.{standing, turned};
-ghost use Rattle.env_lift.specs.Standings.{standing_of};
+ghost use Rattle.range_cuts.specs.Standings.{standing_of};
 
 use num_api::NOp;
 
@@ -18,7 +18,7 @@ pub enum Standing {
     Other,
 }
 
-// How the left side of a comparison stands to the right one where it has this truth.
+/// How the left side of a comparison stands to the right one where it has this truth.
 pub fn compared(op: NOp, truth: bool) -> Option<Standing>
     ensures some { IfSome result (λ how. standing op truth ≡ Some (standing_of how)) }
     ensures none { IfNone result (standing op truth ≡ None) }
@@ -48,7 +48,7 @@ pub fn compared(op: NOp, truth: bool) -> Option<Standing>
     }
 }
 
-// How the right side then stands to the left one.
+/// How the right side then stands to the left one.
 pub fn turned(how: Standing) -> Standing
     ensures { standing_of result ≡ turned (standing_of how) }
 {

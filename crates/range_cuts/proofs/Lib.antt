@@ -1,0 +1,2 @@
+pub mod RangeCuts
+pub mod Truths
