@@ -1,4 +1,4 @@
-use Rattle.std.proofs.Common.{◌≡◌, ◌+◌, ◌*◌, ◌++◌, drop}
+use Rattle.std.proofs.Common.{◌≡◌, ◌++◌, drop}
 use Rattle.c_written.specs.WrittenFile.{blockitem_tree, blockitems_from, blockitems_tree, stmt_tree}
 use Rattle.c_written.specs.Sizes.{stmt_size, blockitem_size, blockitems_size}
 use Rattle.c_typing.specs.Context.{written_labels_in}
