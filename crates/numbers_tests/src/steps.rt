@@ -1,3 +1,7 @@
+ghost use Rattle.std.specs.Prelude.{◌≡◌};
+ghost use Rattle.ramps.specs.Steps.{least};
+ghost use Rattle.ramps.specs.Powers.{power_steps};
+
 use ramps::*;
 
 // A number; then the least power step not below it, by the list of the steps.
