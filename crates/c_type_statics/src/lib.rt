@@ -14,9 +14,9 @@
 //! A number outside of its type, which no typed expression has, is want of memory. Each item costs its own bytes.
 #![tactic(auto)]
 
-mod bytes;
+mod all_bytes;
 mod constants;
 mod scalars;
 
-pub use bytes::static_bytes;
+pub use all_bytes::static_bytes;
 pub use constants::is_static_item;

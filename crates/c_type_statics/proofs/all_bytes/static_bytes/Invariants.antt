@@ -3,7 +3,7 @@ use Rattle.std.specs.Prelude.{fold}
 use Rattle.c_syntax.specs.Types.{object_tree}
 use Rattle.c_syntax.specs.TypedStmt.{tinit_tree}
 use Rattle.c_typing.specs.Inits.{static_bytes, with_item}
-use Rattle.c_type_statics.proofs.bytes.static_bytes.Given as goal
+use Rattle.c_type_statics.proofs.all_bytes.static_bytes.Given as goal
 
 -- what is left makes the whole
 abbrev pub invariant-each : goal.invariant-each
