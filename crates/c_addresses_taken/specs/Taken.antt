@@ -1,4 +1,5 @@
--- The objects whose addresses a program takes: by `&`, by an array that is no operand of an index, and in what static pointers hold at the start (C11 6.5.3.2p3, 6.3.2.1p3).
+-- The objects whose addresses a program takes: by `&`, by an array that is no operand of an index, and in what static pointers hold at the start (C11
+-- 6.5.3.2p3, 6.3.2.1p3).
 use Rattle.std.specs.Prelude.{◌==◌, ℕ, Bool, if◌then◌else◌, Option, None, Some, option_map, unwrap_or, List, [], ◌∷◌, ◌++◌, map, length}
 use Rattle.std.specs.List.{flat_map, list_any, range_with_len}
 use Rattle.c_syntax.specs.declared.operator.TBinaryOp.{TBinaryOp}

@@ -9,7 +9,8 @@ use Rattle.c_typing.specs.File.{TypesFile, Program}
 -- each statement of a body has the types that it asks for, and stands where it may (C11 6.8, 6.9.1)
 abbrev pub BodiesAreTyped : Type 0
 BodiesAreTyped =
-    (file : FileTree) (program : TProgramTree) → TypesFile file (Program program) → All (λ f. IfSome f.body (IsTypedStmt (body_standing program f))) program.functions
+    (file : FileTree) (program : TProgramTree) → TypesFile file (Program program)
+      → All (λ f. IfSome f.body (IsTypedStmt (body_standing program f))) program.functions
 
 -- an initial value has as many bytes as its object (C11 6.7.9p10, this profile)
 abbrev pub InitialsHaveSizes : Type 0

@@ -14,4 +14,5 @@ pub record IsOpenArray (object : ObjectTree) : Type 0 where
 
 -- each object has a type of the program and its size, is const as its elements are, and is no literal unless it is static; or it is an array without size
 abbrev pub ObjectsAreTyped : Type 0
-ObjectsAreTyped = (file : FileTree) (program : TProgramTree) → TypesFile file (Program program) → All (λ x. IsTypedObject program.structs x ⊎ IsOpenArray x) program.objects
+ObjectsAreTyped = (file : FileTree) (program : TProgramTree) → TypesFile file (Program program)
+    → All (λ x. IsTypedObject program.structs x ⊎ IsOpenArray x) program.objects

@@ -7,4 +7,5 @@ use Rattle.c_typing.specs.File.{TypesFile, Program}
 
 -- each piece of a pointer in an initial value is one of eight, and points to an object of static duration (C11 6.6p9)
 abbrev pub PiecesAreStatic : Type 0
-PiecesAreStatic = (file : FileTree) (program : TProgramTree) → TypesFile file (Program program) → All (λ initial. All (IsTypedByte program) initial.bytes) program.initial
+PiecesAreStatic = (file : FileTree) (program : TProgramTree) → TypesFile file (Program program)
+    → All (λ initial. All (IsTypedByte program) initial.bytes) program.initial

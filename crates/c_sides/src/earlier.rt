@@ -35,7 +35,8 @@ impl Earlier {
     // Whether one writes what the other touches: they, or a side with these effects.
     pub(crate) fn clashes(&self, taken: &[bool], effects: &Effects) -> bool
         ensures { (writes touches : List Touching) → HasDone self.now taken.now writes touches
-            → result ≡ list_any (λ s. list_any (met taken.now s) touches) effects.now.writes || list_any (λ s. list_any (met taken.now s) writes) effects.now.reads }
+            → result ≡ list_any (λ s. list_any (met taken.now s) touches) effects.now.writes
+            || list_any (λ s. list_any (met taken.now s) writes) effects.now.reads }
     {
         let forth = one_met(taken, effects.writes.as_slice(), &self.touches);
         let back = one_met(taken, effects.reads.as_slice(), &self.writes);

@@ -117,7 +117,8 @@ fn member_line(
     done: &mut Table<MemberMade>,
     line: &MemberDecl,
 ) -> Result<(), TypeError>
-    ensures { Answers (MemberLine (world_of world.old) (members_of done.old) (memberdecl_tree line.now)) (λ _. members_of done.new) (world_of world.new) result }
+    ensures { Answers (MemberLine (world_of world.old) (members_of done.old) (memberdecl_tree line.now)) (λ _. members_of done.new)
+        (world_of world.new) result }
 {
     let (pos, words, names) = line_parts(line);
     member_parts(world, done, pos, words, names)

@@ -19,7 +19,8 @@ pub data MakesSize (w : World) (object : ObjectNow) (by : Initialised) : CTypeTr
   by_count :
       object.measured ≡ true → (by.count == 0) ≡ false → size_or_zero w (measured_type object.ty by.count) ≤ 2 ^ 40
       → MakesSize w object by (measured_type object.ty by.count)
-      (with_total (with_sized w object.number (measured_type object.ty by.count) (size_or_zero w (measured_type object.ty by.count))) (size_or_zero w (measured_type object.ty by.count)))
+      (with_total (with_sized w object.number (measured_type object.ty by.count) (size_or_zero w (measured_type object.ty by.count)))
+        (size_or_zero w (measured_type object.ty by.count)))
 
 -- what stands for a declarator, with its initialiser if it has one
 pub data MakesInit : World → Declares → Option InitTree → Made → World → Type 0 where
@@ -31,18 +32,22 @@ pub data MakesInit : World → Declares → Option InitTree → Made → World �
       → MakesInit w (AnObject object) (Some init) (made_of object by.items by.zeroes_rest) (with_static v object ty by)
 
 -- one declarator, what it declares, and its initialiser, as they are typed
-pub record TypesStep (around : Context) (first : Pos) (storage : List StorageWord) (base : Form) (item : InitDeclaratorTree) (shape : Shape) (what : Declares) (made : Made)
+pub record TypesStep (around : Context) (first : Pos) (storage : List StorageWord) (base : Form) (item : InitDeclaratorTree) (shape : Shape)
+    (what : Declares) (made : Made)
     (w u v x : World) : Type 0 where
   pub declarator : TypesDeclarator w item.declarator (Typed shape u)
   pub name : Typed what v ≡ declared u around first storage base (is_some item.init) shape
   pub init : TypesInitOf v what item.init (Typed made x)
 
 -- declarators from left to right, behind what those before them made
-pub data MakesDeclarators (around : Context) (first : Pos) (storage : List StorageWord) (base : Form) : World → Made → List InitDeclaratorTree → Made → World → Type 0 where
+pub data MakesDeclarators (around : Context) (first : Pos) (storage : List StorageWord) (base : Form) : World → Made → List InitDeclaratorTree → Made
+    → World → Type 0 where
   none : {w : World} {done : Made} → MakesDeclarators around first storage base w done [] done w
   one_more :
-      {w u v x last : World} {done made all : Made} {item : InitDeclaratorTree} {rest : List InitDeclaratorTree} {shape : Shape} {named : DeclaredName} {what : Declares}
-      → TypesStep around first storage base item shape what made w u v x → shape.name ≡ Some named → MakesName around u storage shape.steps base (is_some item.init) named what v
+      {w u v x last : World} {done made all : Made} {item : InitDeclaratorTree} {rest : List InitDeclaratorTree} {shape : Shape} {named : DeclaredName}
+        {what : Declares}
+      → TypesStep around first storage base item shape what made w u v x → shape.name ≡ Some named
+      → MakesName around u storage shape.steps base (is_some item.init) named what v
       → MakesInit v what item.init made x → MakesDeclarators around first storage base x (made_then done made) rest all last
       → MakesDeclarators around first storage base w done (item ∷ rest) all last
 

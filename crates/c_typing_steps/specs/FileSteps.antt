@@ -24,7 +24,8 @@ pub data IsCounted (w : World) (params : List ParameterTree) : World → Type 0 
 -- the head of a definition: the function with its parameters, and the scope of its body
 pub data MakesHead (around : Context) (w : World) (steps : List Step) (base : Form) (named : DeclaredName) : Begun → World → Type 0 where
   head :
-      {params : List ParameterTree} {names : List Binding} {tags : List TagBinding} {rest : List Step} {types : List CTypeTree} {result : CTypeTree} {n : ℕ} {v x : World}
+      {params : List ParameterTree} {names : List Binding} {tags : List TagBinding} {rest : List Step} {types : List CTypeTree} {result : CTypeTree} {n : ℕ}
+        {v x : World}
       → steps ≡ FunctionOf params names tags ∷ rest → laid w named.pos steps base ≡ Typed (Callable types result) w
       → MakesFunction around w named params types result true (Some n) v → IsCounted v params x
       → MakesHead around w steps base named
@@ -32,7 +33,8 @@ pub data MakesHead (around : Context) (w : World) (steps : List Step) (base : Fo
       (in_body (with_function_at x n (defined_function named (numbers_from (length v.objects) (length params)))) (length v.objects) names tags)
 
 -- the specs, the declarator and the head of a definition, as they are typed
-pub record TypesHead (around : Context) (at : Pos) (specs : SpecTrees) (declarator : DeclaratorTree) (s : SpecsTree) (base : Form) (shape : Shape) (begun : Begun) (w u x y : World) : Type 0 where
+pub record TypesHead (around : Context) (at : Pos) (specs : SpecTrees) (declarator : DeclaratorTree) (s : SpecsTree) (base : Form) (shape : Shape)
+    (begun : Begun) (w u x y : World) : Type 0 where
   pub words : TypesSpecs w false no_specs_yet specs (Typed s u)
   pub told : type_told OfDeclaration (first_of at specs) s u ≡ Typed base u
   pub declarator_is : TypesDeclarator u declarator (Typed shape x)
@@ -42,7 +44,8 @@ pub record TypesHead (around : Context) (at : Pos) (specs : SpecTrees) (declarat
 pub data MakesOuter (w : World) (around : Context) : OuterTree → World → Type 0 where
   declares : {decl : DeclTree} {made : Made} {v : World} → MakesDecl w around decl made v → MakesOuter w around (files.Declared decl) v
   defines :
-      {at brace : Pos} {specs : SpecTrees} {declarator : DeclaratorTree} {body : BlockItemTrees} {s : SpecsTree} {base : Form} {shape : Shape} {named : DeclaredName} {begun : Begun} {made : Made}
+      {at brace : Pos} {specs : SpecTrees} {declarator : DeclaratorTree} {body : BlockItemTrees} {s : SpecsTree} {base : Form} {shape : Shape}
+        {named : DeclaredName} {begun : Begun} {made : Made}
       {u x y z : World}
       → TypesHead around at specs declarator s base shape begun w u x y → shape.name ≡ Some named → MakesHead around x shape.steps base named begun y
       → MakesItems y (in_function begun.result body around) nothing_made body made z
@@ -50,4 +53,5 @@ pub data MakesOuter (w : World) (around : Context) : OuterTree → World → Typ
 
 pub data MakesOuters (around : Context) : World → List OuterTree → World → Type 0 where
   no_more : {w : World} → MakesOuters around w [] w
-  and_then : {w u v : World} {tree : OuterTree} {rest : List OuterTree} → MakesOuter w around tree u → MakesOuters around u rest v → MakesOuters around w (tree ∷ rest) v
+  and_then : {w u v : World} {tree : OuterTree} {rest : List OuterTree} → MakesOuter w around tree u → MakesOuters around u rest v
+    → MakesOuters around w (tree ∷ rest) v

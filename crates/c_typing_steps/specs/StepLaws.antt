@@ -17,4 +17,5 @@ StatementsAreMade = (w v : World) (around : Context) (s : StmtTree) (items : TSt
 
 abbrev pub ItemsAreMade : Type 0
 ItemsAreMade =
-    (w v : World) (around : Context) (done made : Made) (items : BlockItemTrees) → TypesItems w around done items (Typed made v) → MakesItems w around done items made v
+    (w v : World) (around : Context) (done made : Made) (items : BlockItemTrees) → TypesItems w around done items (Typed made v)
+    → MakesItems w around done items made v

@@ -78,7 +78,8 @@ mutual
     default : {w v : World} {around : Context} {at : Pos} {body : StmtTree} {items : TStmtTrees} (t : IntType)
         → around.switch ≡ Some t → w.default ≡ None → MakesStmt (with_default w at) around body items v
         → MakesStmt w around (files.Default at body) (more (Default at) items) v
-    block : {w v : World} {around : Context} {at : Pos} {list : BlockItemTrees} {made : Made} → MakesItems (opened w) (inside_block around) nothing_made list made v
+    block : {w v : World} {around : Context} {at : Pos} {list : BlockItemTrees} {made : Made}
+      → MakesItems (opened w) (inside_block around) nothing_made list made v
         → MakesStmt w around (files.Block at list) (one (Block at kinds.Written made.objects made.items)) (closed w v)
     empty : {w : World} {around : Context} {at : Pos} → MakesStmt w around (files.Empty at) (one (Empty at)) w
     expression : {w v : World} {around : Context} {at : Pos} {e : written.ExprTree} {x : TExprTree} → IsValue w e x v
@@ -87,12 +88,14 @@ mutual
         → IsCondition (opened w) c x u → MakesStmt (opened u) (inside_block around) first items v
         → MakesStmt w around (files.If at c first) (one (If at x (Block (stmt_pos first) kinds.Added [] items) (no_else at))) (closed w (closed u v))
     if_else : {w u v x : World} {around : Context} {at : Pos} {c : written.ExprTree} {first second : StmtTree} {test : TExprTree} {items others : TStmtTrees}
-        → IsCondition (opened w) c test u → MakesStmt (opened u) (inside_block around) first items v → MakesStmt (opened (closed u v)) (inside_block around) second others x
+        → IsCondition (opened w) c test u → MakesStmt (opened u) (inside_block around) first items v
+        → MakesStmt (opened (closed u v)) (inside_block around) second others x
         → MakesStmt w around (files.IfElse at c first second)
         (one (If at test (Block (stmt_pos first) kinds.Added [] items) (Block (stmt_pos second) kinds.Added [] others))) (closed w (closed (closed u v) x))
     switch_block : {w u v : World} {around : Context} {at block_at : Pos} {value : written.ExprTree} {list : BlockItemTrees} {s : Switched} {made : Made}
         → IsSwitched (opened w) value s u → MakesItems (opened (without_cases u)) (inside_switch s.ty around) nothing_made list made v
-        → MakesStmt w around (files.Switch at value (files.Block block_at list)) (one (switch_node at s made)) (with_cases_of w (closed w (closed (without_cases u) v)))
+        → MakesStmt w around (files.Switch at value (files.Block block_at list)) (one (switch_node at s made))
+          (with_cases_of w (closed w (closed (without_cases u) v)))
     switch_one : {w u v : World} {around : Context} {at : Pos} {value : written.ExprTree} {body : StmtTree} {s : Switched} {items : TStmtTrees}
         → IsSwitched (opened w) value s u → MakesStmt (opened (without_cases u)) (inside_switch s.ty around) body items v
         → MakesStmt w around (files.Switch at value body) (one (Switch at s.value kinds.Added [] items)) (with_cases_of w (closed w v))
@@ -104,14 +107,17 @@ mutual
         → MakesStmt w around (files.DoWhile at body c) (one (DoWhile at (Block (stmt_pos body) kinds.Added [] items) x)) (closed w v)
     for : {w u v x y : World} {around : Context} {at : Pos} {start : ForStartTree} {c step : Option written.ExprTree} {body : StmtTree}
         {head : Made} {test next : Option TExprTree} {items : TStmtTrees}
-        → MakesStart (opened w) (inside_block around) start head u → MayCondition u c test v → MayStep v step next x → MakesStmt (opened x) (inside_loop around) body items y
-        → MakesStmt w around (files.For at start c step body) (one (For at head.objects head.items test next (Block (stmt_pos body) kinds.Added [] items))) (closed w (closed x y))
+        → MakesStart (opened w) (inside_block around) start head u → MayCondition u c test v → MayStep v step next x
+        → MakesStmt (opened x) (inside_loop around) body items y
+        → MakesStmt w around (files.For at start c step body) (one (For at head.objects head.items test next (Block (stmt_pos body) kinds.Added [] items)))
+          (closed w (closed x y))
     goto : {w : World} {around : Context} {at : Pos} {name : List ℕ} {n : ℕ} → position (λ label. bytes_eq label name) around.labels ≡ Some n
         → MakesStmt w around (files.Goto at name) (one (Goto at n)) w
     continue : {w : World} {around : Context} {at : Pos} → around.continues ≡ true → MakesStmt w around (files.Continue at) (one (Continue at)) w
     break : {w : World} {around : Context} {at : Pos} → around.breaks ≡ true → MakesStmt w around (files.Break at) (one (Break at)) w
     return_bare : {w : World} {around : Context} {at : Pos} → around.result ≡ Void → MakesStmt w around (files.Return at None) (one (Return at None)) w
-    return_value : {w v : World} {around : Context} {at : Pos} {e : written.ExprTree} {x y : TExprTree} → IsValue w e x v → store_row around.result (texpr_type x) x ≡ Some y
+    return_value : {w v : World} {around : Context} {at : Pos} {e : written.ExprTree} {x y : TExprTree} → IsValue w e x v
+      → store_row around.result (texpr_type x) x ≡ Some y
         → MakesStmt w around (files.Return at (Some e)) (one (Return at (Some y))) v
 
   -- the items of a block, behind those that stand before them

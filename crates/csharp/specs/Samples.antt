@@ -151,7 +151,8 @@ divides = function (1 ∷ []) (Sequence (checked 23 (plain kinds.DivideByZero) N
     (Return (Some (Binary (binaries.Arithmetic Divide ints.Int) (number 10) (Temp 1)))))
 
 abbrev chained : ℕ → CsProgramTree
-chained n = program (function [] (called 9 1 (number n) (Some 0) (Some 2)) ∷ function (0 ∷ []) (Sequence (called 5 2 (Temp 0) (Some 2) None) (Return (Some (Temp 2))))
+chained n = program (function [] (called 9 1 (number n) (Some 0) (Some 2)) ∷ function (0 ∷ []) (Sequence (called 5 2 (Temp 0) (Some 2) None)
+    (Return (Some (Temp 2))))
     ∷ divides ∷ [])
 
 -- a call that gives nothing: its flag is 0, and what asks for the value fails

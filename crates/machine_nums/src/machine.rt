@@ -41,7 +41,8 @@ fn less(alloc: Global, plain: NExpr, shift: i128) -> Result<NExpr, NoMemory>
 
 // What the bits of the expression are as a number of the type.
 fn bits_of(alloc: Global, plain: NExpr, t: IntType) -> Result<NExpr, NoMemory>
-    ensures { IfOk result (λ p. nexpr_tree p ≡ Binary Add (Binary And (Binary Sub (nexpr_tree plain) (Const (least t))) (Const (pos (2 ^ width t - 1)))) (Const (least t))) }
+    ensures { IfOk result (λ p. nexpr_tree p ≡ Binary Add (Binary And (Binary Sub (nexpr_tree plain) (Const (least t)))
+        (Const (pos (2 ^ width t - 1)))) (Const (least t))) }
 {
     let above = Box::new(alloc, less(alloc, plain, t.least())?)?;
     let mask = Box::new(alloc, NExpr::Const(mask(t)))?;
