@@ -1,0 +1,323 @@
+-- What the plain rules come to, worked out by hand: each operator, each cut and test, checks, and small runs.
+use Rattle.std.specs.Prelude.{◌≡◌, ℕ, ℤ, pos, negsuc, Bool, true, false, if◌then◌else◌, List, [], ◌∷◌, Option, Some, None, option_map, codes, slice_get, unwrap_or}
+use Rattle.c_written.specs.declared.place.Pos.{Pos}
+use Rattle.c_written.specs.declared.int_type.IntType.TheVariants as ints
+use Rattle.c_syntax.specs.declared.alarm.WrongKind.{WrongKind}
+use Rattle.c_syntax.specs.declared.alarm.WrongKind.TheVariants as kinds
+use Rattle.c_syntax.specs.declared.operator.Arithmetic.{Arithmetic}
+use Rattle.c_syntax.specs.declared.operator.Arithmetic.TheVariants as arithmetics
+use Rattle.c_syntax.specs.declared.operator.Shift.TheVariants.{Left, Right}
+use Rattle.c_syntax.specs.declared.operator.Comparison.{Comparison}
+use Rattle.c_syntax.specs.declared.operator.Comparison.TheVariants as comparisons
+use Rattle.c_syntax.specs.declared.operator.TUnaryOp.TheVariants as unaries
+use Rattle.c_syntax.specs.declared.operator.TBinaryOp.TheVariants as binaries
+use Rattle.c_syntax.specs.declared.program.InitByte.{InitByte}
+use Rattle.c_syntax.specs.declared.program.InitByte.TheVariants as inits
+use Rattle.c_syntax.specs.Types.{ObjectTree, Int}
+use Rattle.block_mem.specs.declared.types.Scalar.TheVariants as scalars
+use Rattle.num_api.specs.Spans.{Span, span, point}
+use Rattle.csharp.specs.Trees.{CsExprTree, Const, Temp, Address, Unary, Binary, Convert, CsStmtTree, Nothing, Set, Load, Store, Checked, Input}
+use Rattle.csharp.specs.Trees.{Assume, Sequence, If, Loop, Block, Exit, Scope, Return, Goto, none, more, CsCheckTree, CsProgramTree}
+use Rattle.plain_runs.specs.States.{Plain, span_of}
+use Rattle.plain_runs.specs.Changes.{plain_test, plain_set}
+use Rattle.plain_runs.specs.Checks.{plain_suspect, plain_pass}
+use Rattle.plain_runs.specs.Runs.{Suspect, Ran, ByReturn, plain_run}
+
+-- ---- states and expressions
+
+-- two ints, two unsigned ints and an unsigned char, with these numbers
+abbrev with : Span → Span → Span → Span → Span → Plain
+with a b c d e = record {
+  types = scalars.Int ints.Int ∷ scalars.Int ints.Int ∷ scalars.Int ints.UInt ∷ scalars.Int ints.UInt ∷ scalars.Int ints.UChar ∷ scalars.Pointer ∷ [];
+  temps = λ k. unwrap_or (slice_get (a ∷ b ∷ c ∷ d ∷ e ∷ []) k) (point (pos 0));
+  copies = λ k. None;
+  objects = λ x. None;
+  passed = None;
+}
+
+abbrev nil : Span
+nil = point (pos 0)
+
+abbrev ints_of : Span → Span → Plain
+ints_of a b = with a b nil nil nil
+
+abbrev unsigned : Span → Span → Plain
+unsigned c d = with nil nil c d nil
+
+abbrev to : ℕ → ℕ → Span
+to n m = span (pos n) (pos m)
+
+abbrev all_ints : Span
+all_ints = span (negsuc 2147483647) (pos 2147483647)
+
+abbrev number : ℕ → CsExprTree
+number n = Const ints.Int (pos n)
+
+abbrev op : Arithmetic → CsExprTree
+op how = Binary (binaries.Arithmetic how ints.Int) (Temp 0) (Temp 1)
+
+abbrev unsigned_op : Arithmetic → CsExprTree
+unsigned_op how = Binary (binaries.Arithmetic how ints.UInt) (Temp 2) (Temp 3)
+
+abbrev than : Comparison → CsExprTree → CsExprTree → CsExprTree
+than how a b = Binary (binaries.CompareInts how ints.Int) a b
+
+abbrev is : Comparison → CsExprTree
+is how = than how (Temp 0) (Temp 1)
+
+-- ---- values
+
+pub record ValuesAre : Type 0 where
+  pub constant : span_of (ints_of nil nil) (number 7) ≡ Some (point (pos 7))
+  pub sum : span_of (ints_of (to 1 3) (to 10 20)) (op arithmetics.Add) ≡ Some (to 11 23)
+  pub difference : span_of (ints_of (to 1 3) (to 10 20)) (op arithmetics.Subtract) ≡ Some (span (negsuc 18) (negsuc 6))
+  pub product : span_of (ints_of (span (negsuc 1) (pos 3)) (to 4 5)) (op arithmetics.Multiply) ≡ Some (span (negsuc 9) (pos 15))
+  pub quotient : span_of (ints_of (to 10 20) (span (negsuc 1) (pos 3))) (op arithmetics.Divide) ≡ Some (span (negsuc 19) (pos 20))
+  pub remainder : span_of (ints_of (span (negsuc 4) (pos 100)) (to 1 8)) (op arithmetics.Remainder) ≡ Some (span (negsuc 4) (pos 7))
+  pub remainder_of_few : span_of (ints_of (to 2 3) (to 1 8)) (op arithmetics.Remainder) ≡ Some (to 0 3)
+  pub minus : span_of (ints_of (span (negsuc 2) (pos 5)) nil) (Unary (unaries.Minus ints.Int) (Temp 0)) ≡ Some (span (negsuc 4) (pos 3))
+  pub unsigned_sum : span_of (unsigned (to 0 10) (point (pos 1))) (unsigned_op arithmetics.Add) ≡ Some (to 1 11)
+  pub unsigned_sum_wraps : span_of (unsigned (to 0 10) (to 0 4294967295)) (unsigned_op arithmetics.Add) ≡ Some (to 0 4294967295)
+  pub unsigned_difference_wraps : span_of (unsigned (to 0 10) (point (pos 1))) (unsigned_op arithmetics.Subtract) ≡ Some (to 0 4294967295)
+  pub and : span_of (ints_of (point (pos 12)) (point (pos 10))) (op arithmetics.BitAnd) ≡ Some (point (pos 8))
+  pub and_of_many : span_of (ints_of (to 12 13) (point (pos 10))) (op arithmetics.BitAnd) ≡ Some all_ints
+  pub or : span_of (ints_of (point (pos 12)) (point (pos 10))) (op arithmetics.BitOr) ≡ Some (point (pos 14))
+  pub exclusive_or : span_of (ints_of (point (pos 12)) (point (pos 10))) (op arithmetics.BitXor) ≡ Some (point (pos 6))
+  pub complement : span_of (ints_of (point (pos 5)) nil) (Unary (unaries.Complement ints.Int) (Temp 0)) ≡ Some (point (negsuc 5))
+  pub complement_of_many : span_of (ints_of (to 0 1) nil) (Unary (unaries.Complement ints.Int) (Temp 0)) ≡ Some all_ints
+  pub shift_left : span_of (ints_of (point (pos 3)) (point (pos 2))) (Binary (binaries.Shift Left ints.Int) (Temp 0) (Temp 1)) ≡ Some (point (pos 12))
+  pub shift_right : span_of (ints_of (point (pos 12)) (point (pos 2))) (Binary (binaries.Shift Right ints.Int) (Temp 0) (Temp 1)) ≡ Some (point (pos 3))
+  pub shift_of_many : span_of (ints_of (to 12 13) (point (pos 2))) (Binary (binaries.Shift Right ints.Int) (Temp 0) (Temp 1)) ≡ Some all_ints
+  pub conversion_keeps : span_of (ints_of (to 0 200) nil) (Convert ints.UChar (Temp 0)) ≡ Some (to 0 200)
+  pub conversion_loses : span_of (ints_of (to 0 300) nil) (Convert ints.UChar (Temp 0)) ≡ Some (to 0 255)
+  pub less : span_of (ints_of (to 0 5) (to 6 9)) (is comparisons.Less) ≡ Some (point (pos 1))
+  pub less_or_not : span_of (ints_of (to 0 5) (to 5 9)) (is comparisons.Less) ≡ Some (to 0 1)
+  pub not_less : span_of (ints_of (to 5 9) (to 0 5)) (is comparisons.Less) ≡ Some (point (pos 0))
+  pub greater : span_of (ints_of (to 6 9) (to 0 5)) (is comparisons.Greater) ≡ Some (point (pos 1))
+  pub at_most : span_of (ints_of (to 0 5) (to 5 9)) (is comparisons.AtMost) ≡ Some (point (pos 1))
+  pub at_least : span_of (ints_of (to 0 4) (to 5 9)) (is comparisons.AtLeast) ≡ Some (point (pos 0))
+  pub equal : span_of (ints_of (point (pos 5)) (point (pos 5))) (is comparisons.Equal) ≡ Some (point (pos 1))
+  pub equal_or_not : span_of (ints_of (to 0 5) (point (pos 5))) (is comparisons.Equal) ≡ Some (to 0 1)
+  pub unequal : span_of (ints_of (to 0 4) (point (pos 5))) (is comparisons.Unequal) ≡ Some (point (pos 1))
+  pub negation : span_of (ints_of (to 1 5) nil) (Unary unaries.Not (Temp 0)) ≡ Some (point (pos 0))
+  pub negation_of_zero : span_of (ints_of nil nil) (Unary unaries.Not (Temp 0)) ≡ Some (point (pos 1))
+  pub negation_or_not : span_of (ints_of (to 0 5) nil) (Unary unaries.Not (Temp 0)) ≡ Some (to 0 1)
+  pub no_integer : span_of (ints_of nil nil) (Temp 5) ≡ None
+  pub no_address : span_of (ints_of nil nil) (Address 0) ≡ None
+
+-- ---- tests
+
+-- what a test leaves of the first two temporaries and of the unsigned ones
+pub data Behind : Type 0 where
+  nothing : Behind
+  numbers : Span → Span → Behind
+
+abbrev left_of : Option Plain → Behind
+left_of None = nothing
+left_of (Some p) = numbers (p.temps 0) (p.temps 1)
+
+abbrev behind : Plain → CsExprTree → Bool → Option Behind
+behind p e truth = option_map left_of (plain_test p e truth)
+
+-- an int as an unsigned one, below 10
+abbrev unsigned_below : CsExprTree
+unsigned_below = Binary (binaries.CompareInts comparisons.Less ints.UInt) (Convert ints.UInt (Temp 0)) (Const ints.UInt (pos 10))
+
+pub record TestsAre : Type 0 where
+  pub below : behind (ints_of (to 0 20) nil) (than comparisons.Less (Temp 0) (number 10)) true ≡ Some (numbers (to 0 9) nil)
+  pub not_below : behind (ints_of (to 0 20) nil) (than comparisons.Less (Temp 0) (number 10)) false ≡ Some (numbers (to 10 20) nil)
+  pub turned : behind (ints_of (to 0 20) nil) (than comparisons.Greater (number 10) (Temp 0)) true ≡ Some (numbers (to 0 9) nil)
+  pub at_most : behind (ints_of (to 0 20) nil) (than comparisons.AtMost (Temp 0) (number 10)) true ≡ Some (numbers (to 0 10) nil)
+  pub at_least : behind (ints_of (to 0 20) nil) (than comparisons.AtLeast (Temp 0) (number 10)) true ≡ Some (numbers (to 10 20) nil)
+  pub equal : behind (ints_of (to 0 20) nil) (than comparisons.Equal (Temp 0) (number 10)) true ≡ Some (numbers (point (pos 10)) nil)
+  pub unequal_at_an_end : behind (ints_of (to 5 9) nil) (than comparisons.Equal (Temp 0) (number 5)) false ≡ Some (numbers (to 6 9) nil)
+  pub unequal_within : behind (ints_of (to 4 9) nil) (than comparisons.Unequal (Temp 0) (number 5)) true ≡ Some (numbers (to 4 9) nil)
+  pub two_sides : behind (ints_of (to 0 20) (to 5 8)) (is comparisons.Less) true ≡ Some (numbers (to 0 7) (to 5 8))
+  pub two_sides_back : behind (ints_of (to 6 20) (to 5 8)) (is comparisons.Less) true ≡ Some (numbers (to 6 7) (to 7 8))
+  pub excluded : behind (ints_of (to 10 20) nil) (than comparisons.Less (Temp 0) (number 10)) true ≡ Some nothing
+  pub negated : behind (ints_of (to 0 20) nil) (Unary unaries.Not (than comparisons.Less (Temp 0) (number 10))) true ≡ Some (numbers (to 10 20) nil)
+  pub converted : behind (ints_of (to 0 20) nil) unsigned_below true ≡ Some (numbers (to 0 9) nil)
+  pub not_kept : behind (ints_of (span (negsuc 0) (pos 20)) nil) unsigned_below true ≡ Some (numbers (span (negsuc 0) (pos 20)) nil)
+  pub truth : behind (ints_of (to 0 5) nil) (Temp 0) true ≡ Some (numbers (to 0 5) nil)
+  pub no_truth : behind (ints_of (to 1 5) nil) (Temp 0) false ≡ Some nothing
+  pub sum_below : behind (ints_of (to 0 20) (to 0 1)) (than comparisons.Less (op arithmetics.Add) (number 10)) true ≡ Some (numbers (to 0 20) (to 0 1))
+  pub pointer : behind (ints_of nil nil) (Temp 5) true ≡ None
+
+-- ---- checks
+
+abbrev at : ℕ → Pos
+at column = record { file = 0; line = 1; col = column }
+
+abbrev in_range : WrongKind → ℤ → ℤ → List CsExprTree → CsCheckTree
+in_range kind lo hi operands = record { check = record { kind = kind; lo = lo; hi = hi; size = 0; align = 0 }; pos = at 1; ty = None; operands = operands }
+
+abbrev in_int : WrongKind → CsExprTree → CsCheckTree
+in_int kind e = in_range kind (negsuc 2147483647) (pos 2147483647) (e ∷ [])
+
+abbrev of_zero : WrongKind → CsExprTree → CsCheckTree
+of_zero kind e = in_range kind (pos 0) (pos 0) (e ∷ [])
+
+abbrev amount : CsExprTree → CsCheckTree
+amount e = in_range kinds.ShiftAmount (pos 0) (pos 31) (e ∷ [])
+
+abbrev shifted : CsCheckTree
+shifted = in_range kinds.ShiftResult (pos 0) (pos 2147483647) (Binary (binaries.Shift Left ints.Int) (Temp 0) (Temp 1) ∷ [])
+
+-- the second temporary behind a check, or a sum that was checked and is then set
+abbrev second_of : Option Plain → Behind
+second_of None = nothing
+second_of (Some p) = numbers (p.temps 0) (p.temps 1)
+
+abbrev passes : Plain → CsCheckTree → Option Behind
+passes p c = option_map second_of (plain_pass p c)
+
+abbrev first_of : Option Plain → Option Span
+first_of None = None
+first_of (Some p) = Some (p.temps 0)
+
+abbrev set_behind : CsExprTree → Option Plain → Option Span
+set_behind e None = None
+set_behind e (Some p) = first_of (plain_set p 0 e)
+
+-- what a result has once its check has passed
+abbrev result : Plain → CsCheckTree → CsExprTree → Option (Option Span)
+result p c e = option_map (set_behind e) (plain_pass p c)
+
+abbrev near_the_end : Plain
+near_the_end = ints_of (to 2147483640 2147483647) (to 0 5)
+
+abbrev sum : CsExprTree
+sum = op arithmetics.Add
+
+pub record ChecksAre : Type 0 where
+  pub sum_fits : plain_suspect (ints_of (to 1 3) (to 10 20)) (in_int kinds.Overflow sum) ≡ Some false
+  pub sum_leaves : plain_suspect near_the_end (in_int kinds.Overflow sum) ≡ Some true
+  pub sum_passes : result near_the_end (in_int kinds.Overflow sum) sum ≡ Some (Some (to 2147483640 2147483647))
+  pub sum_never_passes : passes (ints_of (point (pos 2147483647)) (to 1 5)) (in_int kinds.Overflow sum) ≡ Some nothing
+  pub divisor : plain_suspect (ints_of nil (to 0 5)) (of_zero kinds.DivideByZero (Temp 1)) ≡ Some true
+  pub divisor_passes : passes (ints_of nil (to 0 5)) (of_zero kinds.DivideByZero (Temp 1)) ≡ Some (numbers nil (to 1 5))
+  pub divisor_within : passes (ints_of nil (span (negsuc 0) (pos 5))) (of_zero kinds.DivideByZero (Temp 1)) ≡ Some (numbers nil (span (negsuc 0) (pos 5)))
+  pub divisor_is_zero : passes (ints_of nil nil) (of_zero kinds.DivideByZero (Temp 1)) ≡ Some nothing
+  pub quotient : plain_suspect (ints_of all_ints (span (negsuc 0) (pos 5))) (in_int kinds.Quotient (op arithmetics.Divide)) ≡ Some true
+  pub quotient_fits : plain_suspect (ints_of all_ints (to 1 5)) (in_int kinds.Quotient (op arithmetics.Divide)) ≡ Some false
+  pub by_its_quotient : plain_suspect (ints_of all_ints (span (negsuc 0) (pos 5))) (in_int kinds.Quotient (op arithmetics.Remainder)) ≡ Some true
+  pub remainder_is_not_cut : result (ints_of all_ints (span (negsuc 0) (pos 5))) (in_int kinds.Quotient (op arithmetics.Remainder)) (op arithmetics.Remainder)
+      ≡ Some (Some (span (negsuc 3) (pos 4)))
+  pub amount_leaves : plain_suspect (ints_of nil (to 5 40)) (amount (Temp 1)) ≡ Some true
+  pub amount_passes : passes (ints_of nil (to 5 40)) (amount (Temp 1)) ≡ Some (numbers nil (to 5 31))
+  pub amount_fits : plain_suspect (ints_of nil (to 0 31)) (amount (Temp 1)) ≡ Some false
+  pub point_shifts : plain_suspect (ints_of (point (pos 3)) (point (pos 2))) shifted ≡ Some false
+  pub point_leaves : plain_suspect (ints_of (point (pos 1)) (point (pos 31))) shifted ≡ Some true
+  pub many_shift : plain_suspect (ints_of (to 1 2) (point (pos 2))) shifted ≡ Some true
+  pub many_pass : result (ints_of (to 1 2) (point (pos 2))) shifted (Binary (binaries.Shift Left ints.Int) (Temp 0) (Temp 1)) ≡ Some (Some (to 0 2147483647))
+  pub assertion : plain_suspect (ints_of (to 0 1) nil) (of_zero kinds.AssertFailed (Temp 0)) ≡ Some true
+  pub assertion_cuts_nothing : passes (ints_of (to 0 1) nil) (of_zero kinds.AssertFailed (Temp 0)) ≡ Some (numbers (to 0 1) nil)
+  pub assertion_never_holds : passes (ints_of nil nil) (of_zero kinds.AssertFailed (Temp 0)) ≡ Some nothing
+  pub another_value_is_not_cut : result near_the_end (in_int kinds.Overflow sum) (op arithmetics.BitAnd) ≡ Some (Some all_ints)
+
+-- ---- runs
+
+abbrev object : Bool → ObjectTree
+object is_static = record { name = codes "x"; pos = at 1; ty = Int ints.Int; size = 4; read_only = false; is_static = is_static }
+
+abbrev zero_byte : InitByte
+zero_byte = inits.Num 0
+
+-- object 0 is automatic, and object 1 static and 0
+abbrev program : CsStmtTree → CsProgramTree
+program body = record {
+  structs = [];
+  objects = object false ∷ object true ∷ [];
+  initial = record { object = 1; bytes = zero_byte ∷ zero_byte ∷ zero_byte ∷ zero_byte ∷ [] } ∷ [];
+  functions = record { params = []; body = body } ∷ [];
+  temps = scalars.Int ints.Int ∷ scalars.Int ints.Int ∷ [];
+  main = 0;
+}
+
+abbrev load : ℕ → ℕ → CsStmtTree
+load d x = Load d (scalars.Int ints.Int) (Address x)
+
+abbrev store : ℕ → CsExprTree → CsStmtTree
+store x e = Store (scalars.Int ints.Int) (Address x) e
+
+abbrev steps : List CsStmtTree → CsStmtTree
+steps [] = Nothing
+steps (a ∷ rest) = Sequence a (steps rest)
+
+abbrev loaded_check : ℕ → ℕ → CsStmtTree
+loaded_check x column = Checked (record {
+  check = record { kind = kinds.Indeterminate; lo = pos 0; hi = pos 0; size = 0; align = 0 };
+  pos = at column;
+  ty = Some (scalars.Int ints.Int);
+  operands = Address x ∷ [];
+})
+
+abbrev overflow_check : CsExprTree → ℕ → CsStmtTree
+overflow_check e column = Checked (record (in_int kinds.Overflow e) { pos = at column })
+
+abbrev in_scope : CsStmtTree → CsStmtTree
+in_scope body = Scope (0 ∷ []) (more body none)
+
+abbrev plus_one : ℕ → CsExprTree
+plus_one d = Binary (binaries.Arithmetic arithmetics.Add ints.Int) (Temp d) (number 1)
+
+-- x = 0; while (x < n) x = x + 1; return x;
+abbrev counted : ℕ → CsStmtTree
+counted n = in_scope (steps (
+    store 0 (number 0)
+    ∷ Block (Loop (at 2) (steps (
+    load 0 0
+    ∷ If (than comparisons.Less (Temp 0) (number n)) Nothing (Exit 0)
+    ∷ load 1 0
+    ∷ overflow_check (plus_one 1) 3
+    ∷ Set 1 (plus_one 1)
+    ∷ store 0 (Temp 1)
+    ∷ [])))
+    ∷ load 0 0
+    ∷ Return (Some (Temp 0))
+    ∷ []))
+
+-- x is read before it has a value
+abbrev unread : CsStmtTree
+unread = in_scope (steps (loaded_check 0 5 ∷ load 0 0 ∷ Return (Some (Temp 0)) ∷ []))
+
+-- x = input; if (x > 100) y = 100; else y = x; return y + 1;
+abbrev limited : CsStmtTree
+limited = in_scope (steps (
+    Input 0 ints.Int
+    ∷ store 0 (Temp 0)
+    ∷ load 0 0
+    ∷ If (than comparisons.Greater (Temp 0) (number 100)) (store 1 (number 100)) (steps (load 1 0 ∷ store 1 (Temp 1) ∷ []))
+    ∷ load 1 1
+    ∷ overflow_check (plus_one 1) 4
+    ∷ Set 1 (plus_one 1)
+    ∷ Return (Some (Temp 1))
+    ∷ []))
+
+-- how a run of main ends: not there; or with these numbers of the first two temporaries where it returns, and these suspects
+pub data End : Type 0 where
+  none_there : End
+  returned : Option Behind → List Suspect → End
+
+abbrev end_of : Ran → End
+end_of ran = if ran.there then returned (option_map (λ p. numbers (p.temps 0) (p.temps 1)) (ran.exits ByReturn)) ran.suspects else none_there
+
+abbrev ends : ℕ → CsStmtTree → End
+ends bound body = end_of (plain_run bound (program body))
+
+pub record RunsAre : Type 0 where
+  pub within_the_bound : ends 3 (counted 3) ≡ returned (Some (numbers (point (pos 3)) (point (pos 3)))) []
+  pub beyond_the_bound : ends 2 (counted 3) ≡ none_there
+  pub no_turn : ends 0 (counted 0) ≡ returned (Some (numbers (point (pos 0)) (point (pos 0)))) []
+  pub read_before_it_has_a_value : ends 0 unread ≡ returned (Some (numbers all_ints nil)) (record { at = at 5; kind = kinds.Indeterminate } ∷ [])
+  pub object_is_cut_with_its_copy : ends 0 limited ≡ returned (Some (numbers all_ints (span (negsuc 2147483646) (pos 101)))) []
+  pub static_object_is_zero : ends 0 (steps (load 0 1 ∷ Return (Some (Temp 0)) ∷ [])) ≡ returned (Some (numbers nil nil)) []
+  pub no_goto : ends 0 (Goto 0) ≡ none_there
+  pub nothing_behind_a_false_assumption : ends 0 (steps (Assume (number 0) ∷ Return None ∷ [])) ≡ returned None []
+
+-- all of them
+pub record SamplesAre : Type 0 where
+  pub values : ValuesAre
+  pub tests : TestsAre
+  pub checks : ChecksAre
+  pub runs : RunsAre
