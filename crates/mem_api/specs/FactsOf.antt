@@ -1,0 +1,40 @@
+-- When facts hold of a state, and what they name.
+use Rattle.std.specs.Prelude.{◌≡◌, ℕ, ℤ, ◌<◌, ◌++◌, List, All, Option, Some, IsSomeAnd, slice_get}
+use Rattle.c_syntax.specs.declared.alarm.Cell.{Cell}
+use Rattle.c_syntax.specs.declared.alarm.Fact.{Fact}
+use Rattle.c_syntax.specs.declared.alarm.Fact.TheVariants as facts
+use Rattle.c_syntax.specs.Fact.{FactHolds}
+use Rattle.c_syntax.specs.Types.{Int}
+use Rattle.c_written.specs.declared.int_type.IntType.{IntType}
+use Rattle.c_written.specs.Integer.{bytes}
+use Rattle.c_values.specs.Places.{ObjectMemory}
+use Rattle.c_objects.specs.Cells.{IsCellNumber, cell_spot}
+use Rattle.csharp.specs.Trees.{CsProgramTree}
+use Rattle.mem_api.specs.Showing.{NamesAmong}
+
+-- each number that is told of a cell is the cell's
+abbrev pub TellNumbers : CsProgramTree → ObjectMemory → (Cell → Option ℤ) → Type 0
+TellNumbers q m number = (cell : Cell) (n : ℤ) → number cell ≡ Some n → IsCellNumber q.structs q.objects m cell n
+
+-- the fact holds, whatever is told of cells
+abbrev pub HoldsIn : CsProgramTree → ObjectMemory → Fact → Type 0
+HoldsIn q m fact = (number : Cell → Option ℤ) → TellNumbers q m number → FactHolds q.objects number (cell_spot m) fact
+
+abbrev pub NamesFactObjects : ℕ → Fact → Type 0
+NamesFactObjects count (facts.Between x lo hi) = x.object < count
+NamesFactObjects count (facts.Class x rem modulus) = x.object < count
+NamesFactObjects count (facts.AtMost sx x sy y bound) = (x.object < count) × (y.object < count)
+NamesFactObjects count (facts.PointsTo x set) = (x.object < count) × NamesAmong count set
+
+-- facts are put behind those that were there, and each new one is so
+abbrev pub Adds : List Fact → List Fact → (Fact → Type 0) → Type 0
+Adds before after Is = (more : List Fact) × (after ≡ before ++ more) × All Is more
+
+-- the number of a whole integer object
+pub record IsWhole (q : CsProgramTree) (m : ObjectMemory) (x : ℕ) (n : ℤ) : Type 0 where
+  pub ty : IntType
+  pub integer : IsSomeAnd (slice_get q.objects x) (λ object. object.ty ≡ Int ty)
+  pub number : IsCellNumber q.structs q.objects m (record { object = x; offset = 0; size = bytes ty }) n
+
+abbrev pub whole_cell : ℕ → ℕ → Cell
+whole_cell x size = record { object = x; offset = 0; size = size }
