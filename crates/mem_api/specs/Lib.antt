@@ -4,3 +4,4 @@ pub mod Named
 pub mod Likeness
 pub mod FactsOf
 pub mod Abstract
+pub mod Owned

@@ -21,6 +21,8 @@
 
 mod domain;
 mod fixpoint;
+#[cfg(test)]
+mod tests;
 
 pub use domain::{Exact, MemDomain};
 pub use fixpoint::settle;
