@@ -1,0 +1,6 @@
+pub mod Classes
+pub mod Ends
+pub mod Hits
+pub mod Unfailing
+pub mod Matches
+pub mod Together

@@ -1,0 +1,4 @@
+pub mod Decisions
+pub mod Offsets
+pub mod Pairs
+pub mod Spans

@@ -1,0 +1,86 @@
+//! Whether what is shown of a check holds an operand that fails it.
+//!
+//! A domain shows a superset of the operands that a check may meet: a range and a class of whole numbers, one
+//! or two sets of pointers, marks of a load, or ends of a call. For example, where a divisor lies in
+//! [-1, 8], `decide` answers `May` with the number 0; where it is odd besides, it answers `Holds`, since 0 is
+//! not odd.
+//!
+//! `specs/Decisions.antt` states the answer, by the definitions of `c_syntax` on what is shown and what fails.
+//! No call takes memory.
+#![tactic(auto)]
+
+ghost use Rattle.std.specs.Prelude.{◌≡◌, ℤ, List, length, map, MatchOption, IsTrue};
+ghost use Rattle.c_syntax.specs.Types.{ObjectTree, object_tree};
+ghost use Rattle.c_syntax.specs.Operand.{Operand, Number, Mark, End, operand_of};
+ghost use Rattle.c_syntax.specs.Admission.{IsProper, Fails, IsMarkIn, IsEndIn};
+ghost use Rattle.decide.specs.Spans.{InSpan, IsSpan};
+ghost use Rattle.decide.specs.Decisions.{HasFields, NamesObjects, IsFailing, IsDecision};
+
+mod mark;
+mod number;
+mod pair;
+mod place;
+mod remainder;
+mod span;
+mod spot;
+mod wanted;
+
+use c_syntax::{Check, Example, Object, Shown};
+use span::Span;
+
+/// What is to be said of a check.
+#[derive(Clone, Copy, Debug, PartialEq, Eq)]
+pub enum Decision {
+    /// No operand that is shown fails.
+    Holds,
+    /// This operand is shown, and fails.
+    May(Example),
+}
+
+/// Whether an operand that is shown fails the check, and one that does. The objects are those of the program.
+pub fn decide(check: &Check, shown: &Shown, objects: &[Object]) -> Decision
+    requires fields { HasFields check.now }
+    requires names { NamesObjects (length objects.now) shown.now }
+    requires proper { IsProper shown.now }
+    ensures { IsDecision (map object_tree objects.now) check.now shown.now result }
+{
+    match failing(check, shown, objects) {
+        Some(example) => Decision::May(example),
+        None => Decision::Holds,
+    }
+}
+
+// An operand that is shown and fails the check, if there is one.
+fn failing(check: &Check, shown: &Shown, objects: &[Object]) -> Option<Example>
+    requires fields { HasFields check.now }
+    requires names { NamesObjects (length objects.now) shown.now }
+    requires proper { IsProper shown.now }
+    ensures { MatchOption result ((x : Operand) → IsFailing (map object_tree objects.now) check.now shown.now x → ⊥)
+        (λ e. IsFailing (map object_tree objects.now) check.now shown.now (operand_of e)) }
+{
+    match shown {
+        Shown::Number {
+            lo,
+            hi,
+            modulus,
+            rem,
+        } => {
+            let n = number::failing_number(check, Span::of(*lo, *hi, *modulus, *rem))?;
+            Some(Example::Number(n))
+        }
+        Shown::One(set) => {
+            let spot = spot::failing_spot(check, set, objects)?;
+            Some(Example::Point(spot))
+        }
+        Shown::Pair(left, right) => {
+            let pair = pair::failing_pair(check, left, right, objects)?;
+            Some(Example::Points(pair.left, pair.right))
+        }
+        Shown::Marks {
+            undef,
+            value: _,
+            broken,
+        } => mark::failing_mark(check.kind, *undef, *broken),
+        Shown::Ends { value: _, none } => mark::failing_end(check.kind, *none),
+    }
+}
