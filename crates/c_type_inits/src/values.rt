@@ -1,0 +1,92 @@
+// Expressions that are items of a list, or the whole of an initialiser.
+#![tactic(auto)]
+
+ghost use Rattle.std.specs.Prelude.{map};
+ghost use Rattle.c_written.specs.Written.{expr_tree};
+ghost use Rattle.c_syntax.specs.Types.{ctype_tree};
+ghost use Rattle.c_syntax.specs.TypedStmt.{tinit_tree};
+ghost use Rattle.c_typing.specs.Inits as inits;
+ghost use Rattle.c_type_errors.specs.Views.{Answers};
+ghost use Rattle.c_type_init_places.specs.Views.{aggregates_tree, part_tree};
+ghost use Rattle.c_type_names.specs.Worlds.{world_of};
+ghost use Rattle.c_type_fills.specs.Views.{by_tree};
+ghost use Rattle.c_type_inits.specs.Forms.{ValueInPart, ValueItem};
+ghost use Rattle.c_type_inits.specs.Views.{filled_tree};
+
+use crate::excess::too_many;
+use crate::filled::{Filled, with_item};
+use c_syntax::{CType, Expr, TInit};
+use c_type_errors::TypeError;
+use c_type_exprs::value;
+use c_type_fills::{Initialised, fill};
+use c_type_init_places::{Aggregates, Item, Part};
+use c_type_names::World;
+
+/// An expression that is no string literal, as an item.
+pub(crate) fn value_item(
+    world: &mut World,
+    is_static: bool,
+    whole: &CType,
+    done: Filled,
+    e: &Expr,
+) -> Result<Filled, TypeError>
+    ensures { Answers (ValueItem (world_of world.old) is_static (ctype_tree whole.now) (filled_tree done) (expr_tree e.now))
+        filled_tree (world_of world.new) result }
+{
+    let Filled {
+        items,
+        mut aggregates,
+    } = done;
+    let next = aggregates.next_part(&world.structs)?;
+    match next {
+        None => {
+            let typed = value(world, e);
+            Err(too_many(world, whole, e.pos(), typed))
+        }
+        Some(part) => value_in_part(world, is_static, items, aggregates, part, e),
+    }
+}
+
+// The value of an expression in the part that is next.
+fn value_in_part(
+    world: &mut World,
+    is_static: bool,
+    items: Vec<TInit>,
+    aggregates: Aggregates,
+    part: Part,
+    e: &Expr,
+) -> Result<Filled, TypeError>
+    ensures { Answers (ValueInPart (world_of world.old) is_static (map tinit_tree items.items) (aggregates_tree aggregates) (part_tree part) (expr_tree e.now))
+        filled_tree (world_of world.new) result }
+{
+    let mut aggregates = aggregates;
+    let x = typed!(value(world, e));
+    let ty = x.ty()?;
+    let item = Item::Value(ty);
+    let inner = aggregates.filled_in(&world.structs, &item, part)?;
+    let stored = typed!(fill(world, is_static, inner, e.pos(), x));
+    let filled = with_item(items, stored, aggregates)?;
+    Ok(filled)
+}
+
+/// An expression that initialises a whole object.
+pub(crate) fn by_value(
+    world: &mut World,
+    is_static: bool,
+    ty: &CType,
+    e: &Expr,
+) -> Result<Initialised, TypeError>
+    ensures { Answers (inits.ByValue (world_of world.old) is_static (ctype_tree ty.now) (expr_tree e.now)) by_tree (world_of world.new) result }
+{
+    let x = typed!(value(world, e));
+    let ty = ty.copy()?;
+    let part = Part { ty, offset: 0 };
+    let stored = typed!(fill(world, is_static, part, e.pos(), x));
+    let mut items = Vec::new(world.alloc());
+    items.push(stored)?;
+    Ok(Initialised {
+        items,
+        zeroes_rest: false,
+        count: 0,
+    })
+}
