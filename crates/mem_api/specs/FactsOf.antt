@@ -10,7 +10,7 @@ use Rattle.c_written.specs.Integer.{bytes}
 use Rattle.c_values.specs.Places.{ObjectMemory}
 use Rattle.c_objects.specs.Cells.{IsCellNumber, cell_spot}
 use Rattle.csharp.specs.Trees.{CsProgramTree}
-use Rattle.mem_api.specs.Showing.{NamesAmong}
+use Rattle.decide.specs.Decisions.{NamesBelow}
 
 -- each number that is told of a cell is the cell's
 abbrev pub TellNumbers : CsProgramTree → ObjectMemory → (Cell → Option ℤ) → Type 0
@@ -24,7 +24,7 @@ abbrev pub NamesFactObjects : ℕ → Fact → Type 0
 NamesFactObjects count (facts.Between x lo hi) = x.object < count
 NamesFactObjects count (facts.Class x rem modulus) = x.object < count
 NamesFactObjects count (facts.AtMost sx x sy y bound) = (x.object < count) × (y.object < count)
-NamesFactObjects count (facts.PointsTo x set) = (x.object < count) × NamesAmong count set
+NamesFactObjects count (facts.PointsTo x set) = (x.object < count) × NamesBelow count set
 
 -- facts are put behind those that were there, and each new one is so
 abbrev pub Adds : List Fact → List Fact → (Fact → Type 0) → Type 0

@@ -61,12 +61,3 @@ looked_at c s = operand_of c.check.kind c.ty c.operands s
 pub record IsAlone (objects : List ObjectTree) (x : Operand) (shown : Shown) : Type 0 where
   pub there : IsInShown objects x shown
   pub only : (y : Operand) → IsInShown objects y shown → y ≡ x
-
--- the objects that a set names are among so many
-abbrev pub NamesAmong : ℕ → Pointers → Type 0
-NamesAmong count set = All (λ o. o < count) set.names
-
-abbrev pub ShowsAmong : ℕ → Shown → Type 0
-ShowsAmong count (shows.One set) = NamesAmong count set
-ShowsAmong count (shows.Pair left right) = NamesAmong count left × NamesAmong count right
-ShowsAmong count shown = Unit {0}

@@ -17,8 +17,9 @@ ghost use Rattle.csharp.specs.Actions as acts;
 ghost use Rattle.plain_runs.specs.States.{Plain, plain_first, hull};
 ghost use Rattle.plain_runs.specs.Changes as plains;
 ghost use Rattle.plain_runs.specs.Checks.{plain_suspect, plain_pass};
+ghost use Rattle.decide.specs.Decisions.{NamesObjects};
 ghost use Rattle.mem_api.specs.Given.{IsGiven, AreForOne};
-ghost use Rattle.mem_api.specs.Showing.{HasForm, IsAlone, ShowsAmong, looked_at};
+ghost use Rattle.mem_api.specs.Showing.{HasForm, IsAlone, looked_at};
 ghost use Rattle.mem_api.specs.Named.{Fixed, IsNamed, LooksAtPlace, fixed_at, ShowsOnly, ShowsOffset};
 ghost use Rattle.mem_api.specs.Likeness.{IsAlike};
 ghost use Rattle.mem_api.specs.FactsOf.{Adds, HoldsIn, NamesFactObjects};
@@ -162,7 +163,7 @@ pub trait MemDomain: Sized + Drop {
         ensures holds { IfOk result (λ w. (q : CsProgramTree) (s : State) (x : Operand) → Self.is_for self.now q → Self.stands self.now s
             → looked_at (cscheck_tree check.now) s ≡ Some x → IsInShown q.objects x w) }
         ensures form { IfOk result (λ w. HasForm check.now.check.kind (cscheck_tree check.now).operands w) }
-        ensures names { IfOk result (λ w. (q : CsProgramTree) → Self.is_for self.now q → ShowsAmong (length q.objects) w) }
+        ensures names { IfOk result (λ w. (q : CsProgramTree) → Self.is_for self.now q → NamesObjects (length q.objects) w) }
         ensures proper { IfOk result (λ w. IsProper w) }
         ensures sharp { IfOk result (λ w. (q : CsProgramTree) (s : State) (x : Operand) → Self.is_for self.now q → Self.sharp self.now s
             → looked_at (cscheck_tree check.now) s ≡ Some x → IsAlone q.objects x w) }
