@@ -1,6 +1,5 @@
 -- What is to be shown of a check.
-use Rattle.std.specs.Prelude.{◌≡◌, ℕ, ◌<◌, List, [], ◌∷◌, All, Option}
-use Rattle.c_syntax.specs.declared.alarm.Pointers.{Pointers}
+use Rattle.std.specs.Prelude.{◌≡◌, List, [], ◌∷◌, Option}
 use Rattle.c_syntax.specs.declared.alarm.Shown.{Shown}
 use Rattle.c_syntax.specs.declared.alarm.Shown.TheVariants as shows
 use Rattle.c_syntax.specs.declared.alarm.WrongKind.{WrongKind}
