@@ -50,12 +50,7 @@ pub(crate) fn too_many(
 }
 
 /// The refusal of a list in the braces of a scalar, which has its own: the first expression in it is one item too many.
-pub(crate) fn list_in_braces(
-    world: &mut World,
-    whole: &CType,
-    at: Pos,
-    list: &Inits,
-) -> TypeError
+pub(crate) fn list_in_braces(world: &mut World, whole: &CType, at: Pos, list: &Inits) -> TypeError
     ensures { IfSome (refusal_of result) (λ r. ListInBraces (world_of world.old) (ctype_tree whole.now) at (inits_tree list.now) (worlds.Refused r)) }
 {
     match list.as_slice().split_first() {

@@ -18,9 +18,9 @@ pub list_in_braces-requires : goal.list_in_braces-requires
 list_in_braces-requires t c =
     let rest = inits_from c.in-Some._rest.now in
     let list : inits_tree c.args.list.now ≡ decls.more_inits (init_tree c.in-Some.first.now) rest
-        = sym c.as_slice.ensures ∙ ap inits_from c.in-Some.ensures.cases.0 ∙ inits_cons c.in-Some.first.now c.in-Some._rest.now in
+    = sym c.as_slice.ensures ∙ ap inits_from c.in-Some.ensures.cases.0 ∙ inits_cons c.in-Some.first.now c.in-Some._rest.now in
     let size : inits_size (inits_tree c.args.list.now) ≡ inits_size (decls.more_inits (decls.Braces c.in-Braces.pos (inits_tree c.in-Braces.items)) rest)
-        = ap inits_size (list ∙ ap (λ item. decls.more_inits item rest) (ap init_tree c.in-Braces.is ∙ init_braces c.in-Braces.pos c.in-Braces.items)) in
+    = ap inits_size (list ∙ ap (λ item. decls.more_inits item rest) (ap init_tree c.in-Braces.is ∙ init_braces c.in-Braces.pos c.in-Braces.items)) in
     (omega arith, tt)
 
 pub returns-in-None : goal.returns-in-None
@@ -37,7 +37,7 @@ returns-in-Braces t c =
     let whole = ctype_tree c.args.whole.now in
     let rest = inits_from c.in-Some._rest.now in
     let list : inits_tree c.args.list.now ≡ decls.more_inits (init_tree c.in-Some.first.now) rest
-        = sym c.as_slice.ensures ∙ ap inits_from c.in-Some.ensures.cases.0 ∙ inits_cons c.in-Some.first.now c.in-Some._rest.now in
+    = sym c.as_slice.ensures ∙ ap inits_from c.in-Some.ensures.cases.0 ∙ inits_cons c.in-Some.first.now c.in-Some._rest.now in
     IfSome_then (refusal_of c.list_in_braces.result) c.list_in_braces.ensures (λ r p.
     subst (λ l. ListInBraces w whole c.args.at l (Refused r))
     (sym (list ∙ ap (λ item. decls.more_inits item rest) (ap init_tree c.in-Braces.is ∙ init_braces c.in-Braces.pos c.in-Braces.items)))
@@ -49,7 +49,7 @@ returns-in-Value t c =
     let whole = ctype_tree c.args.whole.now in
     let rest = inits_from c.in-Some._rest.now in
     let list : inits_tree c.args.list.now ≡ decls.more_inits (init_tree c.in-Some.first.now) rest
-        = sym c.as_slice.ensures ∙ ap inits_from c.in-Some.ensures.cases.0 ∙ inits_cons c.in-Some.first.now c.in-Some._rest.now in
+    = sym c.as_slice.ensures ∙ ap inits_from c.in-Some.ensures.cases.0 ∙ inits_cons c.in-Some.first.now c.in-Some._rest.now in
     IfSome_then (refusal_of c.too_many.result) (c.too_many.ensures w (expr_tree c.in-Value.e) c.pos.ensures c.value-typed.ensures) (λ r p.
     subst (λ l. ListInBraces w whole c.args.at l (Refused r)) (sym (list ∙ ap (λ item. decls.more_inits item rest) (ap init_tree c.in-Value.is ∙ init_value c.in-Value.e)))
     (expression_line w whole c.args.at (expr_tree c.in-Value.e) rest (Refused r) p))

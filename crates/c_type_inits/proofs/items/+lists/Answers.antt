@@ -27,9 +27,9 @@ pub list_items-one_item-requires : goal.list_items-one_item-requires
 list_items-one_item-requires t c =
     let slice : inits_size (inits_from c.as_slice-items.result.now) ≡ inits_size (inits_tree c.args.list.now) = ap inits_size c.as_slice-items.ensures in
     let one : init_size (init_tree c.item-item.result) ≡ init_size (init_tree (get_or c.as_slice-items.result.now c.each.item-index c.item-item.result))
-        = ap (λ x. init_size (init_tree x)) c.item-item.is in
+    = ap (λ x. init_size (init_tree x)) c.item-item.is in
     let below : init_size (init_tree (get_or c.as_slice-items.result.now c.each.item-index c.item-item.result)) < inits_size (inits_from c.as_slice-items.result.now)
-        = inits_item c.as_slice-items.result.now c.each.item-index c.item-item.result c.each-test.true in
+    = inits_item c.as_slice-items.result.now c.each.item-index c.item-item.result c.each-test.true in
     (omega arith, tt)
 
 pub list_items-each-init : goal.list_items-each-init
@@ -66,7 +66,7 @@ one_item-returns-in-Value t c =
 pub one_item-list_item-requires : goal.one_item-list_item-requires
 one_item-list_item-requires t c =
     let size : init_size (init_tree c.args.item.now) ≡ init_size (decls.Braces c.in-Braces.pos (inits_tree c.in-Braces.items))
-        = ap init_size (ap init_tree c.in-Braces.is ∙ init_braces c.in-Braces.pos c.in-Braces.items) in
+    = ap init_size (ap init_tree c.in-Braces.is ∙ init_braces c.in-Braces.pos c.in-Braces.items) in
     (omega arith, tt)
 
 pub list_item-returns-in-None : goal.list_item-returns-in-None
@@ -121,9 +121,9 @@ list_in_part-returns-in-Err t c =
     let part = part_tree c.args.part in
     let begun = c.nothing_filled-nothing.ensures ∙ ap (λ f. inits.filled_so [] (objects.in_braces f)) c.of-frame.ensures in
     let so : (o : Outcome inits.Filled) → TypesItems w c.args.is_static (ctype_tree c.in_ok-whole.whole) (filled_tree c.nothing_filled-nothing.result) (inits_tree c.args.list.now) o
-        → TypesItems w c.args.is_static part.ty (inits.filled_so [] (objects.in_braces (objects.frame_of w.structs part))) (inits_tree c.args.list.now) o
-        = λ o p. subst (λ ty. TypesItems w c.args.is_static ty (inits.filled_so [] (objects.in_braces (objects.frame_of w.structs part))) (inits_tree c.args.list.now) o) c.in_ok-whole.ensures
-            (subst (λ f. TypesItems w c.args.is_static (ctype_tree c.in_ok-whole.whole) f (inits_tree c.args.list.now) o) begun p) in
+    → TypesItems w c.args.is_static part.ty (inits.filled_so [] (objects.in_braces (objects.frame_of w.structs part))) (inits_tree c.args.list.now) o
+    = λ o p. subst (λ ty. TypesItems w c.args.is_static ty (inits.filled_so [] (objects.in_braces (objects.frame_of w.structs part))) (inits_tree c.args.list.now) o) c.in_ok-whole.ensures
+    (subst (λ f. TypesItems w c.args.is_static (ctype_tree c.in_ok-whole.whole) f (inits_tree c.args.list.now) o) begun p) in
     IfSome_then (refusal_of c.in-Err.error) c.in-Err.ensures (λ r p. stops (so (Refused r) p))
 
 pub list_in_part-returns : goal.list_in_part-returns
@@ -132,8 +132,8 @@ list_in_part-returns t c =
     let part = part_tree c.args.part in
     let begun = c.nothing_filled-nothing.ensures ∙ ap (λ f. inits.filled_so [] (objects.in_braces f)) c.of-frame.ensures in
     let so : (o : Outcome inits.Filled) → TypesItems w c.args.is_static (ctype_tree c.in_ok-whole.whole) (filled_tree c.nothing_filled-nothing.result) (inits_tree c.args.list.now) o
-        → TypesItems w c.args.is_static part.ty (inits.filled_so [] (objects.in_braces (objects.frame_of w.structs part))) (inits_tree c.args.list.now) o
-        = λ o p. subst (λ ty. TypesItems w c.args.is_static ty (inits.filled_so [] (objects.in_braces (objects.frame_of w.structs part))) (inits_tree c.args.list.now) o) c.in_ok-whole.ensures
-            (subst (λ f. TypesItems w c.args.is_static (ctype_tree c.in_ok-whole.whole) f (inits_tree c.args.list.now) o) begun p) in
+    → TypesItems w c.args.is_static part.ty (inits.filled_so [] (objects.in_braces (objects.frame_of w.structs part))) (inits_tree c.args.list.now) o
+    = λ o p. subst (λ ty. TypesItems w c.args.is_static ty (inits.filled_so [] (objects.in_braces (objects.frame_of w.structs part))) (inits_tree c.args.list.now) o) c.in_ok-whole.ensures
+    (subst (λ f. TypesItems w c.args.is_static (ctype_tree c.in_ok-whole.whole) f (inits_tree c.args.list.now) o) begun p) in
     goes_on (so (Typed (filled_tree c.in-Ok.typed) (world_of c.list_items.new.world)) c.in-Ok.ensures)
     (ap (λ f. Typed f (world_of c.list_items.new.world)) c.in_ok-filled.ensures)
