@@ -26,11 +26,18 @@ returns-in-Some c =
     let fo : FitsSigned w128 offset = search rules in
     let fs : FitsSigned w128 second.offset = search rules in
     let span : IsSpanOf left c.of_set.result = record { inside = c.of_set.ensures.inside; back = c.of_set.ensures.back } in
-    let found = simp to_z-of_z at c.in-Some.ensures in
-    (first.object, offset, second.object, second.offset, simp to_z-of_z at c.to_places.ensures.left, c.to_places.ensures.right, record {
-      are_in = record { first = moved_spot trees left c.of_set.result first.object first.offset offset span c.in_ok-first.ensures.spot found.0; second = c.in_ok-second.ensures.spot };
-      unlike = found.1;
-    })
+    let found = simp to_z-of_z at c.in-Some.ensures in (
+      first.object,
+      offset,
+      second.object,
+      second.offset,
+      simp to_z-of_z at c.to_places.ensures.left,
+      c.to_places.ensures.right,
+      record {
+        are_in = record { first = moved_spot trees left c.of_set.result first.object first.offset offset span c.in_ok-first.ensures.spot found.0; second = c.in_ok-second.ensures.spot };
+        unlike = found.1;
+      },
+    )
 
 pub returns-in_err-offset : goal.returns-in_err-offset
 returns-in_err-offset c =
@@ -58,8 +65,15 @@ returns c =
     let fo : FitsSigned w128 offset = search rules in
     let ff : FitsSigned w128 first.offset = search rules in
     let other : IsSpanOf right c.of_set-2.result = record { inside = c.of_set-2.ensures.inside; back = c.of_set-2.ensures.back } in
-    let found = simp to_z-of_z at c.in_ok-offset.ensures in
-    (first.object, first.offset, second.object, offset, c.to_places-2.ensures.left, simp to_z-of_z at c.to_places-2.ensures.right, record {
-      are_in = record { first = c.in_ok-first.ensures.spot; second = moved_spot trees right c.of_set-2.result second.object second.offset offset other c.in_ok-second.ensures.spot found.0 };
-      unlike = turned c.args.size first.offset offset found.1;
-    })
+    let found = simp to_z-of_z at c.in_ok-offset.ensures in (
+      first.object,
+      first.offset,
+      second.object,
+      offset,
+      c.to_places-2.ensures.left,
+      simp to_z-of_z at c.to_places-2.ensures.right,
+      record {
+        are_in = record { first = c.in_ok-first.ensures.spot; second = moved_spot trees right c.of_set-2.result second.object second.offset offset other c.in_ok-second.ensures.spot found.0 };
+        unlike = turned c.args.size first.offset offset found.1;
+      },
+    )
