@@ -1,5 +1,5 @@
 -- Numbers of a class, and numbers that differ by a multiple.
-use Rattle.std.proofs.Common.{◌≡◌, ℕ, ◌≤◌, zero, suc, ℤ, pos, negsuc, ◌+ℤ◌, ◌-ℤ◌, ◌*ℤ◌, neg_ℤ, ◌≤ℤ◌, ◌<ℤ◌, ◌⊎◌, inl, inr, arith, ap, sym, ◌∙◌, subst}
+use Rattle.std.proofs.Common.{◌≡◌, ℕ, ◌≤◌, zero, suc, ℤ, pos, negsuc, ◌+ℤ◌, ◌-ℤ◌, ◌*ℤ◌, neg_ℤ, ◌≤ℤ◌, ◌⊎◌, inl, inr, arith, ap, sym, ◌∙◌}
 use Rattle.std.proofs.Common.{FitsSigned, to_z, of_z, IsTrue, nat_eq, false}
 use Rattle.std.proofs.lemmas.Int.{ints, to_z-of_z}
 use Rattle.std.proofs.lemmas.Bool.Decides.{nat_tests}
@@ -8,7 +8,7 @@ use Rattle.std.proofs.Math.IntN.{*ℤ_comm}
 use Rattle.std.specs.Int.{int_rem_euclid}
 use Rattle.num_api.specs.Residues.{class_of, InResidue, IsMultiple}
 use Rattle.num_api.proofs.Rings.{neg_mul}
-use Rattle.num_api.proofs.Multiples.{multiple_along, multiple_add, multiple_sub, multiple_neg, self_multiple, multiple_trans, off_from_in, in_from_off}
+use Rattle.num_api.proofs.Multiples.{multiple_along, multiple_add, multiple_sub, multiple_neg, self_multiple, off_from_in, in_from_off}
 use Rattle.num_api.proofs.Remainders.{rem_same, rem_low, rem_high, rem_unique, times_above}
 use Rattle.residues.specs.Inward.{next_member, last_member}
 use Rattle.residues.specs.Laws.{next_is_member, last_is_member, next_above, last_below, next_least, last_greatest}

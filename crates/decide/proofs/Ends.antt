@@ -1,13 +1,13 @@
 -- Numbers of a span.
-use Rattle.std.proofs.Common.{◌≡◌, ◌^◌, ◌+◌, ℕ, ◌≤◌, ℤ, pos, negsuc, ◌+ℤ◌, ◌-ℤ◌, ◌*ℤ◌, neg_ℤ, ◌≤ℤ◌, ◌<ℤ◌, ◌⊎◌, inl, inr, arith, ap, refl, sym, ◌∙◌, subst}
-use Rattle.std.specs.Prelude.{Option, Some, None, MatchOption, IfSome, ◌↔◌}
+use Rattle.std.proofs.Common.{◌≡◌, ◌^◌, ◌+◌, ℕ, ℤ, pos, negsuc, ◌+ℤ◌, ◌-ℤ◌, ◌*ℤ◌, ◌≤ℤ◌, ◌<ℤ◌, ◌⊎◌, inl, inr, arith, sym, subst}
+use Rattle.std.specs.Prelude.{Option, Some, None, MatchOption, IfSome}
 use Rattle.std.proofs.lemmas.Int.{ints, by_lt_z}
 use Rattle.num_api.specs.Residues.{IsMultiple}
-use Rattle.num_api.proofs.Multiples.{multiple_along, multiple_add, multiple_sub, multiple_neg, multiple_trans}
-use Rattle.c_syntax.specs.Admission.{IsBetween, IsInClass, IsNoMultiple, IsProperRange, IsModerate}
+use Rattle.num_api.proofs.Multiples.{multiple_along, multiple_add, multiple_sub, multiple_trans}
+use Rattle.c_syntax.specs.Admission.{IsInClass, IsNoMultiple, IsProperRange}
 use Rattle.decide.specs.declared.span.Span.{Span}
 use Rattle.decide.specs.Spans.{InSpan, IsSpan, IsWithin, IsLeastFrom, IsGreatestTo, IsBeside}
-use Rattle.decide.proofs.Matches.{both_ways, by_match, end_below, end_above}
+use Rattle.decide.proofs.Matches.{both_ways, end_below, end_above}
 use Rattle.decide.proofs.Classes.{from_multiple, to_multiple, off_members, member_above, member_below, member_cases}
 
 le_trans : (x y z : ℤ) → x ≤ℤ y → y ≤ℤ z → x ≤ℤ z

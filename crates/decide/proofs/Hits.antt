@@ -1,5 +1,5 @@
 -- Places in objects that are looked for.
-use Rattle.std.proofs.Common.{◌≡◌, ℕ, ◌+◌, ◌<◌, ◌≤◌, ℤ, pos, ◌+ℤ◌, ◌-ℤ◌, ◌*ℤ◌, ◌<ℤ◌, ◌⊎◌, inl, inr, arith, ap, refl, sym, ◌∙◌, subst, List, length, map, get_or, take, IsTrue, true, false}
+use Rattle.std.proofs.Common.{◌≡◌, ℕ, ◌+◌, ◌<◌, ◌≤◌, ℤ, pos, ◌-ℤ◌, ◌⊎◌, inl, inr, arith, ap, refl, sym, ◌∙◌, subst, List, length, map, get_or, take, IsTrue, true, false}
 use Rattle.std.specs.Prelude.{Option, Some, None, MatchOption, IfSome, IsSomeAnd, Contains, All, slice_get, option_map, ◌≢◌, Bool}
 use Rattle.std.proofs.lemmas.Int.{ints}
 use Rattle.std.proofs.lemmas.Option.{slice_get-map, slice_get_read, slice_get_within}
@@ -7,14 +7,12 @@ use Rattle.std.proofs.lemmas.List.{take_all}
 use Rattle.std.proofs.lemmas.List.Elements.{All-nil, All-more, All-contains, Contains-get_or}
 use Rattle.c_syntax.specs.declared.types.Object.{Object}
 use Rattle.c_syntax.specs.declared.alarm.Pointers.{Pointers}
-use Rattle.c_syntax.specs.declared.alarm.Spot.TheVariants as spots
 use Rattle.c_syntax.specs.Types.{ObjectTree, object_tree}
-use Rattle.c_syntax.specs.Admission.{IsBetween, IsInClass, HasObject, IsSpotIn, IsNoMultiple}
+use Rattle.c_syntax.specs.Admission.{IsBetween, IsInClass, HasObject, IsNoMultiple}
 use Rattle.decide.specs.declared.span.Span.{Span}
-use Rattle.decide.specs.declared.wanted.Wanted.{Wanted}
 use Rattle.decide.specs.declared.wanted.Search.{Search}
 use Rattle.decide.specs.declared.place.Place.{Place}
-use Rattle.decide.specs.Spans.{InSpan, IsWithin}
+use Rattle.decide.specs.Spans.{InSpan}
 use Rattle.decide.specs.Offsets.{Wants, IsHit, IsHitAt, IsWanted}
 use Rattle.decide.proofs.Matches.{both_ways}
 

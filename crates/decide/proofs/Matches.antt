@@ -1,5 +1,5 @@
 -- What is said of a value that may be missing.
-use Rattle.std.proofs.Common.{◌≡◌, ℤ, ◌≤ℤ◌, ◌⊎◌, inl, inr, arith, refl, sym, subst}
+use Rattle.std.proofs.Common.{◌≡◌, ℤ, ◌≤ℤ◌, ◌⊎◌, inl, inr, arith, refl}
 use Rattle.std.specs.Prelude.{Option, Some, None, MatchOption, IfSome}
 use Rattle.std.proofs.lemmas.Int.{ints}
 

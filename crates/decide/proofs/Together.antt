@@ -1,11 +1,9 @@
 -- Two pointers of two sets.
-use Rattle.std.proofs.Common.{◌≡◌, ℕ, ◌<◌, ◌≤◌, ℤ, pos, ◌+ℤ◌, ◌-ℤ◌, ◌*ℤ◌, ◌⊎◌, inl, inr, arith, ap, refl, sym, ◌∙◌, subst, List, [], ◌∷◌, zero, suc, neg_ℤ, length, map}
-use Rattle.std.specs.Prelude.{Option, Some, None, MatchOption, IfSome, IsSomeAnd, Contains, All, slice_get, option_map, ◌≢◌}
+use Rattle.std.proofs.Common.{◌≡◌, ℕ, ◌<◌, ◌≤◌, ℤ, pos, ◌+ℤ◌, ◌-ℤ◌, ◌*ℤ◌, ◌⊎◌, inl, inr, arith, refl, sym, ◌∙◌, subst, List, [], ◌∷◌, zero, suc, neg_ℤ, length, map}
+use Rattle.std.specs.Prelude.{Option, Some, None, MatchOption, IfSome, IsSomeAnd, slice_get, ◌≢◌}
 use Rattle.std.proofs.lemmas.Int.{ints}
-use Rattle.std.proofs.lemmas.Option.{slice_get-map, slice_get-get_or}
 use Rattle.std.proofs.lemmas.List.{length-map}
 use Rattle.std.proofs.lemmas.List.Elements.{All-contains}
-use Rattle.num_api.specs.Residues.{IsMultiple}
 use Rattle.num_api.proofs.Multiples.{multiple_along, multiple_add, multiple_sub, multiple_neg}
 use Rattle.c_syntax.specs.declared.types.Object.{Object}
 use Rattle.c_syntax.specs.declared.alarm.Pointers.{Pointers}
@@ -15,15 +13,15 @@ use Rattle.c_syntax.specs.Types.{ObjectTree, object_tree}
 use Rattle.c_syntax.specs.declared.alarm.Check.{Check}
 use Rattle.c_syntax.specs.declared.alarm.WrongKind.{WrongKind}
 use Rattle.c_syntax.specs.Operand.{Points}
-use Rattle.c_syntax.specs.Admission.{FailsKind, IsBetween, IsInClass, HasObject, IsSpotIn, IsUnrelated, IsNoMultiple}
+use Rattle.c_syntax.specs.Admission.{FailsKind, HasObject, IsSpotIn, IsUnrelated, IsNoMultiple}
 use Rattle.decide.specs.declared.span.Span.{Span}
 use Rattle.decide.specs.declared.pair.Pair.{Pair}
 use Rattle.decide.specs.declared.wanted.Wanted.{Wanted}
 use Rattle.decide.specs.declared.wanted.Wanted.TheVariants as wanteds
 use Rattle.decide.specs.Decisions.{NamesBelow}
 use Rattle.decide.specs.Spans.{InSpan}
-use Rattle.decide.specs.Offsets.{Wants, IsWanted}
-use Rattle.decide.specs.Pairs.{AreIn, IsNowhere, IsWithOne, AreWanted, AreUnlike}
+use Rattle.decide.specs.Offsets.{IsWanted}
+use Rattle.decide.specs.Pairs.{AreIn, IsWithOne, AreWanted, AreUnlike}
 use Rattle.decide.proofs.Matches.{both_ways}
 use Rattle.decide.proofs.Classes.{from_multiple, to_multiple}
 use Rattle.decide.proofs.Hits.{IsSpanOf}

@@ -1,21 +1,19 @@
 -- Which operands a check of each kind may fail on.
-use Rattle.std.proofs.Common.{◌≡◌, ℕ, ℤ, ◌<ℤ◌, ◌⊎◌, inl, inr, refl, sym, subst, List, IsTrue}
-use Rattle.std.specs.Prelude.{Option, Some, None, MatchOption, IsSomeAnd, Bool, true, false, slice_get}
+use Rattle.std.proofs.Common.{◌≡◌, ℕ, ℤ, ◌<ℤ◌, ◌⊎◌, inl, inr, refl, sym, subst, List}
+use Rattle.std.specs.Prelude.{Option, None, MatchOption, IsSomeAnd, Bool, false, slice_get}
 use Rattle.c_syntax.specs.declared.alarm.Check.{Check}
 use Rattle.c_syntax.specs.declared.alarm.Pointers.{Pointers}
 use Rattle.c_syntax.specs.declared.alarm.Spot.{Spot}
 use Rattle.c_syntax.specs.declared.alarm.Spot.TheVariants as spots
-use Rattle.c_syntax.specs.declared.alarm.Shown.{Shown}
 use Rattle.c_syntax.specs.declared.alarm.Shown.TheVariants as shows
 use Rattle.c_syntax.specs.declared.alarm.WrongKind.{WrongKind}
 use Rattle.c_syntax.specs.declared.alarm.WrongKind.TheVariants as kinds
 use Rattle.c_syntax.specs.Types.{ObjectTree}
 use Rattle.c_syntax.specs.Operand.{Operand, Number, Point, Points, Mark, End, LoadMark, Undef, HasValue, Broken, CallEnd}
 use Rattle.c_syntax.specs.Operand as operands
-use Rattle.c_syntax.specs.Admission.{IsInShown, Fails, FailsKind, IsBetween, IsInClass, IsSpotIn, IsMarkIn, IsEndIn}
+use Rattle.c_syntax.specs.Admission.{IsInShown, Fails, FailsKind, IsBetween, IsInClass, IsSpotIn}
 use Rattle.decide.specs.declared.span.Span.{Span}
 use Rattle.decide.specs.declared.wanted.Wanted.{Wanted}
-use Rattle.decide.specs.declared.wanted.Wanted.TheVariants as wanteds
 use Rattle.decide.specs.Spans.{InSpan}
 use Rattle.decide.specs.Offsets.{Wants, IsWanted}
 use Rattle.decide.specs.Decisions.{IsFailing}

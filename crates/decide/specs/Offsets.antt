@@ -1,5 +1,5 @@
 -- What is looked for among the pointers of a set.
-use Rattle.std.specs.Prelude.{◌≡◌, ◌≢◌, ◌⊎◌, ℕ, ◌≤◌, ℤ, pos, ◌+ℤ◌, ◌<ℤ◌, IsTrue, List, Option, IfSome, IsSomeAnd, Contains, slice_get}
+use Rattle.std.specs.Prelude.{◌≡◌, ◌≢◌, ◌⊎◌, ℕ, ◌≤◌, ℤ, pos, ◌+ℤ◌, ◌<ℤ◌, IsTrue, List, Option, IfSome, IsSomeAnd, slice_get}
 use Rattle.c_syntax.specs.declared.alarm.Pointers.{Pointers}
 use Rattle.c_syntax.specs.declared.alarm.Spot.TheVariants as spots
 use Rattle.c_syntax.specs.Types.{ObjectTree}

@@ -1,5 +1,5 @@
 -- Two pointers of two sets.
-use Rattle.std.specs.Prelude.{◌≡◌, ◌≢◌, ◌⊎◌, ℕ, ℤ, ◌-ℤ◌, List, Option, None}
+use Rattle.std.specs.Prelude.{◌≡◌, ◌≢◌, ◌⊎◌, ℕ, ℤ, ◌-ℤ◌, List, None}
 use Rattle.c_syntax.specs.declared.alarm.Pointers.{Pointers}
 use Rattle.c_syntax.specs.declared.alarm.Spot.{Spot}
 use Rattle.c_syntax.specs.declared.alarm.Spot.TheVariants as spots
@@ -25,7 +25,8 @@ pub record IsWithOne (objects : List ObjectTree) (left right : Pointers) (bad s 
   pub one : (s ≡ bad) ⊎ (t ≡ bad)
 
 -- each of the two points to what is looked for in its set, and they point to different objects
-pub record AreWanted (objects : List ObjectTree) (left : Pointers) (of_left : Wanted) (right : Pointers) (of_right : Wanted) (o : ℕ) (d : ℤ) (p : ℕ) (e : ℤ) : Type 0 where
+pub record AreWanted (objects : List ObjectTree) (left : Pointers) (of_left : Wanted) (right : Pointers) (of_right : Wanted)
+    (o : ℕ) (d : ℤ) (p : ℕ) (e : ℤ) : Type 0 where
   pub first : IsWanted objects left of_left None o d
   pub second : IsWanted objects right of_right None p e
   pub apart : o ≢ p

@@ -34,7 +34,8 @@ pub fn failing_pair(
     requires right { IsProperSet right.now }
     requires left_names { NamesBelow (length objects.now) left.now }
     requires right_names { NamesBelow (length objects.now) right.now }
-    ensures { MatchOption result ((s t : Spot) → AreIn (map object_tree objects.now) left.now right.now s t → Fails (map object_tree objects.now) check.now (Points s t) → ⊥)
+    ensures { MatchOption result
+        ((s t : Spot) → AreIn (map object_tree objects.now) left.now right.now s t → Fails (map object_tree objects.now) check.now (Points s t) → ⊥)
         (λ p. AreIn (map object_tree objects.now) left.now right.now p.left p.right × Fails (map object_tree objects.now) check.now (Points p.left p.right)) }
 {
     match check.kind {

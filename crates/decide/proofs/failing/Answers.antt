@@ -1,4 +1,4 @@
-use Rattle.std.proofs.Common.{ℤ, FitsSigned, map, subst, sym, rules}
+use Rattle.std.proofs.Common.{FitsSigned, map, subst, sym, rules}
 use Rattle.std.specs.Prelude.{MatchOption}
 use Rattle.std.proofs.lemmas.Int.{to_z-of_z}
 use mir.Syntax.{w128}

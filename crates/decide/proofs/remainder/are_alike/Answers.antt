@@ -1,13 +1,8 @@
-use Rattle.std.proofs.Common.{◌≡◌, ℤ, pos, arith, ap, ◌∙◌, FitsSigned, rules}
+use Rattle.std.proofs.Common.{◌≡◌, ℤ, pos, ap, ◌∙◌, FitsSigned, rules}
 use Rattle.std.specs.Int.{int_rem_euclid}
-use Rattle.std.proofs.lemmas.Int.{ints, to_z-of_z}
+use Rattle.std.proofs.lemmas.Int.{to_z-of_z}
 use mir.Syntax.{w128}
 use Rattle.decide.proofs.Classes.{alike_told, unlike_told}
-use Rattle.decide.proofs.Matches.{both_ways}
-use Rattle.decide.proofs.Ends.{least_some}
-use Rattle.decide.proofs.Hits.{hit_by}
-use Rattle.decide.proofs.Unfailing.{one_spot}
-use Rattle.decide.proofs.Together.{no_two}
 use Rattle.decide.proofs.remainder.are_alike.Goals as goal
 
 pub returns-clause-alike : goal.returns-clause-alike

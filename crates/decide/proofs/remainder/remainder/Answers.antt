@@ -1,4 +1,4 @@
-use Rattle.std.proofs.Common.{ℤ, ◌≡◌, pos, arith}
+use Rattle.std.proofs.Common.{◌≡◌, pos, arith}
 use Rattle.std.proofs.lemmas.Int.{ints}
 use Rattle.residues.proofs.Keeping.{no_rest}
 use Rattle.decide.proofs.remainder.remainder.Goals as goal

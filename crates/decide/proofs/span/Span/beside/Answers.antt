@@ -1,4 +1,4 @@
-use Rattle.std.proofs.Common.{◌≡◌, ℤ, ◌+ℤ◌, ◌-ℤ◌, refl, FitsSigned, rules}
+use Rattle.std.proofs.Common.{◌+ℤ◌, ◌-ℤ◌, refl, FitsSigned, rules}
 use Rattle.std.proofs.lemmas.Int.{to_z-of_z}
 use mir.Syntax.{w128}
 use Rattle.decide.proofs.Ends.{beside_above, beside_below, beside_none}

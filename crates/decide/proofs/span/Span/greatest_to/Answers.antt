@@ -1,7 +1,6 @@
-use Rattle.std.proofs.Common.{◌≡◌, ℤ, FitsSigned, rules}
+use Rattle.std.proofs.Common.{FitsSigned, rules}
 use Rattle.std.proofs.lemmas.Int.{to_z-of_z}
 use mir.Syntax.{w128}
-use Rattle.decide.specs.Spans.{IsGreatestTo}
 use Rattle.decide.proofs.Ends.{IsStop, IsLast, greatest_some, greatest_none}
 use Rattle.decide.proofs.span.Span.greatest_to.Goals as goal
 

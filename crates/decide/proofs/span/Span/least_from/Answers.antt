@@ -1,7 +1,6 @@
-use Rattle.std.proofs.Common.{◌≡◌, ℤ, FitsSigned, rules}
+use Rattle.std.proofs.Common.{FitsSigned, rules}
 use Rattle.std.proofs.lemmas.Int.{to_z-of_z}
 use mir.Syntax.{w128}
-use Rattle.decide.specs.Spans.{IsLeastFrom}
 use Rattle.decide.proofs.Ends.{IsStart, IsNext, least_some, least_none}
 use Rattle.decide.proofs.span.Span.least_from.Goals as goal
 
