@@ -5,7 +5,7 @@ use Rattle.c_written.specs.declared.place.Pos.{Pos}
 use Rattle.c_written.specs.declared.construct.Construct.TheVariants as constructs
 use Rattle.c_syntax.specs.declared.op.Op.TheVariants as ops
 use Rattle.c_syntax.specs.Types.{CTypeTree}
-use Rattle.c_typing.specs.World.{World, Meaning, Linked, Outcome, Typed, Refused, Refusal, Redeclared, ObjectTooLarge, TotalTooLarge, NotConstant, Unsupported, no_rule, unless}
+use Rattle.c_typing.specs.World.{World, Meaning, Linked, Outcome, Typed, Refused, Refusal, Redeclared, ObjectTooLarge, TotalTooLarge, Unsupported, no_rule, unless}
 use Rattle.c_typing.specs.Names.{is_reserved, unless_declared, linked_as, object_limit, total_limit}
 use Rattle.c_typing.specs.Operands.{complete_size}
 use Rattle.c_typing.specs.Declarators.{DeclaredName, if_sized, unless_incomplete}

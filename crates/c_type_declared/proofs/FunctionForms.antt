@@ -1,10 +1,10 @@
 -- Functions, by what is asked of their names.
-use Rattle.std.proofs.Common.{◌≡◌, refl, sym, ap, ◌∙◌, ℕ, Bool, true, false, List, Option, Some, None}
+use Rattle.std.proofs.Common.{◌≡◌, refl, sym, ap, ◌∙◌, ℕ, Bool, true, false, List, Option}
 use Rattle.std.specs.Prelude.{not, ◌&&◌}
 use Rattle.c_written.specs.declared.place.Pos.{Pos}
 use Rattle.c_written.specs.declared.construct.Construct.TheVariants as constructs
 use Rattle.c_syntax.specs.Types.{CTypeTree}
-use Rattle.c_typing.specs.World.{World, Meaning, Linked, Outcome, Typed, Refused, Redeclared, Unsupported, unless}
+use Rattle.c_typing.specs.World.{World, Meaning, Linked, Outcome, Unsupported, unless}
 use Rattle.c_typing.specs.Names.{is_reserved, unless_declared, linked_as}
 use Rattle.c_typing.specs.Declarators.{DeclaredName, ParameterTree}
 use Rattle.c_typing.specs.Context.{Context}

@@ -41,7 +41,7 @@ module _ (w v : World) (params : List Parameter) (i : ℕ) (within : i < length 
   pub next_number : length v.objects ≡ length w.objects + i
   next_number =
       let all : length v.objects ≡ length w.objects + length (map (parameter_object w) (map parameter_tree (take i params))) =
-          ap (λ (x : World). length x.objects) e ∙ length-append w.objects (map (parameter_object w) (map parameter_tree (take i params))) in
+      ap (λ (x : World). length x.objects) e ∙ length-append w.objects (map (parameter_object w) (map parameter_tree (take i params))) in
       omega (arith, all, length-map (map parameter_tree (take i params)) (parameter_object w), length-map (take i params) parameter_tree, length-take-le i params)
 
   pub numbers_next : (done new : List ℕ) (n : ℕ) → done ≡ numbers_from (length w.objects) i → n ≡ length v.objects → new ≡ done ++ n ∷ []

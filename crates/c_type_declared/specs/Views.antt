@@ -1,8 +1,6 @@
 -- What declarators declare, as typing speaks of it.
-use Rattle.std.specs.Prelude.{Option, Some, None, option_map}
 use Rattle.c_syntax.specs.Types.{ctype_tree}
 use Rattle.c_typing.specs.Decls as decls
-use Rattle.c_typing.specs.World.{Outcome, Typed}
 use Rattle.c_type_declared.specs.declared.declares.ObjectNow.{ObjectNow}
 use Rattle.c_type_declared.specs.declared.declares.Declares.{Declares}
 use Rattle.c_type_declared.specs.declared.declares.Declares.TheVariants as variants

@@ -1,10 +1,10 @@
-use Rattle.std.proofs.Common.{◌≡◌, [], List, ap, sym, ◌∙◌, false, map, Option, Bor}
+use Rattle.std.proofs.Common.{[], List, ap, sym, ◌∙◌, false, map, Option, Bor}
 use Rattle.std.specs.Prelude.{option_map, unwrap_or}
 use Rattle.c_syntax.specs.Types.{ctype_tree}
 use Rattle.c_typing.specs.Decls.{function_declared, no_object, parameters_of}
 use Rattle.c_type_contexts.specs.Views.{context_tree}
 use Rattle.c_type_declarators.specs.declared.shape.Parameter.{Parameter}
-use Rattle.c_type_declarators.specs.Views.{name_tree, parameter_tree, step_tree}
+use Rattle.c_type_declarators.specs.Views.{name_tree, parameter_tree}
 use Rattle.c_type_errors.proofs.Steps.{so}
 use Rattle.c_type_names.specs.Worlds.{world_of}
 use Rattle.c_type_declared.specs.Views.{declares_tree}
