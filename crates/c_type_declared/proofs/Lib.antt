@@ -1,0 +1,3 @@
+pub mod FunctionForms
+pub mod FileForms
+pub mod ParameterForms
