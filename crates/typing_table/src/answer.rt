@@ -3,19 +3,79 @@
 
 use crate::rows::Fault;
 use crate::spelled;
-use c_syntax::{CType, IntType};
+use c_syntax::{CType, IntType, Pos};
 use c_type_conversions::Operand;
 use c_type_errors::TypeError;
+use c_type_names::Form;
 use std::alloc::{AllocError, Global};
 
-/// The line of what a row comes to.
-pub fn line(alloc: Global, made: Result<Operand, Fault>) -> Result<String, AllocError> {
-    match made {
-        Ok(Operand::Value(value)) => letters(alloc, "", &value.ty()?, false),
-        Ok(Operand::Place(place)) => letters(alloc, "@", place.ty(), place.is_const()),
-        Err(Fault::NoRow) => String::from_str(alloc, "no such row"),
-        Err(Fault::NoMemory) => String::from_str(alloc, "no memory"),
-        Err(Fault::Refused(error)) => refused(alloc, &error),
+/// The letters of what an operand is: `@` and the type of a place, or the type of a value.
+pub fn operand(alloc: Global, operand: &Operand) -> Result<String, AllocError> {
+    match operand {
+        Operand::Value(value) => letters(alloc, "", &value.ty()?, false),
+        Operand::Place(place) => letters(alloc, "@", place.ty(), place.is_const()),
+    }
+}
+
+/// The letters of a type as a declaration gives it.
+pub fn form(alloc: Global, form: &Form) -> Result<String, AllocError> {
+    match form {
+        Form::Plain(ty, is_const) => letters(alloc, "", ty, *is_const),
+        Form::Unsized(element, is_const) => letters(alloc, "[]", element, *is_const),
+        Form::Callable(params, returned) => callable(alloc, params.as_slice(), returned),
+    }
+}
+
+fn callable(alloc: Global, params: &[CType], returned: &CType) -> Result<String, AllocError> {
+    let mut line = String::from_str(alloc, "f(")?;
+    let mut between = "";
+    for param in params {
+        line.push_str(between)?;
+        line.push_str(letters(alloc, "", param, false)?.as_str())?;
+        between = ",";
+    }
+    line.push(')')?;
+    line.push_str(letters(alloc, "", returned, false)?.as_str())?;
+    Ok(line)
+}
+
+/// The line of a row that comes to nothing.
+pub fn fault(alloc: Global, fault: &Fault) -> Result<String, AllocError> {
+    match fault {
+        Fault::NoRow => String::from_str(alloc, "no such row"),
+        Fault::NoMemory => String::from_str(alloc, "no memory"),
+        Fault::Refused(error) => refused(alloc, error),
+    }
+}
+
+/// The line of a text that comes to nothing, with the columns that a refusal tells.
+pub fn placed(alloc: Global, fault: &Fault) -> Result<String, AllocError> {
+    let line = self::fault(alloc, fault)?;
+    let Fault::Refused(error) = fault else {
+        return Ok(line);
+    };
+    let Some(pos) = place_of(error) else {
+        return Ok(line);
+    };
+    match error {
+        TypeError::Redeclared(_, first) => {
+            format!(in alloc; "{line} at {}, first at {}", pos.col, first.col)
+        }
+        _ => format!(in alloc; "{line} at {}", pos.col),
+    }
+}
+
+fn place_of(error: &TypeError) -> Option<Pos> {
+    match error {
+        TypeError::NoRule { pos, .. } => Some(*pos),
+        TypeError::NotLvalue(pos)
+        | TypeError::Unsupported(pos, _)
+        | TypeError::Undeclared(pos)
+        | TypeError::Redeclared(pos, _)
+        | TypeError::NotConstant(pos)
+        | TypeError::ObjectTooLarge(pos, _)
+        | TypeError::TotalTooLarge(pos, _) => Some(*pos),
+        TypeError::NoMemory => None,
     }
 }
 
@@ -38,12 +98,12 @@ fn refused(alloc: Global, error: &TypeError) -> Result<String, AllocError> {
             }
         }
         TypeError::NotLvalue(_) => String::from_str(alloc, "no place"),
-        TypeError::Unsupported(_, _) => String::from_str(alloc, "left out"),
+        TypeError::Unsupported(_, construct) => format!(in alloc; "left out: {construct:?}"),
         TypeError::Undeclared(_) => String::from_str(alloc, "undeclared"),
         TypeError::Redeclared(_, _) => String::from_str(alloc, "declared again"),
         TypeError::NotConstant(_) => String::from_str(alloc, "not constant"),
-        TypeError::ObjectTooLarge(_, _) => String::from_str(alloc, "object too large"),
-        TypeError::TotalTooLarge(_, _) => String::from_str(alloc, "objects too large"),
+        TypeError::ObjectTooLarge(_, size) => format!(in alloc; "object too large: {size}"),
+        TypeError::TotalTooLarge(_, size) => format!(in alloc; "objects too large: {size}"),
         TypeError::NoMemory => String::from_str(alloc, "no memory"),
     }
 }
@@ -87,6 +147,7 @@ fn core(ty: &CType) -> char {
         CType::Struct(_) => 'T',
         CType::Function(_) => 'f',
         CType::Int(IntType::Char) => 'c',
+        CType::Int(IntType::SChar) => 'b',
         CType::Int(IntType::UChar) => 'C',
         CType::Int(IntType::Short) => 's',
         CType::Int(IntType::UShort) => 'H',
@@ -94,6 +155,9 @@ fn core(ty: &CType) -> char {
         CType::Int(IntType::UInt) => 'u',
         CType::Int(IntType::Long) => 'l',
         CType::Int(IntType::ULong) => 'L',
-        _ => '?',
+        CType::Int(IntType::LLong) => 'q',
+        CType::Int(IntType::ULLong) => 'Q',
+        CType::Pointer(_) => 'p',
+        CType::Array(_, _) => 'a',
     }
 }

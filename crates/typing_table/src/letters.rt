@@ -33,6 +33,7 @@ pub fn form_of(alloc: Global, word: &str) -> Result<Option<(CType, bool)>, Fault
 fn core(letter: u8) -> Option<CType> {
     Some(match letter {
         b'c' => CType::Int(IntType::Char),
+        b'b' => CType::Int(IntType::SChar),
         b'C' => CType::Int(IntType::UChar),
         b's' => CType::Int(IntType::Short),
         b'H' => CType::Int(IntType::UShort),
@@ -40,6 +41,8 @@ fn core(letter: u8) -> Option<CType> {
         b'u' => CType::Int(IntType::UInt),
         b'l' => CType::Int(IntType::Long),
         b'L' => CType::Int(IntType::ULong),
+        b'q' => CType::Int(IntType::LLong),
+        b'Q' => CType::Int(IntType::ULLong),
         b'v' => CType::Void,
         b'S' => CType::Struct(0),
         b'T' => CType::Struct(1),

@@ -1,12 +1,14 @@
 // Words that make a node of the operands before them.
 #![tactic(auto)]
 
+use crate::calls::call;
 use crate::letters::form_of;
 use crate::rows::{AT, Fault, Stack};
 use crate::spelled;
-use c_syntax::{CType, IntType, StepTime, StepWay, TExprs};
+use c_syntax::{CType, IntType, StepTime, StepWay};
 use c_type_changes::{assigned, compound, stepped};
 use c_type_conversions::{Operand, operand_type};
+use c_type_leaves::object_named;
 use c_type_members::{arrow, member};
 use c_type_names::World;
 use c_type_nodes::{binary, cast, conditional, indexed, sequenced, size_of, tested, unary};
@@ -97,9 +99,19 @@ fn named(stack: &mut Stack, word: &str) -> Result<Operand, Fault> {
         assumption(stack, count)
     } else if let Some(count) = word.strip_prefix("any/") {
         input(stack, count)
+    } else if let Some(number) = word.strip_prefix("#") {
+        numbered(number)
     } else {
-        Err(Fault::NoRow)
+        call(stack, word)
     }
+}
+
+// The object of this number, where there is none.
+fn numbered(number: &str) -> Result<Operand, Fault> {
+    let Ok(number) = number.parse::<u64>() else {
+        return Err(Fault::NoRow);
+    };
+    Ok(object_named(&[], AT, number)?)
 }
 
 fn converted(stack: &mut Stack, letters: &str) -> Result<Operand, Fault> {
@@ -118,25 +130,13 @@ fn to_type(stack: &mut Stack, target: CType) -> Result<Operand, Fault> {
 }
 
 fn assumption(stack: &mut Stack, count: &str) -> Result<Operand, Fault> {
-    let args = arguments(stack, count)?;
+    let args = stack.arguments(count)?;
     let world = World::new(stack.alloc);
     Ok(told(&world, AT, true, args)?)
 }
 
 fn input(stack: &mut Stack, count: &str) -> Result<Operand, Fault> {
-    let args = arguments(stack, count)?;
+    let args = stack.arguments(count)?;
     let world = World::new(stack.alloc);
     Ok(input_read(&world, AT, IntType::Int, &args)?)
-}
-
-// The last values; the order of arguments does not matter here.
-fn arguments(stack: &mut Stack, count: &str) -> Result<TExprs, Fault> {
-    let Ok(count) = count.parse::<u64>() else {
-        return Err(Fault::NoRow);
-    };
-    let mut args = Vec::new(stack.alloc);
-    for _ in 0..count {
-        args.push(stack.value()?)?;
-    }
-    Ok(TExprs::from_vec(args))
 }

@@ -1,9 +1,10 @@
 // The operand that the words of a row make.
 #![tactic(auto)]
 
+use crate::answer;
 use crate::letters::{form_of, structs};
 use crate::nodes::node;
-use c_syntax::{CType, IntType, Pos, StructDefs, TExpr, TLvalue};
+use c_syntax::{CType, IntType, Pos, StructDefs, TExpr, TExprs, TLvalue};
 use c_type_conversions::{Operand, value_of};
 use c_type_errors::TypeError;
 use std::alloc::{AllocError, AllocFailed, Global};
@@ -51,8 +52,13 @@ pub const AT: Pos = Pos {
     col: 1,
 };
 
-/// What a row comes to.
-pub fn operand(alloc: Global, row: &str) -> Result<Operand, Fault> {
+/// The type of what the words of a row come to.
+pub fn line(alloc: Global, row: &str) -> Result<String, Fault> {
+    let operand = operand(alloc, row)?;
+    Ok(answer::operand(alloc, &operand)?)
+}
+
+fn operand(alloc: Global, row: &str) -> Result<Operand, Fault> {
     let mut stack = Stack {
         alloc,
         structs: structs(alloc)?,
@@ -107,5 +113,18 @@ impl Stack {
     pub fn value(&mut self) -> Result<TExpr, Fault> {
         let operand = self.popped()?;
         Ok(value_of(self.alloc, operand)?)
+    }
+
+    /// The last values, as many as a word says, in their order.
+    pub fn arguments(&mut self, count: &str) -> Result<TExprs, Fault> {
+        let Ok(count) = count.parse::<u64>() else {
+            return Err(Fault::NoRow);
+        };
+        let mut args = Vec::new(self.alloc);
+        for _ in 0..count {
+            args.push(self.value()?)?;
+        }
+        args.reverse();
+        Ok(TExprs::from_vec(args))
     }
 }

@@ -1,0 +1,113 @@
+// What a text of C says at last: declarators, and expressions in the bodies of functions.
+#![tactic(auto)]
+
+use crate::answer;
+use crate::declared::{declare, told};
+use crate::rows::Fault;
+use c_lexer::{LexError, lex};
+use c_parser::{ParseError, parse};
+use c_syntax::{BlockItem, BlockItems, Decl, Expr, File, Outer, Stmt};
+use c_type_addresses::{Address, static_address, static_place};
+use c_type_constants::constant_value;
+use c_type_conversions::Operand;
+use c_type_exprs::{declarator, operand};
+use c_type_forms::copy_form;
+use c_type_names::World;
+use std::alloc::{AllocError, Global};
+
+/// The most bytes of a text that is cut into tokens.
+const MOST: usize = 4_194_304;
+
+/// The type of the last declarator of a text or of its last expression, with what this is as a constant.
+pub fn line(alloc: Global, text: &str) -> Result<String, Fault> {
+    let file = tree(alloc, text.as_bytes())?;
+    let mut world = World::new(alloc);
+    let mut line = String::new(alloc);
+    for outer in file.outers.as_slice() {
+        line = match outer {
+            Outer::Declared(decl) => declaration(&mut world, decl)?,
+            Outer::Function {
+                pos,
+                specs,
+                declarator: written,
+                body,
+                ..
+            } => {
+                let form = told(&mut world, false, *pos, specs)?.form;
+                let shape = declarator(&mut world, written)?;
+                declare(&mut world, false, form, shape)?;
+                expressions(&mut world, body)?
+            }
+        };
+    }
+    Ok(line)
+}
+
+fn tree(alloc: Global, text: &[u8]) -> Result<File, Fault> {
+    if text.len() > MOST {
+        return Err(Fault::NoRow);
+    }
+    let tokens = match lex(alloc, 0, text) {
+        Ok(tokens) => tokens,
+        Err(LexError::NoMemory) => return Err(Fault::NoMemory),
+        Err(_) => return Err(Fault::NoRow),
+    };
+    match parse(alloc, &tokens) {
+        Ok(file) => Ok(file),
+        Err(ParseError::NoMemory) => Err(Fault::NoMemory),
+        Err(_) => Err(Fault::NoRow),
+    }
+}
+
+fn declaration(world: &mut World, decl: &Decl) -> Result<String, Fault> {
+    let items = decl.inits.as_slice();
+    let base = told(world, items.is_empty(), decl.pos, &decl.specs)?;
+    let mut line = answer::form(world.alloc(), &base.form)?;
+    for item in items {
+        if item.init.is_some() {
+            return Err(Fault::NoRow);
+        }
+        let form = copy_form(world.alloc(), &base.form)?;
+        let shape = declarator(world, &item.declarator)?;
+        line = declare(world, base.is_typedef, form, shape)?;
+    }
+    Ok(line)
+}
+
+// The last of the expressions that a body is made of.
+fn expressions(world: &mut World, body: &BlockItems) -> Result<String, Fault> {
+    let mut line = String::new(world.alloc());
+    for item in body.as_slice() {
+        line = match item {
+            BlockItem::Statement(Stmt::Expression { value, .. }) => expression(world, value)?,
+            _ => return Err(Fault::NoRow),
+        };
+    }
+    Ok(line)
+}
+
+fn expression(world: &mut World, written: &Expr) -> Result<String, Fault> {
+    let operand = operand(world, written)?;
+    let mut line = answer::operand(world.alloc(), &operand)?;
+    let objects = world.objects.as_slice();
+    let address = match &operand {
+        Operand::Place(place) => static_place(objects, place)?,
+        Operand::Value(value) => {
+            if let Some(number) = constant_value(value)? {
+                write!(line, " {number}")?;
+            }
+            static_address(objects, value)?
+        }
+    };
+    held(&mut line, address)?;
+    Ok(line)
+}
+
+// What a static pointer holds: null, or the number of an object and a distance from its start.
+fn held(line: &mut String, address: Option<Address>) -> Result<(), AllocError> {
+    match address {
+        None => Ok(()),
+        Some(Address::Nowhere) => line.push_str(" null"),
+        Some(Address::Inside { object, offset }) => write!(line, " {object}+{offset}"),
+    }
+}
