@@ -10,8 +10,15 @@
 //! | `put x -5 300` | gives the variable a number of the range |
 //! | `set x y 1 +` | assigns the expression |
 //! | `assume x y <`, `refuse x y <` | keeps the valuations in which the expression is true, or false |
+//! | `accept x -5 300` | takes a message that the variable lies in the range |
+//! | `forget x` | says nothing of the variable any more |
+//! | `settle x x 1 +` | the state of a loop that assigns the expression at each turn, widened by the steps of powers |
 //! | `fork`, `join` | keeps a copy of the state; joins it with that copy |
 //! | `show x 7 &` | prints the range and the class of the expression |
+//! | `covers`, `covered` | prints whether the state covers its copy, and whether that covers the state |
+//! | `heard`, `facts` | prints how many messages there were, and how many facts the state tells |
+//! | `same x` | prints whether the state knows an expression that the variable equals |
+//! | `reads x x 1 +`, `alike x 1 + is x 2 +` | prints whether the expression reads the variable, and whether two are one; without `is` the second is a copy |
 #![tactic(auto)]
 
 mod exprs;
@@ -48,6 +55,9 @@ fn main(rt: HostRuntime) -> io::Result<()> {
             Ok(Told::Shown(Range { lo, hi }, Residue { rem, modulus })) => {
                 println!(rt; "{} {}, {rem} mod {modulus}", Printed(lo), Printed(hi))?
             }
+            Ok(Told::Count(count)) => println!(rt; "{count}")?,
+            Ok(Told::Truth(true)) => println!(rt; "yes")?,
+            Ok(Told::Truth(false)) => println!(rt; "no")?,
             Ok(Told::Dead) => println!(rt; "dead")?,
             Ok(Told::NoRow) => println!(rt; "no such row")?,
             Err(_) => println!(rt; "out of memory")?,

@@ -1,5 +1,5 @@
 use Rattle.ramps.proofs.PowersRamp.{powers_answer}
-use Rattle.numbers_tests.proofs.steps.ramp_of_the_powers.Goals as goal
+use Rattle.numbers_table.proofs.domains.settled.Goals as goal
 
 pub new-ramp-requires : goal.new-ramp-requires
 new-ramp-requires g c = powers_answer _ _ _ (λ n small. tt) (λ n r small post. search post)
