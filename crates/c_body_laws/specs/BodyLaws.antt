@@ -10,7 +10,7 @@ use Rattle.c_typing.specs.File.{TypesFile, Program}
 abbrev pub BodiesAreTyped : Type 0
 BodiesAreTyped =
     (file : FileTree) (program : TProgramTree) → TypesFile file (Program program)
-      → All (λ f. IfSome f.body (IsTypedStmt (body_standing program f))) program.functions
+    → All (λ f. IfSome f.body (IsTypedStmt (body_standing program f))) program.functions
 
 -- an initial value has as many bytes as its object (C11 6.7.9p10, this profile)
 abbrev pub InitialsHaveSizes : Type 0

@@ -33,7 +33,7 @@ InitialisersAreTyped =
 abbrev pub OpenInitialisersAreTyped : Type 0
 OpenInitialisersAreTyped =
     (around : Context) (before : List OuterTree) (w v : World) (scope : Scope) (static : Bool) (of : CTypeTree) (is_const : Bool) (init : InitTree)
-      (by : Initialised)
+    (by : Initialised)
     → TypesOuters nothing_yet around before (Typed tt w) → AreUsable w scope → IsFormed w.structs of → IsSomeAnd (size_in w.structs of) IsTold
     → TypesInit w static (Array of is_const 0) (open_frame (Array of is_const 0)) init (Typed by v) → EndsFrom v scope
     → AreFilled scope (Array of is_const by.count) by.items

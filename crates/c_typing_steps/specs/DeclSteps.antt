@@ -20,7 +20,7 @@ pub data MakesSize (w : World) (object : ObjectNow) (by : Initialised) : CTypeTr
       object.measured ≡ true → (by.count == 0) ≡ false → size_or_zero w (measured_type object.ty by.count) ≤ 2 ^ 40
       → MakesSize w object by (measured_type object.ty by.count)
       (with_total (with_sized w object.number (measured_type object.ty by.count) (size_or_zero w (measured_type object.ty by.count)))
-        (size_or_zero w (measured_type object.ty by.count)))
+      (size_or_zero w (measured_type object.ty by.count)))
 
 -- what stands for a declarator, with its initialiser if it has one
 pub data MakesInit : World → Declares → Option InitTree → Made → World → Type 0 where
@@ -45,7 +45,7 @@ pub data MakesDeclarators (around : Context) (first : Pos) (storage : List Stora
   none : {w : World} {done : Made} → MakesDeclarators around first storage base w done [] done w
   one_more :
       {w u v x last : World} {done made all : Made} {item : InitDeclaratorTree} {rest : List InitDeclaratorTree} {shape : Shape} {named : DeclaredName}
-        {what : Declares}
+      {what : Declares}
       → TypesStep around first storage base item shape what made w u v x → shape.name ≡ Some named
       → MakesName around u storage shape.steps base (is_some item.init) named what v
       → MakesInit v what item.init made x → MakesDeclarators around first storage base x (made_then done made) rest all last

@@ -25,7 +25,7 @@ pub data IsCounted (w : World) (params : List ParameterTree) : World → Type 0 
 pub data MakesHead (around : Context) (w : World) (steps : List Step) (base : Form) (named : DeclaredName) : Begun → World → Type 0 where
   head :
       {params : List ParameterTree} {names : List Binding} {tags : List TagBinding} {rest : List Step} {types : List CTypeTree} {result : CTypeTree} {n : ℕ}
-        {v x : World}
+      {v x : World}
       → steps ≡ FunctionOf params names tags ∷ rest → laid w named.pos steps base ≡ Typed (Callable types result) w
       → MakesFunction around w named params types result true (Some n) v → IsCounted v params x
       → MakesHead around w steps base named
@@ -45,7 +45,7 @@ pub data MakesOuter (w : World) (around : Context) : OuterTree → World → Typ
   declares : {decl : DeclTree} {made : Made} {v : World} → MakesDecl w around decl made v → MakesOuter w around (files.Declared decl) v
   defines :
       {at brace : Pos} {specs : SpecTrees} {declarator : DeclaratorTree} {body : BlockItemTrees} {s : SpecsTree} {base : Form} {shape : Shape}
-        {named : DeclaredName} {begun : Begun} {made : Made}
+      {named : DeclaredName} {begun : Begun} {made : Made}
       {u x y z : World}
       → TypesHead around at specs declarator s base shape begun w u x y → shape.name ≡ Some named → MakesHead around x shape.steps base named begun y
       → MakesItems y (in_function begun.result body around) nothing_made body made z
@@ -54,4 +54,4 @@ pub data MakesOuter (w : World) (around : Context) : OuterTree → World → Typ
 pub data MakesOuters (around : Context) : World → List OuterTree → World → Type 0 where
   no_more : {w : World} → MakesOuters around w [] w
   and_then : {w u v : World} {tree : OuterTree} {rest : List OuterTree} → MakesOuter w around tree u → MakesOuters around u rest v
-    → MakesOuters around w (tree ∷ rest) v
+      → MakesOuters around w (tree ∷ rest) v

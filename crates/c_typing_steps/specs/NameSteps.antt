@@ -32,7 +32,7 @@ pub data MakesFunction (around : Context) (w : World) (named : DeclaredName) (pa
   new_name :
       is_reserved named.name ≡ false → linked_as w named.name ≡ None
       → MakesFunction around w named params types result has_body (Some (length w.functions))
-        (new_function w named (has_name around.functions named.name) params types result)
+      (new_function w named (has_name around.functions named.name) params types result)
   known_name :
       (l : Linked) → linked_as w named.name ≡ Some l → is_function_so w types result has_body l.meaning ≡ true
       → MakesFunction around w named params types result has_body (Some (number_of l.meaning)) (with_name w named.pos named.name l.meaning)
@@ -41,7 +41,7 @@ pub data MakesFunction (around : Context) (w : World) (named : DeclaredName) (pa
 pub data MakesName (around : Context) (w : World) (storage : List StorageWord) (steps : List Step) (base : Form) (has_init : Bool) (named : DeclaredName) :
     Declares → World → Type 0 where
   type_name : (form : Form) → is_word Typedef storage ≡ true → laid w named.pos steps base ≡ Typed form w
-    → MakesName around w storage steps base has_init named NoObject (with_name w named.pos named.name (TypeName form))
+      → MakesName around w storage steps base has_init named NoObject (with_name w named.pos named.name (TypeName form))
   reserved : is_reserved named.name ≡ true → MakesName around w storage steps base has_init named NoObject w
   first_function :
       (types : List CTypeTree) (result : CTypeTree) → is_reserved named.name ≡ false → laid w named.pos steps base ≡ Typed (Callable types result) w
@@ -53,28 +53,28 @@ pub data MakesName (around : Context) (w : World) (storage : List StorageWord) (
       → MakesName around w storage steps base has_init named NoObject (with_name w named.pos named.name l.meaning)
   local :
       (ty : CTypeTree) (is_const is_static : Bool) (size : ℕ) → around.in_block ≡ true → laid w named.pos steps base ≡ Typed (Plain ty is_const) w
-        → complete_size w.structs ty ≡ Some size
+      → complete_size w.structs ty ≡ Some size
       → MakesName around w storage steps base has_init named (AnObject (local_now w named ty is_static false)) (local_object w named ty is_const is_static size)
   local_open :
       (of : CTypeTree) (is_const is_static : Bool) → around.in_block ≡ true → laid w named.pos steps base ≡ Typed (Unsized of is_const) w → has_init ≡ true
       → MakesName around w storage steps base has_init named (AnObject (local_now w named (Array of is_const 0) is_static true))
-        (local_object w named (Array of is_const 0) false is_static 0)
+      (local_object w named (Array of is_const 0) false is_static 0)
   first_object :
       (form : Form) (ty : CTypeTree) (is_const measured : Bool) (size total : ℕ) → is_reserved named.name ≡ false
-        → laid w named.pos steps base ≡ Typed form w → IsObjectForm w ty is_const form
+      → laid w named.pos steps base ≡ Typed form w → IsObjectForm w ty is_const form
       → linked_as w named.name ≡ None → has_name around.objects named.name ≡ true
       → IsFileSize w ty (file_object_of around storage named.name has_init) size measured
       → MakesName around w storage steps base has_init named (AnObject (file_now named ty (file_object_of around storage named.name has_init) measured
-        (length w.objects)))
+      (length w.objects)))
       (with_linked (with_object (with_sum w total) (object_of named ty is_const size true)) named (Object (length w.objects))
-        (file_object_of around storage named.name has_init).defines)
+      (file_object_of around storage named.name has_init).defines)
   first_missing :
       (ty : CTypeTree) (is_const : Bool) (total : ℕ) → is_reserved named.name ≡ false → linked_as w named.name ≡ None
-        → has_name around.objects named.name ≡ false
+      → has_name around.objects named.name ≡ false
       → MakesName around w storage steps base has_init named NoObject (with_linked (with_sum w total) named (Missing ty is_const) false)
   object_again :
       (form : Form) (ty : CTypeTree) (is_const measured : Bool) (l : Linked) (n size total : ℕ) → laid w named.pos steps base ≡ Typed form w
-        → IsObjectForm w ty is_const form
+      → IsObjectForm w ty is_const form
       → linked_as w named.name ≡ Some l → l.meaning ≡ Object n → is_object_again w ty is_const has_init (Object n) ≡ true
       → IsFileSize w (composite_type w ty (Some l)) (file_object_of around storage named.name has_init) size measured
       → MakesName around w storage steps base has_init named
@@ -86,4 +86,4 @@ pub data MakesName (around : Context) (w : World) (storage : List StorageWord) (
       → l.meaning ≡ Missing before before_const
       → MakesName around w storage steps base has_init named NoObject
       (with_defined (with_name (with_type (with_sum w total) named.name (Missing before before_const) ty size) named.pos named.name
-        (Missing before before_const)) named.name defines)
+      (Missing before before_const)) named.name defines)

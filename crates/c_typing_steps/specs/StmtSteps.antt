@@ -79,7 +79,7 @@ mutual
         → around.switch ≡ Some t → w.default ≡ None → MakesStmt (with_default w at) around body items v
         → MakesStmt w around (files.Default at body) (more (Default at) items) v
     block : {w v : World} {around : Context} {at : Pos} {list : BlockItemTrees} {made : Made}
-      → MakesItems (opened w) (inside_block around) nothing_made list made v
+        → MakesItems (opened w) (inside_block around) nothing_made list made v
         → MakesStmt w around (files.Block at list) (one (Block at kinds.Written made.objects made.items)) (closed w v)
     empty : {w : World} {around : Context} {at : Pos} → MakesStmt w around (files.Empty at) (one (Empty at)) w
     expression : {w v : World} {around : Context} {at : Pos} {e : written.ExprTree} {x : TExprTree} → IsValue w e x v
@@ -95,7 +95,7 @@ mutual
     switch_block : {w u v : World} {around : Context} {at block_at : Pos} {value : written.ExprTree} {list : BlockItemTrees} {s : Switched} {made : Made}
         → IsSwitched (opened w) value s u → MakesItems (opened (without_cases u)) (inside_switch s.ty around) nothing_made list made v
         → MakesStmt w around (files.Switch at value (files.Block block_at list)) (one (switch_node at s made))
-          (with_cases_of w (closed w (closed (without_cases u) v)))
+        (with_cases_of w (closed w (closed (without_cases u) v)))
     switch_one : {w u v : World} {around : Context} {at : Pos} {value : written.ExprTree} {body : StmtTree} {s : Switched} {items : TStmtTrees}
         → IsSwitched (opened w) value s u → MakesStmt (opened (without_cases u)) (inside_switch s.ty around) body items v
         → MakesStmt w around (files.Switch at value body) (one (Switch at s.value kinds.Added [] items)) (with_cases_of w (closed w v))
@@ -110,14 +110,14 @@ mutual
         → MakesStart (opened w) (inside_block around) start head u → MayCondition u c test v → MayStep v step next x
         → MakesStmt (opened x) (inside_loop around) body items y
         → MakesStmt w around (files.For at start c step body) (one (For at head.objects head.items test next (Block (stmt_pos body) kinds.Added [] items)))
-          (closed w (closed x y))
+        (closed w (closed x y))
     goto : {w : World} {around : Context} {at : Pos} {name : List ℕ} {n : ℕ} → position (λ label. bytes_eq label name) around.labels ≡ Some n
         → MakesStmt w around (files.Goto at name) (one (Goto at n)) w
     continue : {w : World} {around : Context} {at : Pos} → around.continues ≡ true → MakesStmt w around (files.Continue at) (one (Continue at)) w
     break : {w : World} {around : Context} {at : Pos} → around.breaks ≡ true → MakesStmt w around (files.Break at) (one (Break at)) w
     return_bare : {w : World} {around : Context} {at : Pos} → around.result ≡ Void → MakesStmt w around (files.Return at None) (one (Return at None)) w
     return_value : {w v : World} {around : Context} {at : Pos} {e : written.ExprTree} {x y : TExprTree} → IsValue w e x v
-      → store_row around.result (texpr_type x) x ≡ Some y
+        → store_row around.result (texpr_type x) x ≡ Some y
         → MakesStmt w around (files.Return at (Some e)) (one (Return at (Some y))) v
 
   -- the items of a block, behind those that stand before them
