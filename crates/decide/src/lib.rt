@@ -3,7 +3,7 @@
 //! A domain shows a superset of the operands that a check may meet: a range and a class of whole numbers, one
 //! or two sets of pointers, marks of a load, or ends of a call. For example, where a divisor lies in
 //! [-1, 8], `decide` answers `May` with the number 0; where it is odd besides, it answers `Holds`, since 0 is
-//! not odd.
+//! not odd. `shows_some` tells whether any operand is shown at all.
 //!
 //! `specs/Decisions.antt` states the answer, by the definitions of `c_syntax` on what is shown and what fails.
 //! No call takes memory.
@@ -21,11 +21,13 @@ mod number;
 mod pair;
 mod place;
 mod remainder;
+mod showing;
 mod span;
 mod spot;
 mod wanted;
 
 use c_syntax::{Check, Example, Object, Shown};
+pub use showing::shows_some;
 use span::Span;
 
 /// What is to be said of a check.
