@@ -9,11 +9,10 @@
 //! No call takes memory.
 #![tactic(auto)]
 
-ghost use Rattle.std.specs.Prelude.{◌≡◌, ℤ, List, length, map, MatchOption, IsTrue};
-ghost use Rattle.c_syntax.specs.Types.{ObjectTree, object_tree};
-ghost use Rattle.c_syntax.specs.Operand.{Operand, Number, Mark, End, operand_of};
-ghost use Rattle.c_syntax.specs.Admission.{IsProper, Fails, IsMarkIn, IsEndIn};
-ghost use Rattle.decide.specs.Spans.{InSpan, IsSpan};
+ghost use Rattle.std.specs.Prelude.{length, map, MatchOption};
+ghost use Rattle.c_syntax.specs.Types.{object_tree};
+ghost use Rattle.c_syntax.specs.Operand.{Operand, operand_of};
+ghost use Rattle.c_syntax.specs.Admission.{IsProper};
 ghost use Rattle.decide.specs.Decisions.{HasFields, NamesObjects, IsFailing, IsDecision};
 
 mod mark;
