@@ -3,4 +3,5 @@ pub mod Ends
 pub mod Hits
 pub mod Unfailing
 pub mod Matches
+pub mod Showings
 pub mod Together

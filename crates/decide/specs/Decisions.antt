@@ -36,3 +36,7 @@ pub record IsFailing (objects : List ObjectTree) (check : Check) (shown : Shown)
 abbrev pub IsDecision : List ObjectTree → Check → Shown → Decision → Type 0
 IsDecision objects check shown decisions.Holds = (x : Operand) → IsFailing objects check shown x → ⊥
 IsDecision objects check shown (decisions.May e) = IsFailing objects check shown (operand_of e)
+
+-- some operand is shown
+abbrev pub ShowsSome : List ObjectTree → Shown → Type 0
+ShowsSome objects shown = (x : Operand) × IsInShown objects x shown

@@ -3,17 +3,16 @@
 //! A domain shows a superset of the operands that a check may meet: a range and a class of whole numbers, one
 //! or two sets of pointers, marks of a load, or ends of a call. For example, where a divisor lies in
 //! [-1, 8], `decide` answers `May` with the number 0; where it is odd besides, it answers `Holds`, since 0 is
-//! not odd.
+//! not odd. `shows_some` tells whether any operand is shown at all.
 //!
 //! `specs/Decisions.antt` states the answer, by the definitions of `c_syntax` on what is shown and what fails.
 //! No call takes memory.
 #![tactic(auto)]
 
-ghost use Rattle.std.specs.Prelude.{◌≡◌, ℤ, List, length, map, MatchOption, IsTrue};
-ghost use Rattle.c_syntax.specs.Types.{ObjectTree, object_tree};
-ghost use Rattle.c_syntax.specs.Operand.{Operand, Number, Mark, End, operand_of};
-ghost use Rattle.c_syntax.specs.Admission.{IsProper, Fails, IsMarkIn, IsEndIn};
-ghost use Rattle.decide.specs.Spans.{InSpan, IsSpan};
+ghost use Rattle.std.specs.Prelude.{length, map, MatchOption};
+ghost use Rattle.c_syntax.specs.Types.{object_tree};
+ghost use Rattle.c_syntax.specs.Operand.{Operand, operand_of};
+ghost use Rattle.c_syntax.specs.Admission.{IsProper};
 ghost use Rattle.decide.specs.Decisions.{HasFields, NamesObjects, IsFailing, IsDecision};
 
 mod mark;
@@ -21,11 +20,13 @@ mod number;
 mod pair;
 mod place;
 mod remainder;
+mod showing;
 mod span;
 mod spot;
 mod wanted;
 
 use c_syntax::{Check, Example, Object, Shown};
+pub use showing::shows_some;
 use span::Span;
 
 /// What is to be said of a check.

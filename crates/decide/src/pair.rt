@@ -1,6 +1,6 @@
 // Two pointers that fail.
 
-ghost use Rattle.std.specs.Prelude.{◌≡◌, ◌≢◌, ◌⊎◌, ◌≤◌, ℕ, ℤ, ◌-ℤ◌, List, length, map, MatchOption};
+ghost use Rattle.std.specs.Prelude.{◌≡◌, ◌≤◌, ℕ, ℤ, length, map, MatchOption};
 ghost use Rattle.c_syntax.specs.declared.alarm.Spot.{Spot};
 ghost use Rattle.c_syntax.specs.declared.alarm.Spot.TheVariants.{At};
 ghost use Rattle.c_syntax.specs.Types.{object_tree};

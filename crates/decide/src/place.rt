@@ -1,6 +1,6 @@
 // Places in the objects of a set.
 
-ghost use Rattle.std.specs.Prelude.{◌≡◌, ◌≤◌, ◌<◌, ◌⊎◌, ℕ, ℤ, List, length, map, Contains, All, MatchOption, None, Some};
+ghost use Rattle.std.specs.Prelude.{◌≡◌, ◌<◌, ◌⊎◌, ℕ, ℤ, length, map, Contains, All, MatchOption, None, Some};
 ghost use Rattle.c_syntax.specs.Types.{object_tree};
 ghost use Rattle.c_syntax.specs.Admission.{IsProperSet};
 ghost use Rattle.decide.specs.Decisions.{NamesBelow};

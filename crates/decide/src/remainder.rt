@@ -1,6 +1,6 @@
 // Whole numbers up to multiples of a modulus.
 
-ghost use Rattle.std.specs.Prelude.{◌≡◌, ℤ, ℕ, pos, ◌-ℤ◌, ◌*ℤ◌, ◌≤ℤ◌, ◌<ℤ◌, ◌≤◌, IsTrue, false};
+ghost use Rattle.std.specs.Prelude.{◌≡◌, ℤ, pos, ◌-ℤ◌, ◌*ℤ◌, ◌≤ℤ◌, ◌<ℤ◌, ◌≤◌, IsTrue, false};
 ghost use Rattle.std.specs.Int.{int_rem_euclid};
 ghost use Rattle.c_syntax.specs.Admission.{IsNoMultiple};
 

@@ -1,6 +1,6 @@
 // Whole numbers of a range that are in a class.
 
-ghost use Rattle.std.specs.Prelude.{◌≡◌, ◌↔◌, ◌⊎◌, ℤ, ℕ, pos, ◌+ℤ◌, ◌-ℤ◌, ◌≤ℤ◌, ◌<ℤ◌, ◌≤◌, ◌^◌, ◌+◌, MatchOption, IfSome, IsTrue, None, Some};
+ghost use Rattle.std.specs.Prelude.{◌≡◌, ◌↔◌, ◌⊎◌, ℤ, ◌-ℤ◌, ◌≤ℤ◌, ◌<ℤ◌, ◌≤◌, ◌^◌, ◌+◌, MatchOption, IfSome, IsTrue, None, Some};
 ghost use Rattle.c_syntax.specs.Admission.{IsBetween, IsInClass, IsNoMultiple, IsProperRange, IsProperSet, IsModerate};
 ghost use Rattle.decide.specs.Spans.{InSpan, IsSpan, IsWithin, IsLeastFrom, IsGreatestTo, IsBeside};
 

@@ -1,6 +1,6 @@
 // Offsets in an object that are looked for.
 
-ghost use Rattle.std.specs.Prelude.{◌≡◌, ◌≢◌, ◌⊎◌, ℤ, pos, ◌+ℤ◌, ◌<ℤ◌, ◌≤◌, ◌^◌, MatchOption, IfSome, IsTrue, false};
+ghost use Rattle.std.specs.Prelude.{◌≡◌, ◌≢◌, ◌⊎◌, ℤ, pos, ◌+ℤ◌, ◌<ℤ◌, ◌^◌, MatchOption, IfSome, IsTrue, false};
 ghost use Rattle.c_syntax.specs.Types.{object_tree};
 ghost use Rattle.decide.specs.Spans.{InSpan, IsSpan, IsWithin};
 ghost use Rattle.decide.specs.Offsets.{Wants, IsAsked, IsHit};

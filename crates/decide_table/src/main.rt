@@ -14,7 +14,8 @@
 //! | `set 0,1,null 0 8 0 4` | pointers to these objects, or null, with offsets from 0 to 8 that are 0 modulo 4 |
 //! | `marks undef,value`, `ends value,none` | marks of a load, ends of a call |
 //!
-//! Two sets are a pair. In a list `-` stands for nothing, and `any` for any pointer.
+//! Two sets are a pair. In a list `-` stands for nothing, and `any` for any pointer. Where no operand is shown the
+//! line says so.
 #![tactic(auto)]
 
 mod conditions;
@@ -68,7 +69,8 @@ fn main(rt: HostRuntime) -> io::Result<()> {
     };
     for line in text.lines() {
         match row::answer(rt.alloc(), line) {
-            Ok(Some(decision)) => println!(rt; "{}", Printed(decision))?,
+            Ok(Some(answer)) if answer.shows_some => println!(rt; "{}", Printed(answer.decision))?,
+            Ok(Some(answer)) => println!(rt; "{}, nothing is shown", Printed(answer.decision))?,
             Ok(None) => println!(rt; "no such row")?,
             Err(_) => println!(rt; "out of memory")?,
         }

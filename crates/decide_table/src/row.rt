@@ -3,8 +3,15 @@
 use crate::conditions::{has_fields, is_shown};
 use crate::words::{check, marks, numbers, object, pointers};
 use c_syntax::{Check, Object, Pointers, Shown};
-use decide::{Decision, decide};
+use decide::{Decision, decide, shows_some};
 use std::alloc::{AllocError as NoMemory, Global};
+
+/// What is answered of a row: the decision, and whether some operand is shown.
+#[derive(Clone, Copy)]
+pub struct Told {
+    pub decision: Decision,
+    pub shows_some: bool,
+}
 
 // What a row has given so far.
 #[derive(Drop)]
@@ -45,7 +52,7 @@ fn take(alloc: Global, row: &mut Row, words: &[&str]) -> Result<bool, NoMemory> 
 }
 
 // What is decided of the parts, where they meet the conditions.
-fn decided(row: Row) -> Option<Decision> {
+fn decided(row: Row) -> Option<Told> {
     let Row {
         objects,
         check,
@@ -58,14 +65,17 @@ fn decided(row: Row) -> Option<Decision> {
         None => shown?,
     };
     if has_fields(&check) && is_shown(&shown, objects.len()) {
-        Some(decide(&check, &shown, &objects))
+        Some(Told {
+            decision: decide(&check, &shown, &objects),
+            shows_some: shows_some(&shown, &objects),
+        })
     } else {
         None
     }
 }
 
 /// What is decided of a row, if it is one.
-pub fn answer(alloc: Global, line: &str) -> Result<Option<Decision>, NoMemory> {
+pub fn answer(alloc: Global, line: &str) -> Result<Option<Told>, NoMemory> {
     let mut row = Row {
         objects: Vec::new(alloc),
         check: None,
