@@ -97,8 +97,8 @@ fn object_declared(
     form: Form,
     has_init: bool,
 ) -> Result<Declares, TypeError>
-    ensures { Answers (λ out. out ≡ decls.object_declared (world_of world.old) (context_tree around.entry) storage.now (name_tree named.now) (form_tree form) has_init)
-        declares_tree (world_of world.new) result }
+    ensures { Answers (λ out. out ≡ decls.object_declared (world_of world.old) (context_tree around.entry) storage.now (name_tree named.now) (form_tree form)
+        has_init) declares_tree (world_of world.new) result }
 {
     let is_extern = is_word(StorageWord::Extern, storage);
     if around.in_block && !is_extern {
@@ -138,8 +138,8 @@ fn prototype_declared(
 
 // The parameters of the declarator's own list, if its first step has one.
 fn own_params(steps: &[Step]) -> Option<&[Parameter]>
-    ensures { (types : List trees.CTypeTree) (pos : Pos) → unwrap_or (option_map (λ params. map parameter_tree params.now) result) (decls.parameters_of [] types pos)
-        ≡ decls.parameters_of (map step_tree steps.now) types pos }
+    ensures { (types : List trees.CTypeTree) (pos : Pos) → unwrap_or (option_map (λ params. map parameter_tree params.now) result)
+        (decls.parameters_of [] types pos) ≡ decls.parameters_of (map step_tree steps.now) types pos }
 {
     match steps.split_first() {
         None => None,

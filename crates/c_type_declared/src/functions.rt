@@ -74,8 +74,8 @@ fn reserved_declared(
     target: &CType,
     has_body: bool,
 ) -> Result<Option<u64>, TypeError>
-    ensures { (w : worlds.World) → Answers (λ out. out ≡ decls.reserved_declared w (name_tree named.now) (map ctype_tree types.now) (ctype_tree target.now) has_body)
-        (λ n. n) w result }
+    ensures { (w : worlds.World) → Answers (λ out. out ≡ decls.reserved_declared w (name_tree named.now) (map ctype_tree types.now) (ctype_tree target.now)
+        has_body) (λ n. n) w result }
 {
     if is_input_type(types, target, input_type(named.name.as_slice())) && !has_body {
         Ok(None)
