@@ -1,5 +1,5 @@
 -- An item and then those behind it: the lines of lists, as the items give them.
-use Rattle.std.proofs.Common.{◌≡◌, refl, sym, subst, ap, true, false, List, [], ◌∷◌, ◌++◌}
+use Rattle.std.proofs.Common.{◌≡◌, subst, true, false, List, [], ◌∷◌, ◌++◌}
 use Rattle.std.specs.Prelude.{ℕ, Bool, Option, Some, None}
 use Rattle.c_written.specs.declared.place.Pos.{Pos}
 use Rattle.c_written.specs.Written as written
@@ -10,12 +10,11 @@ use Rattle.c_written.specs.WrittenDecl.{InitTree, InitTrees}
 use Rattle.c_syntax.specs.Program.{StructDefTree}
 use Rattle.c_syntax.specs.Types.{CTypeTree}
 use Rattle.c_syntax.specs.TypedParts.{texpr_type}
-use Rattle.c_syntax.specs.TypedStmt.{TInitTree}
-use Rattle.c_typing.specs.CurrentObject.{Part, Aggregates, Frame, in_braces, frame_of, next_part, after_part, takes_value, takes_text, is_text, is_text_in_braces, is_scalar_in_braces}
-use Rattle.c_typing.specs.Inits.{AtPart, Either, Into, TypedAndRefused, WithText, TypesItems, TypesInBraces, TypesInit, Initialised, Filled, filled_so, full_of, fill, fill_text, room, excess}
+use Rattle.c_typing.specs.CurrentObject.{Part, Aggregates, Frame, in_braces, frame_of, next_part, after_part, takes_value, takes_text, is_text_in_braces, is_scalar_in_braces}
+use Rattle.c_typing.specs.Inits.{AtPart, Either, Into, WithText, TypesItems, TypesInBraces, TypesInit, Initialised, Filled, filled_so, full_of, fill, fill_text, room, excess}
 use Rattle.c_typing.specs.Typing.{Types, Valued}
 use Rattle.c_typing.specs.World.{World, Refusal, Outcome, Typed, Refused, NotConstant, Then, goes_on, stops, Is}
-use Rattle.c_type_inits.specs.Forms.{OneTooMany, ValueInPart, ValueItem, TextInBraces, TextInPart, TextItem, ListInPart, ListInBraces, ListItem, ItemForm, ByList, ByExpression, as_text}
+use Rattle.c_type_inits.specs.Forms.{OneTooMany, ValueItem, TextItem, ListInBraces, ListItem, ItemForm, ByExpression, as_text}
 
 -- ---- a part of a part
 

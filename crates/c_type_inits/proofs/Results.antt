@@ -1,14 +1,12 @@
 -- How results are passed on, and which of two ways is taken.
-use Rattle.std.proofs.Common.{◌≡◌, sym, subst, ap, ◌∙◌, true, false}
-use Rattle.std.specs.Prelude.{Bool, Option, Some, None, IfSome, Result, Ok, Err, List}
+use Rattle.std.proofs.Common.{◌≡◌, sym, subst, true, false}
+use Rattle.std.specs.Prelude.{Bool, Option, Some, None, IfSome, Result, Ok, Err}
 use Rattle.std.proofs.lemmas.Option.{IfSome_then}
-use Rattle.c_syntax.specs.Program.{StructDefTree}
-use Rattle.c_syntax.specs.Types.{CTypeTree}
-use Rattle.c_typing.specs.CurrentObject.{Part, Aggregates, Fills}
-use Rattle.c_typing.specs.Inits.{AtPart, Either, Into}
-use Rattle.c_typing.specs.World.{World, Refusal, Outcome, Typed, Refused, Then, goes_on, stops}
+use Rattle.c_typing.specs.CurrentObject.{Part}
+use Rattle.c_typing.specs.Inits.{AtPart, Either}
+use Rattle.c_typing.specs.World.{World, Outcome, Typed, Refused}
 use Rattle.c_type_errors.specs.declared.error.TypeError.{TypeError}
-use Rattle.c_type_errors.specs.Views.{Answers, Tells, refusal_of}
+use Rattle.c_type_errors.specs.Views.{Answers, refusal_of}
 
 -- a result that is an outcome of one kind is one of another
 pub by : {A V : Type 0} (P Q : Outcome V → Type 0) (view : A → V) (w : World) (res : Result A TypeError) → Answers P view w res

@@ -32,7 +32,8 @@ pub fn initialiser(
     frame: Frame,
     init: &Init,
 ) -> Result<Initialised, TypeError>
-    ensures { Answers (inits.TypesInit (world_of world.old) is_static (ctype_tree ty.now) (frame_tree frame) (init_tree init.now)) by_tree (world_of world.new) result }
+    ensures { Answers (inits.TypesInit (world_of world.old) is_static (ctype_tree ty.now) (frame_tree frame) (init_tree init.now))
+        by_tree (world_of world.new) result }
 {
     match init {
         Init::Braces { items, .. } => by_list(world, is_static, ty, frame, items),

@@ -103,8 +103,8 @@ fn list_in_part(
     part: Part,
     list: &Inits,
 ) -> Result<Filled, TypeError>
-    ensures { Answers (ListInPart (world_of world.old) is_static (map tinit_tree items.items) (aggregates_tree aggregates) (part_tree part) (inits_tree list.now))
-        filled_tree (world_of world.new) result }
+    ensures { Answers (ListInPart (world_of world.old) is_static (map tinit_tree items.items) (aggregates_tree aggregates) (part_tree part)
+        (inits_tree list.now)) filled_tree (world_of world.new) result }
 {
     let whole = part.ty.copy()?;
     let frame = Frame::of(&world.structs, part);
@@ -122,8 +122,8 @@ fn expression_item(
     done: Filled,
     e: &Expr,
 ) -> Result<Filled, TypeError>
-    ensures { Answers (forms.ExpressionItem (world_of world.old) is_static (ctype_tree whole.now) (filled_tree done) (expr_tree e.now) (forms.as_text (expr_tree e.now)))
-        filled_tree (world_of world.new) result }
+    ensures { Answers (forms.ExpressionItem (world_of world.old) is_static (ctype_tree whole.now) (filled_tree done) (expr_tree e.now)
+        (forms.as_text (expr_tree e.now))) filled_tree (world_of world.new) result }
 {
     match as_text(e) {
         None => value_item(world, is_static, whole, done, e),

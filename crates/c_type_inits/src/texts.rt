@@ -80,7 +80,8 @@ fn text_in_braces(
     at: Pos,
     text: &[u8],
 ) -> Result<Filled, TypeError>
-    ensures { Answers (TextInBraces (world_of world.now) (ctype_tree whole.now) (aggregates_tree aggregates) at text.now) filled_tree (world_of world.now) result }
+    ensures { Answers (TextInBraces (world_of world.now) (ctype_tree whole.now) (aggregates_tree aggregates) at text.now)
+        filled_tree (world_of world.now) result }
 {
     let mut aggregates = aggregates;
     let ty = whole.copy()?;

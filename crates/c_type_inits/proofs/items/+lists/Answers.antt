@@ -1,15 +1,13 @@
 -- The ways out of the walk over lists.
-use Rattle.std.proofs.Common.{◌≡◌, sym, ap, ◌∙◌, subst, ◌+◌, ◌<◌, ◌++◌, [], true, false, map, refl, drop, length, get_or, arith}
+use Rattle.std.proofs.Common.{◌≡◌, sym, ap, ◌∙◌, subst, ◌<◌, [], refl, get_or, arith}
 use Rattle.std.specs.Prelude.{IfSome, option_map}
 use Rattle.std.proofs.lemmas.Option.{IfSome_then}
 use Rattle.c_written.specs.WrittenDecl as decls
 use Rattle.c_written.specs.WrittenDecl.{init_tree, inits_from, inits_tree}
-use Rattle.c_written.specs.Written.{expr_tree}
 use Rattle.c_written.specs.Sizes.{init_size, inits_size}
 use Rattle.c_written.proofs.Sizes.{inits_item}
 use Rattle.c_written.proofs.WrittenDeclTrees.{init_braces, init_value}
 use Rattle.c_syntax.specs.Types.{ctype_tree}
-use Rattle.c_syntax.specs.TypedStmt.{tinit_tree}
 use Rattle.c_typing.specs.CurrentObject as objects
 use Rattle.c_typing.specs.Inits as inits
 use Rattle.c_typing.specs.Inits.{TypesItems}
