@@ -1,0 +1,3 @@
+pub mod Words
+pub mod TypeText
+pub mod RefusalText
