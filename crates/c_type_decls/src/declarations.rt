@@ -1,0 +1,77 @@
+// Declarations, declarator by declarator.
+#![tactic(auto)]
+
+ghost use Rattle.std.specs.Prelude.{map};
+ghost use Rattle.c_written.specs.WrittenDecl.{decl_tree, initdeclarator_tree};
+ghost use Rattle.c_typing.specs.Decls as decls;
+ghost use Rattle.c_type_contexts.specs.Views.{context_tree};
+ghost use Rattle.c_type_errors.specs.Views.{Answers};
+ghost use Rattle.c_type_made.specs.Views.{made_tree};
+ghost use Rattle.c_type_names.specs.Trees.{form_tree};
+ghost use Rattle.c_type_names.specs.Worlds.{world_of};
+ghost use Rattle.c_type_decls.specs.Forms.{OneDeclarator};
+
+use crate::initials::initial;
+use crate::structs::is_struct_alone;
+use c_syntax::{Pos, StorageWord};
+use c_type_contexts::Context;
+use c_type_declared::declared;
+use c_type_errors::TypeError;
+use c_type_exprs::{declarator, first_of, specs};
+use c_type_forms::{SpecPlace, copy_form, type_told};
+use c_type_made::Made;
+use c_type_names::{Form, World};
+use c_written::{Decl, InitDeclarator};
+
+/// A declaration: what it is in the typed program if it stands in a block. It is refused for the first of its parts that
+/// is: its specs, or a declarator with its initialiser.
+pub fn declaration(world: &mut World, around: Context, decl: &Decl) -> Result<Made, TypeError>
+    ensures { Answers (decls.TypesDecl (world_of world.old) (context_tree around.entry) (decl_tree decl.now)) made_tree (world_of world.new) result }
+{
+    let items = decl.inits.as_slice();
+    let alone = is_struct_alone(&decl.specs, items);
+    let made = typed!(specs(world, alone, &decl.specs));
+    let storage = made.storage.clone()?;
+    let first = first_of(decl.pos, &decl.specs);
+    let base = typed!(type_told(world.alloc(), SpecPlace::Declaration, first, made));
+    declarators(world, around, first, storage.as_slice(), &base, items)
+}
+
+// Declarators from left to right, by what their specs tell.
+fn declarators(
+    world: &mut World,
+    around: Context,
+    first: Pos,
+    storage: &[StorageWord],
+    base: &Form,
+    items: &[InitDeclarator],
+) -> Result<Made, TypeError>
+    ensures { Answers (decls.TypesInitDeclarators (world_of world.old) (context_tree around.entry) first storage.now (form_tree base.now)
+        decls.nothing_made (map initdeclarator_tree items.now)) made_tree (world_of world.new) result }
+{
+    let mut done = Made::nothing(world.alloc());
+    'each: for item in items {
+        let made = typed!(one_declarator(world, around, first, storage, base, item));
+        done = done.then(made)?;
+    }
+    Ok(done)
+}
+
+// One declarator with its initialiser.
+fn one_declarator(
+    world: &mut World,
+    around: Context,
+    first: Pos,
+    storage: &[StorageWord],
+    base: &Form,
+    item: &InitDeclarator,
+) -> Result<Made, TypeError>
+    ensures { Answers (OneDeclarator (world_of world.old) (context_tree around.entry) first storage.now (form_tree base.now)
+        (initdeclarator_tree item.now)) made_tree (world_of world.new) result }
+{
+    let shape = typed!(declarator(world, &item.declarator));
+    let base = copy_form(world.alloc(), base)?;
+    let has_init = item.init.is_some();
+    let what = typed!(declared(world, around, first, storage, base, has_init, &shape));
+    initial(world, what, &item.init)
+}
