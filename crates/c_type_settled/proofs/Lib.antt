@@ -1,0 +1,4 @@
+pub mod Lines
+pub mod StmtLines
+pub mod Lists
+pub mod Shapes
