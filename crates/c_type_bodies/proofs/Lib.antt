@@ -1,0 +1,4 @@
+pub mod Forms
+pub mod Counting
+pub mod Left
+pub mod Changed
