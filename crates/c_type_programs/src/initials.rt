@@ -55,7 +55,8 @@ fn empty_table(alloc: Global, count: usize) -> Result<Vec<Option<Initial>>, NoMe
 // The initial value in the place of its object, if the table has one.
 fn put(table: &mut Vec<Option<Initial>>, initial: Initial)
     ensures count { vec_len table.new ≡ vec_len table.old }
-    ensures place { table.new.items ≡ (if nat_lt initial.object (vec_len table.old) then set table.old.items initial.object (Some initial) else table.old.items) }
+    ensures place { table.new.items ≡ (if nat_lt initial.object (vec_len table.old)
+        then set table.old.items initial.object (Some initial) else table.old.items) }
 {
     let n = initial.object as usize;
     if n < table.len() {

@@ -42,7 +42,8 @@ fn last_functions(
     objects: &[Object],
     functions: Vec<TFunction>,
 ) -> Result<Vec<TFunction>, NoMemory>
-    ensures { IfOk result (λ last. map tfunction_tree last.items ≡ map (settled.settled_function (map object_tree objects.now)) (map tfunction_tree functions.items)) }
+    ensures { IfOk result (λ last. map tfunction_tree last.items
+        ≡ map (settled.settled_function (map object_tree objects.now)) (map tfunction_tree functions.items)) }
 {
     let mut left = functions;
     left.reverse();
