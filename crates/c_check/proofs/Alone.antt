@@ -1,0 +1,21 @@
+-- A file has no other outcome, and a typed program is well typed.
+use Rattle.std.specs.Prelude.{IfOk, Result, Ok, Err}
+use Rattle.std.proofs.lemmas.Option.{IfSome_then}
+use Rattle.c_written.specs.WrittenFile.{FileTree}
+use Rattle.c_syntax.specs.declared.program.TProgram.{TProgram}
+use Rattle.c_syntax.specs.Program.{tprogram_tree}
+use Rattle.c_layout.specs.WellTyped.{IsWellTyped}
+use Rattle.c_typing.specs.File.{Program, NoProgram}
+use Rattle.c_typing.specs.Laws.{FilesHaveOne}
+use Rattle.c_type_errors.specs.declared.error.TypeError.{TypeError}
+use Rattle.c_type_errors.specs.Views.{refusal_of}
+use Rattle.c_well_typed_laws.specs.WellTypedLaws.{TypedIsWellTyped}
+use Rattle.c_check.specs.Checks.{Checks, IsAlone}
+
+pub is_alone : FilesHaveOne → (file : FileTree) (res : Result TProgram TypeError) → Checks file res → IsAlone file res
+is_alone law file (Ok program) p = λ o q. law file o (Program (tprogram_tree program)) q p
+is_alone law file (Err e) p = IfSome_then (refusal_of e) p (λ r q. λ o h. law file o (NoProgram r) h q)
+
+pub is_typed : TypedIsWellTyped → (file : FileTree) (res : Result TProgram TypeError) → Checks file res → IfOk res (λ program. IsWellTyped (tprogram_tree program))
+is_typed law file (Ok program) p = law file (tprogram_tree program) p
+is_typed law file (Err e) p = tt

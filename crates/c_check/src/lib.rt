@@ -1,0 +1,36 @@
+//! The typing of a file (C11 6.9): its typed program, or where it is refused first.
+//!
+//! The declarations and functions of a file are typed one after the other, each in the program that those before it left.
+//! At the end of the file objects have the types of all their declarations, and static objects that were given no value are
+//! zero.
+//!
+//! For example, `check` of `int x = 1; int f(void) { return x; }` is a program of one object and one function. For
+//! `int f(void) { return y; }` it is Undeclared, at the `y`.
+//!
+//! | What | Stated in | Promised by |
+//! |---|---|---|
+//! | the outcome of a file | `specs/Checks.antt`, by `File.TypesFile` of c_typing | `check`, `checked` |
+//! | that a file has no other outcome | `specs/Checks.antt`, by `Laws` of c_typing | `check`, `alone` |
+//! | that a typed program is well typed | `WellTyped` of c_layout | `check`, `well_typed` |
+//!
+//! `check` takes any tree, also one that no text has. A file has any number of declarations, which are gone through by a
+//! loop; how deep the calls go is bounded by the nesting of statements, expressions and initialisers.
+#![tactic(auto)]
+
+// What a part is typed as, or its refusal as that of the whole. `?` would convert the refusal as well.
+macro_rules! typed {
+    ($part:expr) => {
+        match $part {
+            Ok(typed) => typed,
+            Err(error) => return Err(error),
+        }
+    };
+}
+
+mod files;
+mod outers;
+#[cfg(test)]
+mod tests;
+
+pub use c_type_errors::TypeError;
+pub use files::check;

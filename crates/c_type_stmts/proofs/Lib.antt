@@ -1,0 +1,5 @@
+pub mod Results
+pub mod Parts
+pub mod Lines
+pub mod Lists
+pub mod Bodies

@@ -1,0 +1,88 @@
+// Labels and cases, with the statements that they stand before.
+#![tactic(auto)]
+
+ghost use Rattle.c_written.specs.Written.{expr_tree};
+ghost use Rattle.c_written.specs.WrittenFile as files;
+ghost use Rattle.c_written.specs.WrittenFile.{stmt_tree};
+ghost use Rattle.c_syntax.specs.TypedStmt.{tstmt_tree};
+ghost use Rattle.c_type_contexts.specs.Views.{context_tree};
+ghost use Rattle.c_type_errors.specs.Views.{Answers};
+ghost use Rattle.c_type_made.specs.Views.{made_tree};
+ghost use Rattle.c_type_names.specs.Worlds.{world_of};
+ghost use Rattle.c_type_stmts.specs.Forms.{Behind, BehindPrefix};
+
+use crate::items::statement;
+use c_syntax::{Expr, Name, Pos, Stmt, TStmt};
+use c_type_contexts::Context;
+use c_type_errors::TypeError;
+use c_type_jumps::default_of;
+use c_type_made::Made;
+use c_type_names::World;
+use c_type_stmt_parts::{case_at, label_of};
+
+/// A label and its statement (C11 6.8.1).
+#[cycle(walk)]
+pub(crate) fn label_form(
+    world: &mut World,
+    around: Context,
+    done: Made,
+    at: Pos,
+    name: &Name,
+    body: &Stmt,
+) -> Result<Made, TypeError>
+    ensures { Answers (Behind (world_of world.old) (context_tree around.entry) (made_tree done) (files.Label at name.now (stmt_tree body.now)))
+        made_tree (world_of world.new) result }
+{
+    let node = typed!(label_of(world, at, name));
+    behind_prefix(world, around, done, node, body)
+}
+
+/// A case and its statement (C11 6.8.1).
+#[cycle(walk)]
+pub(crate) fn case_form(
+    world: &mut World,
+    around: Context,
+    done: Made,
+    at: Pos,
+    value: &Expr,
+    body: &Stmt,
+) -> Result<Made, TypeError>
+    ensures { Answers (Behind (world_of world.old) (context_tree around.entry) (made_tree done)
+        (files.Case at (expr_tree value.now) (stmt_tree body.now))) made_tree (world_of world.new) result }
+{
+    let node = typed!(case_at(world, at, around.switch, value));
+    behind_prefix(world, around, done, node, body)
+}
+
+/// A default and its statement (C11 6.8.1).
+#[cycle(walk)]
+pub(crate) fn default_form(
+    world: &mut World,
+    around: Context,
+    done: Made,
+    at: Pos,
+    body: &Stmt,
+) -> Result<Made, TypeError>
+    ensures { Answers (Behind (world_of world.old) (context_tree around.entry) (made_tree done) (files.Default at (stmt_tree body.now)))
+        made_tree (world_of world.new) result }
+{
+    let node = typed!(default_of(world, at, around.switch));
+    behind_prefix(world, around, done, node, body)
+}
+
+/// The node of a label or a case, and the statement behind it.
+#[cycle(walk)]
+fn behind_prefix(
+    world: &mut World,
+    around: Context,
+    done: Made,
+    node: TStmt,
+    body: &Stmt,
+) -> Result<Made, TypeError>
+    ensures { Answers (BehindPrefix (world_of world.old) (context_tree around.entry) (made_tree done) (tstmt_tree node) (stmt_tree body.now))
+        made_tree (world_of world.new) result }
+{
+    let mut done = done;
+    done.push(node)?;
+    statement(world, around, done, body)
+}
