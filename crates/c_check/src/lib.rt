@@ -29,8 +29,6 @@ macro_rules! typed {
 
 mod files;
 mod outers;
-#[cfg(test)]
-mod tests;
 
 pub use c_type_errors::TypeError;
 pub use files::check;
