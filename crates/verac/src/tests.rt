@@ -111,6 +111,47 @@ fn refusals(rt: HostRuntime) -> Result<(), Fail> {
 }
 
 #[test]
+fn typing_refusals(rt: HostRuntime) -> Result<(), Fail> {
+    let rows = [
+        (
+            "int main(void){struct S{int k;}s;return s+1;}",
+            "a.c:1:42: refused: no rule for + on struct S and int\n",
+        ),
+        (
+            "int main(void){struct{int k;}*a[3];return !*a[0];}",
+            "a.c:1:43: refused: no rule for ! on struct\n",
+        ),
+        (
+            "unsigned x;int main(void){unsigned*p=&x;int(*q)[2]=p;return 0;}",
+            "a.c:1:52: refused: no rule for init on pointer to array of 2 int and pointer to unsigned int\n",
+        ),
+        ("int main(void){return x;}", "a.c:1:23: refused: undeclared\n"),
+        (
+            "int main(void){int a;int a;return 0;}",
+            "a.c:1:26: refused: declared before at 1:20\n",
+        ),
+        ("int x;int a[x];", "a.c:1:13: refused: not a constant\n"),
+        (
+            "int main(void){1=2;return 0;}",
+            "a.c:1:17: refused: not a modifiable lvalue\n",
+        ),
+        (
+            "char a[4097];int main(void){return 0;}",
+            "a.c:1:6: refused: object of 4097 bytes\n",
+        ),
+        (
+            "struct S{char b[4096];}a,b,c,d,e,f,g,h,i,j,k,l,m,n,o,p,q;",
+            "a.c:1:56: refused: objects of 69632 bytes together\n",
+        ),
+        ("void main(void){}", "a.c:1:6: refused: unsupported MainShape\n"),
+    ];
+    for (text, written) in rows {
+        tell(&rt, rt.alloc(), text.as_bytes(), Status::Refused, written)?;
+    }
+    Ok(())
+}
+
+#[test]
 fn large_and_deep_files(rt: HostRuntime) -> Result<(), Fail> {
     let alloc = rt.alloc();
     let spaces = vec![in alloc; b' '; 4_194_305]?;
