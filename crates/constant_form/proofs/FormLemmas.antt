@@ -1,28 +1,24 @@
 -- The form: a typed program is one program of it, whose constants are ints.
-use Rattle.std.proofs.Common.{◌≡◌, ◌≢◌, List, ◌∷◌, [], ℤ, pos, Bool, true, false, Option, Some, None, refl, sym, ap, ◌∙◌, subst, length, map, arith}
+use Rattle.std.proofs.Common.{◌≡◌, ◌≢◌, List, ◌∷◌, [], ℤ, Bool, true, false, Option, Some, None, refl, sym, ap, ◌∙◌, subst, length, map, arith}
 use Rattle.std.specs.Prelude.{◌&&◌, if◌then◌else◌, Result, IfOk, IfSome, MatchOption, option_map}
 use Rattle.std.proofs.lemmas.Result.{IfOk-weaker}
 use Rattle.std.proofs.lemmas.Int.{ints}
 use Rattle.c_written.specs.declared.place.Pos.{Pos}
 use Rattle.c_written.specs.declared.int_type.IntType.{IntType}
-use Rattle.c_written.specs.declared.int_type.IntType.TheVariants as words
 use Rattle.c_syntax.specs.declared.operator.TUnaryOp.{TUnaryOp}
 use Rattle.c_syntax.specs.declared.operator.TUnaryOp.TheVariants as unaries
 use Rattle.c_syntax.specs.declared.program.TFunction.{TFunction}
-use Rattle.c_syntax.specs.declared.program.TProgram.{TProgram}
 use Rattle.c_syntax.specs.declared.statement.TStmt.{TStmt}
-use Rattle.c_syntax.specs.Types as types
 use Rattle.c_syntax.specs.TypedExpr.{TExprTree}
 use Rattle.c_syntax.specs.TypedExpr as typed
-use Rattle.c_syntax.specs.TypedStmt.{TStmtTree, tstmts_from, tstmt_tree}
-use Rattle.c_syntax.specs.TypedStmt as statements
-use Rattle.c_syntax.specs.Program.{TFunctionTree, tfunction_tree, TProgramTree, tprogram_tree}
+use Rattle.c_syntax.specs.TypedStmt.{tstmts_from}
+use Rattle.c_syntax.specs.Program.{TFunctionTree, tfunction_tree, TProgramTree}
 use Rattle.constant_form.specs.declared.tree.Operator.{Operator}
 use Rattle.constant_form.specs.declared.tree.Expr.{Expr}
 use Rattle.constant_form.specs.Operators.{IsInt, fits}
 use Rattle.constant_form.specs.Tree.{ExprTree, Negate, expr_tree, ProgramTree, returning, HasConstants}
 use Rattle.constant_form.specs.Tree as trees
-use Rattle.constant_form.specs.Form.{is_int, constant_at, negation_at, unary_at, operator_of, binary_at, expression, returned_in, returned_from, IsMainReturning, Returns, IsForm}
+use Rattle.constant_form.specs.Form.{is_int, constant_at, unary_at, operator_of, binary_at, expression, returned_in, IsMainReturning, Returns, IsForm}
 
 the_some : {a e : ExprTree} → Some a ≡ Some e → a ≡ e
 the_some is = cc
