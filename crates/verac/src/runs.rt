@@ -85,7 +85,8 @@ fn answer_for(alloc: Global, name: &str, bytes: &[u8]) -> Result<(Status, Vec<u8
         }
         Read::Program(e) => {
             let alarms = alarms_of(alloc, &e)?;
-            let text = report_text(alloc, name, &alarms)?.into_bytes();
+            let report = report_text(alloc, name, &alarms)?;
+            let text = report.into_bytes();
             if alarms.is_empty() {
                 Ok((Status::NoAlarm, text))
             } else {

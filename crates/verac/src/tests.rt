@@ -125,7 +125,10 @@ fn typing_refusals(rt: HostRuntime) -> Result<(), Fail> {
             "unsigned x;int main(void){unsigned*p=&x;int(*q)[2]=p;return 0;}",
             "a.c:1:52: refused: no rule for init on pointer to array of 2 int and pointer to unsigned int\n",
         ),
-        ("int main(void){return x;}", "a.c:1:23: refused: undeclared\n"),
+        (
+            "int main(void){return x;}",
+            "a.c:1:23: refused: undeclared\n",
+        ),
         (
             "int main(void){int a;int a;return 0;}",
             "a.c:1:26: refused: declared before at 1:20\n",
@@ -143,7 +146,10 @@ fn typing_refusals(rt: HostRuntime) -> Result<(), Fail> {
             "struct S{char b[4096];}a,b,c,d,e,f,g,h,i,j,k,l,m,n,o,p,q;",
             "a.c:1:56: refused: objects of 69632 bytes together\n",
         ),
-        ("void main(void){}", "a.c:1:6: refused: unsupported MainShape\n"),
+        (
+            "void main(void){}",
+            "a.c:1:6: refused: unsupported MainShape\n",
+        ),
     ];
     for (text, written) in rows {
         tell(&rt, rt.alloc(), text.as_bytes(), Status::Refused, written)?;
