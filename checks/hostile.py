@@ -23,25 +23,31 @@ def numbered(piece, most):
 
 
 def chains():
-    """Types with as many suffixes as fit, wherever a declarator stands, and one that ends in a fault."""
+    """Types with as many suffixes as fit, wherever a declarator stands, one that ends in a fault, and one that is told."""
     yield "object", filled("int a", "[1]", ";"), "not built yet"
     yield "pointed", filled("int (*a)", "[1]", ";"), "not built yet"
     yield "parameter", filled("int f(int a", "[1]", ");"), "not built yet"
-    yield "cast", filled("int main(void){return (int", "[1]", ")0;}"), "not built yet"
+    yield "cast", filled("int main(void){(void)(int(*)", "[1]", ")0;return 0;}"), "not built yet"
     yield "sizeof", filled("int main(void){return sizeof(int", "[1]", ");}"), "not built yet"
     yield "member", filled("struct S{int a", "[1]", ";};"), "not built yet"
     yield "typedef", filled("typedef int T", "[1]", ";"), "not built yet"
     text = filled("int a", "[1]", " 1;")
     yield "faulty", text, f"1:{len(text) - 1}: syntax"
+    front, back = "int main(void){return (int", ")0;}"
+    told = filled(front, "[1]", back, SIZE // 8)
+    ty = "array of 1 " * ((len(told) - len(front) - len(back)) // 3) + "int"
+    yield "told", told, f"1:23: no rule for cast on {ty} and int"
 
 
 def names():
-    """Many names of types, and many uses of them."""
+    """Many names of types, and many uses of them, of which those that define objects are too many bytes together."""
     text, _ = numbered("typedef int T%;\n", SIZE)
     yield "typedefs", text, "not built yet"
     front, count = numbered("typedef int T%;\n", SIZE // 2)
     uses, _ = numbered(f"T{count - 1} x%;\n", SIZE // 2)
-    yield "uses", front + uses, "not built yet"
+    yield "uses", front + uses, f"{count + 16385}:{len(f'T{count - 1} ') + 1}: objects of 65540 bytes together"
+    uses, _ = numbered(f"extern T{count - 1} x%;\n", SIZE // 2)
+    yield "externs", front + uses, "not built yet"
     chain = ["typedef int T0;\n"]
     size, number = len(chain[0]), 1
     while size < SIZE - 64:

@@ -1,4 +1,3 @@
-pub mod Trees
 pub mod RunLemmas
 pub mod SizeLemmas
 pub mod AlarmLemmas

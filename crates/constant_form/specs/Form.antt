@@ -1,88 +1,94 @@
--- The built form, read on the tree of a file: the one function `int main(void) { return E; }`, where E is made of
--- constants of type int without a suffix, binary + - * /, unary - and parentheses (C11 6.5.1 to 6.5.6, 6.8.6.4, 6.9.1).
-use Rattle.std.specs.Prelude.{◌≡◌, pos, nat_le, Bool, ◌&&◌, not, ◌==◌, if◌then◌else◌, [], ◌∷◌, codes, Option, Some, None}
+-- The built form, read on the typed program of a file: the one function `int main(void) { return E; }`, where E is made of
+-- constants of type int, binary + - * / and unary - on ints (C11 5.1.2.2.1, 6.5.1 to 6.5.6, 6.8.6.4, 6.9.1).
+use Rattle.std.specs.Prelude.{◌≡◌, ℤ, Bool, true, false, ◌&&◌, if◌then◌else◌, [], ◌∷◌, codes, Option, Some, None}
 use Rattle.c_written.specs.declared.place.Pos.{Pos}
-use Rattle.c_written.specs.declared.token.Constant.{Constant}
-use Rattle.c_written.specs.declared.written.UnaryOp.{UnaryOp}
-use Rattle.c_written.specs.declared.written.UnaryOp.TheVariants as unaries
-use Rattle.c_written.specs.declared.written.BinaryOp.{BinaryOp}
-use Rattle.c_written.specs.declared.written.BinaryOp.TheVariants as binaries
-use Rattle.c_written.specs.declared.written.TypeWord.TheVariants as words
-use Rattle.c_written.specs.Written.{SpecTree, Basic, SpecTrees, no_specs, more_specs, DeclaratorTree, Name, VoidFunction}
-use Rattle.c_written.specs.Written as written
-use Rattle.c_written.specs.WrittenFile.{BlockItemTree, BlockItemTrees, OuterTree, Declared, Function, FileTree}
-use Rattle.c_written.specs.WrittenFile as nodes
+use Rattle.c_written.specs.declared.int_type.IntType.{IntType}
+use Rattle.c_written.specs.declared.int_type.IntType.TheVariants as ints
+use Rattle.c_syntax.specs.declared.operator.Arithmetic.{Arithmetic}
+use Rattle.c_syntax.specs.declared.operator.Arithmetic.TheVariants as arithmetics
+use Rattle.c_syntax.specs.declared.operator.TUnaryOp.{TUnaryOp}
+use Rattle.c_syntax.specs.declared.operator.TUnaryOp.TheVariants as unaries
+use Rattle.c_syntax.specs.declared.operator.TBinaryOp.{TBinaryOp}
+use Rattle.c_syntax.specs.declared.operator.TBinaryOp.TheVariants as binaries
+use Rattle.c_syntax.specs.declared.statement.BlockKind.TheVariants as kinds
+use Rattle.c_syntax.specs.Types as types
+use Rattle.c_syntax.specs.TypedExpr.{TExprTree}
+use Rattle.c_syntax.specs.TypedExpr as typed
+use Rattle.c_syntax.specs.TypedStmt.{TStmtTree, TStmtTrees}
+use Rattle.c_syntax.specs.TypedStmt as statements
+use Rattle.c_syntax.specs.Program.{TFunctionTree, TProgramTree}
 use Rattle.constant_form.specs.declared.tree.Operator.{Operator}
 use Rattle.constant_form.specs.declared.tree.Operator.TheVariants.{Add, Subtract, Multiply, Divide}
+use Rattle.constant_form.specs.Operators.{fits}
 use Rattle.constant_form.specs.Tree.{ExprTree, Negate, Binary, ProgramTree, returning}
 use Rattle.constant_form.specs.Tree as trees
 
--- the constant has type int: a small value, and no suffix (C11 6.4.4.1)
-abbrev pub is_int : Constant → Bool
-is_int c = nat_le c.value 2147483647 && (not c.unsigned && (c.longs == 0))
+abbrev pub is_int : IntType → Bool
+is_int ints.Int = true
+is_int ty = false
 
-abbrev pub constant_at : Pos → Constant → Option ExprTree
-constant_at at c = if is_int c then Some (trees.Constant at (pos c.value)) else None
+-- a constant of type int, which every int may be: a number, a character or an enumeration constant (C11 6.4.4)
+abbrev pub constant_at : Pos → IntType → ℤ → Option ExprTree
+constant_at at ty n = if is_int ty && fits n then Some (trees.Constant at n) else None
 
-abbrev pub unary_at : Pos → UnaryOp → Option ExprTree → Option ExprTree
-unary_at at unaries.Minus (Some a) = Some (Negate at a)
+abbrev pub negation_at : Pos → IntType → Option ExprTree → Option ExprTree
+negation_at at ty (Some a) = if is_int ty then Some (Negate at a) else None
+negation_at at ty None = None
+
+abbrev pub unary_at : Pos → TUnaryOp → Option ExprTree → Option ExprTree
+unary_at at (unaries.Minus ty) a = negation_at at ty a
 unary_at at op a = None
 
-abbrev pub operator_of : BinaryOp → Option Operator
-operator_of binaries.Plus = Some Add
-operator_of binaries.Minus = Some Subtract
-operator_of binaries.Multiply = Some Multiply
-operator_of binaries.Divide = Some Divide
+abbrev pub arithmetic_of : Arithmetic → Option Operator
+arithmetic_of arithmetics.Add = Some Add
+arithmetic_of arithmetics.Subtract = Some Subtract
+arithmetic_of arithmetics.Multiply = Some Multiply
+arithmetic_of arithmetics.Divide = Some Divide
+arithmetic_of op = None
+
+abbrev pub operator_of : TBinaryOp → Option Operator
+operator_of (binaries.Arithmetic op ty) = if is_int ty then arithmetic_of op else None
 operator_of op = None
 
 abbrev pub binary_at : Pos → Option Operator → Option ExprTree → Option ExprTree → Option ExprTree
 binary_at at (Some op) (Some a) (Some b) = Some (Binary at op a b)
 binary_at at op a b = None
 
--- the expression of the form that is written so, where it is one
-abbrev pub expression : written.ExprTree → Option ExprTree
-expression (written.Number at c) = constant_at at c
-expression (written.Enclosed at inner) = expression inner
-expression (written.Unary at op a) = unary_at at op (expression a)
-expression (written.Binary at op a b) = binary_at at (operator_of op) (expression a) (expression b)
+-- the expression of the form that this typed one is, where it is one
+abbrev pub expression : TExprTree → Option ExprTree
+expression (typed.Const at ty n) = constant_at at ty n
+expression (typed.Unary at op a) = unary_at at op (expression a)
+expression (typed.Binary at op a b) = binary_at at (operator_of op) (expression a) (expression b)
 expression e = None
 
--- the type is int, by that word alone
-abbrev pub IsIntWord : SpecTree → Type 0
-IsIntWord (Basic at word) = word ≡ words.Int
-IsIntWord spec = ⊥
-
-abbrev pub IsIntAlone : SpecTrees → Type 0
-IsIntAlone (more_specs spec no_specs) = IsIntWord spec
-IsIntAlone specs = ⊥
-
--- the declarator is main(void)
-abbrev pub IsMainName : DeclaratorTree → Type 0
-IsMainName (Name at name) = name ≡ codes "main"
-IsMainName declarator = ⊥
-
-abbrev pub IsMain : DeclaratorTree → Type 0
-IsMain (VoidFunction at inner) = IsMainName inner
-IsMain declarator = ⊥
-
--- what a return statement that is alone in a body returns
-abbrev pub returned_by : BlockItemTree → Option written.ExprTree
-returned_by (nodes.Statement (nodes.Return at value)) = value
+-- what a return statement returns
+abbrev pub returned_by : TStmtTree → Option TExprTree
+returned_by (statements.Return at value) = value
 returned_by item = None
 
-abbrev pub returned_in : BlockItemTrees → Option written.ExprTree
-returned_in (nodes.more item nodes.none) = returned_by item
+-- what a return statement that is alone in its block returns
+abbrev pub returned_in : TStmtTrees → Option TExprTree
+returned_in (statements.more item statements.none) = returned_by item
 returned_in items = None
 
--- the declaration is a function main that returns this
-abbrev pub IsMainReturning : OuterTree → written.ExprTree → Type 0
-IsMainReturning (Declared decl) value = ⊥
-IsMainReturning (Function at specs declarator brace body) value = IsIntAlone specs × IsMain declarator × (returned_in body ≡ Some value)
+-- what a body returns that has no objects and this statement alone
+abbrev pub returned_from : TStmtTree → Option TExprTree
+returned_from (statements.Block at kinds.Written [] items) = returned_in items
+returned_from body = None
 
--- the file is such a function alone
-abbrev pub Returns : FileTree → written.ExprTree → Type 0
-Returns file value = (outer : OuterTree) × (file.outers ≡ outer ∷ []) × IsMainReturning outer value
+-- the function is main, without parameters and with result int, and its body returns this
+pub record IsMainReturning (function : TFunctionTree) (value : TExprTree) : Type 0 where
+  pub name : function.name ≡ codes "main"
+  pub params : function.params ≡ []
+  pub result : function.result ≡ types.Int ints.Int
+  pub body : (body : TStmtTree) × (function.body ≡ Some body) × (returned_from body ≡ Some value)
 
--- the file is of the form, and is this program
-pub record IsForm (file : FileTree) (program : ProgramTree) : Type 0 where
-  pub read : (value : written.ExprTree) × (e : ExprTree) × Returns file value × (expression value ≡ Some e) × (program ≡ returning e)
+-- the program has no structs and no objects, and such a function alone
+pub record Returns (program : TProgramTree) (value : TExprTree) : Type 0 where
+  pub structs : program.structs ≡ []
+  pub objects : program.objects ≡ []
+  pub functions : (function : TFunctionTree) × (program.functions ≡ function ∷ []) × IsMainReturning function value
+
+-- the typed program is of the form, and is this program
+pub record IsForm (typed_program : TProgramTree) (program : ProgramTree) : Type 0 where
+  pub read : (value : TExprTree) × (e : ExprTree) × Returns typed_program value × (expression value ≡ Some e) × (program ≡ returning e)

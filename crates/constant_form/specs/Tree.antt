@@ -1,8 +1,9 @@
 -- The trees of this form without pointers, so that a text has one.
-use Rattle.std.specs.Prelude.{ℤ, pos, ◌≤ℤ◌, List, [], ◌∷◌}
+use Rattle.std.specs.Prelude.{ℤ, List, [], ◌∷◌}
 use Rattle.c_written.specs.declared.place.Pos.{Pos}
 use Rattle.c_syntax.specs.Types.{ObjectTree}
 use Rattle.constant_form.specs.declared.tree.Operator.{Operator}
+use Rattle.constant_form.specs.Operators.{IsInt}
 use Rattle.constant_form.specs.declared.tree.Expr.{Expr}
 use Rattle.constant_form.specs.declared.tree.Expr.TheVariants as code
 
@@ -32,8 +33,8 @@ returning e = record { body = Return e ∷ [] }
 abbrev pub objects_of : ProgramTree → List ObjectTree
 objects_of program = []
 
--- each constant is an int that is not negative
+-- each constant is an int
 abbrev pub HasConstants : ExprTree → Type 0
-HasConstants (Constant at n) = (pos 0 ≤ℤ n) × (n ≤ℤ pos 2147483647)
+HasConstants (Constant at n) = IsInt n
 HasConstants (Negate at a) = HasConstants a
 HasConstants (Binary at op a b) = HasConstants a × HasConstants b

@@ -1,46 +1,57 @@
-// The built form, read on the tree of a file.
-#![tactic(auto, using(crate::proofs::Trees::the_trees))]
+// The built form, read on the typed program of a file.
+#![tactic(auto)]
 
 ghost use Rattle.std.specs.Prelude.{◌≡◌, ◌≢◌, ◌∷◌, [], codes, ◌↔◌, length, IfOk, IfSome, IsTrue, MatchOption, option_map};
-ghost use Rattle.c_written.specs.Written as written;
-ghost use Rattle.c_written.specs.WrittenFile.{Statement, blockitem_tree, blockitems_tree, file_tree, outer_tree, stmt_tree};
+ghost use Rattle.c_written.specs.declared.int_type.IntType.TheVariants as ints;
+ghost use Rattle.c_syntax.specs.Types as types;
+ghost use Rattle.c_syntax.specs.Types.{ctype_tree};
+ghost use Rattle.c_syntax.specs.TypedExpr as typed;
+ghost use Rattle.c_syntax.specs.TypedExpr.{texpr_tree};
+ghost use Rattle.c_syntax.specs.TypedStmt.{tstmt_tree, tstmts_tree};
+ghost use Rattle.c_syntax.specs.Program.{tfunction_tree, tprogram_tree};
 ghost use Rattle.constant_form.specs.Tree.{ProgramTree, expr_tree, returning, HasConstants};
-ghost use Rattle.constant_form.specs.Form.{IsForm, IsIntAlone, IsIntWord, IsMain, IsMainName, IsMainReturning, Returns, binary_at, constant_at, expression, operator_of, returned_by, returned_in, unary_at};
+ghost use Rattle.constant_form.specs.Form.{IsForm, IsMainReturning, Returns, arithmetic_of, binary_at, constant_at, expression, is_int, negation_at, operator_of, returned_by, returned_from, returned_in, unary_at};
 
 use crate::tree::{Expr, Operator};
 use c_syntax::{
-    BinaryOp, BlockItem, BlockItems, Constant, Declarator, File, Outer, Pos, Spec, Specs, Stmt,
-    TypeWord, UnaryOp,
+    Arithmetic, BlockKind, CType, IntType, Pos, TBinaryOp, TExpr, TFunction, TProgram, TStmt,
+    TStmts, TUnaryOp,
 };
 use std::alloc::{AllocError, Global};
 
-/// The greatest int.
-const GREATEST: u64 = 2_147_483_647;
+/// The least int.
+const LEAST: i128 = -2_147_483_648;
 
-/// The expression that a file of the built form returns; None exactly where the file is of another
-/// form.
-pub fn form_of(alloc: Global, file: &File) -> Result<Option<Expr>, AllocError>
+/// The greatest int.
+const GREATEST: i128 = 2_147_483_647;
+
+/// The expression that a typed program of the built form returns; None exactly where the program is
+/// of another form.
+pub fn form_of(alloc: Global, program: &TProgram) -> Result<Option<Expr>, AllocError>
     ensures found { IfOk result (λ found. MatchOption found
-        ((program : ProgramTree) → IsForm (file_tree file.now) program → ⊥)
-        (λ e. IsForm (file_tree file.now) (returning (expr_tree e)))) }
-    // The file has no other program.
+        ((form : ProgramTree) → IsForm (tprogram_tree program.now) form → ⊥)
+        (λ e. IsForm (tprogram_tree program.now) (returning (expr_tree e)))) }
+    // The program is of the form in one way.
     ensures only { IfOk result (λ found. IfSome found
-        (λ e. (other : ProgramTree) → IsForm (file_tree file.now) other → other ≡ returning (expr_tree e))) }
+        (λ e. (other : ProgramTree) → IsForm (tprogram_tree program.now) other → other ≡ returning (expr_tree e))) }
     ensures constants { IfOk result (λ found. IfSome found (λ e. HasConstants (expr_tree e))) }
 {
-    let Some(value) = returned(file) else {
+    let Some(value) = returned(program) else {
         return Ok(None);
     };
     expression(alloc, value)
 }
 
-// What a file that has the function main alone returns.
-fn returned(file: &File) -> Option<&c_syntax::Expr>
-    ensures { MatchOption result ((value : written.ExprTree) → Returns (file_tree file.now) value → ⊥)
-        (λ value. Returns (file_tree file.now) (written.expr_tree value.now)) }
+// What a program that has the function main alone returns.
+fn returned(program: &TProgram) -> Option<&TExpr>
+    ensures { MatchOption result ((value : typed.TExprTree) → Returns (tprogram_tree program.now) value → ⊥)
+        (λ value. Returns (tprogram_tree program.now) (texpr_tree value.now)) }
 {
-    match only(file.outers.as_slice()) {
-        Some(outer) => returned_by_main(outer),
+    if !program.structs.as_slice().is_empty() || !program.objects.as_slice().is_empty() {
+        return None;
+    }
+    match only(program.functions.as_slice()) {
+        Some(function) => returned_by_main(function),
         None => None,
     }
 }
@@ -55,78 +66,19 @@ fn only<T>(items: &[T]) -> Option<&T>
     }
 }
 
-fn returned_by_main(outer: &Outer) -> Option<&c_syntax::Expr>
-    ensures { MatchOption result ((value : written.ExprTree) → IsMainReturning (outer_tree outer.now) value → ⊥)
-        (λ value. IsMainReturning (outer_tree outer.now) (written.expr_tree value.now)) }
+fn returned_by_main(function: &TFunction) -> Option<&TExpr>
+    ensures { MatchOption result ((value : typed.TExprTree) → IsMainReturning (tfunction_tree function.now) value → ⊥)
+        (λ value. IsMainReturning (tfunction_tree function.now) (texpr_tree value.now)) }
 {
-    match outer {
-        Outer::Declared(_) => None,
-        Outer::Function {
-            specs,
-            declarator,
-            body,
-            ..
-        } => {
-            if is_int_alone(specs) && is_main(declarator) {
-                returned_in(body)
-            } else {
-                None
-            }
-        }
+    if !is_main_word(function.name.as_slice())
+        || !function.params.as_slice().is_empty()
+        || !is_int_type(&function.result)
+    {
+        return None;
     }
-}
-
-fn is_int_alone(specs: &Specs) -> bool
-    ensures { IsTrue result ↔ IsIntAlone (written.specs_tree specs.now) }
-{
-    match only(specs.as_slice()) {
-        Some(spec) => is_int_word(spec),
-        None => false,
-    }
-}
-
-fn is_int_word(spec: &Spec) -> bool
-    ensures { IsTrue result ↔ IsIntWord (written.spec_tree spec.now) }
-{
-    match spec {
-        Spec::Basic { word, .. } => *word == TypeWord::Int,
-        Spec::Storage { .. }
-        | Spec::Const { .. }
-        | Spec::TypedefName { .. }
-        | Spec::Struct { .. }
-        | Spec::StructBody { .. }
-        | Spec::Enum { .. }
-        | Spec::EnumBody { .. } => false,
-    }
-}
-
-fn is_main(declarator: &Declarator) -> bool
-    ensures { IsTrue result ↔ IsMain (written.declarator_tree declarator.now) }
-{
-    match declarator {
-        Declarator::VoidFunction { inner, .. } => is_main_name(inner),
-        Declarator::Absent
-        | Declarator::Name { .. }
-        | Declarator::Grouped { .. }
-        | Declarator::Pointer { .. }
-        | Declarator::Array { .. }
-        | Declarator::OpenArray { .. }
-        | Declarator::Function { .. } => false,
-    }
-}
-
-fn is_main_name(declarator: &Declarator) -> bool
-    ensures { IsTrue result ↔ IsMainName (written.declarator_tree declarator.now) }
-{
-    match declarator {
-        Declarator::Name { name, .. } => is_main_word(name.as_slice()),
-        Declarator::Absent
-        | Declarator::Grouped { .. }
-        | Declarator::Pointer { .. }
-        | Declarator::Array { .. }
-        | Declarator::OpenArray { .. }
-        | Declarator::Function { .. }
-        | Declarator::VoidFunction { .. } => false,
+    match &function.body {
+        Some(body) => returned_from(body),
+        None => None,
     }
 }
 
@@ -136,62 +88,109 @@ fn is_main_word(word: &[u8]) -> bool
     word == "main".as_bytes()
 }
 
-fn returned_in(body: &BlockItems) -> Option<&c_syntax::Expr>
-    ensures { option_map (λ e. written.expr_tree e.now) result ≡ returned_in (blockitems_tree body.now) }
+#[tactic(auto, using(c_syntax::proofs::Trees::the_trees))]
+fn is_int_type(ty: &CType) -> bool
+    ensures { IsTrue result ↔ (ctype_tree ty.now ≡ types.Int ints.Int) }
 {
-    match only(body.as_slice()) {
+    match ty {
+        CType::Int(t) => *t == IntType::Int,
+        CType::Void
+        | CType::Pointer(_)
+        | CType::Array(_, _)
+        | CType::Struct(_)
+        | CType::Function(_) => false,
+    }
+}
+
+#[tactic(auto, using(c_syntax::proofs::Trees::the_trees))]
+fn returned_from(body: &TStmt) -> Option<&TExpr>
+    ensures { option_map (λ e. texpr_tree e.now) result ≡ returned_from (tstmt_tree body.now) }
+{
+    match body {
+        TStmt::Block {
+            kind,
+            objects,
+            items,
+            ..
+        } => match kind {
+            BlockKind::Written => {
+                if objects.as_slice().is_empty() {
+                    returned_in(items)
+                } else {
+                    None
+                }
+            }
+            BlockKind::Added => None,
+        },
+        TStmt::Empty { .. }
+        | TStmt::Expr { .. }
+        | TStmt::Declare { .. }
+        | TStmt::Static { .. }
+        | TStmt::If { .. }
+        | TStmt::While { .. }
+        | TStmt::DoWhile { .. }
+        | TStmt::For { .. }
+        | TStmt::Switch { .. }
+        | TStmt::Break { .. }
+        | TStmt::Continue { .. }
+        | TStmt::Goto { .. }
+        | TStmt::Return { .. }
+        | TStmt::Label { .. }
+        | TStmt::Case { .. }
+        | TStmt::Default { .. } => None,
+    }
+}
+
+#[tactic(auto, using(c_syntax::proofs::Trees::the_trees))]
+fn returned_in(items: &TStmts) -> Option<&TExpr>
+    ensures { option_map (λ e. texpr_tree e.now) result ≡ returned_in (tstmts_tree items.now) }
+{
+    match only(items.as_slice()) {
         Some(item) => returned_by(item),
         None => None,
     }
 }
 
-fn returned_by(item: &BlockItem) -> Option<&c_syntax::Expr>
-    ensures { option_map (λ e. written.expr_tree e.now) result ≡ returned_by (blockitem_tree item.now) }
+#[tactic(auto, using(c_syntax::proofs::Trees::the_trees))]
+fn returned_by(item: &TStmt) -> Option<&TExpr>
+    ensures { option_map (λ e. texpr_tree e.now) result ≡ returned_by (tstmt_tree item.now) }
 {
     match item {
-        BlockItem::Declaration(_) => None,
-        BlockItem::Statement(statement) => value_of(statement),
-    }
-}
-
-fn value_of(statement: &Stmt) -> Option<&c_syntax::Expr>
-    ensures { option_map (λ e. written.expr_tree e.now) result ≡ returned_by (Statement (stmt_tree statement.now)) }
-{
-    match statement {
-        Stmt::Return { value, .. } => match value {
+        TStmt::Return { value, .. } => match value {
             Some(value) => Some(value),
             None => None,
         },
-        Stmt::Label { .. }
-        | Stmt::Case { .. }
-        | Stmt::Default { .. }
-        | Stmt::Block { .. }
-        | Stmt::Empty { .. }
-        | Stmt::Expression { .. }
-        | Stmt::If { .. }
-        | Stmt::IfElse { .. }
-        | Stmt::Switch { .. }
-        | Stmt::While { .. }
-        | Stmt::DoWhile { .. }
-        | Stmt::For { .. }
-        | Stmt::Goto { .. }
-        | Stmt::Continue { .. }
-        | Stmt::Break { .. } => None,
+        TStmt::Empty { .. }
+        | TStmt::Expr { .. }
+        | TStmt::Block { .. }
+        | TStmt::Declare { .. }
+        | TStmt::Static { .. }
+        | TStmt::If { .. }
+        | TStmt::While { .. }
+        | TStmt::DoWhile { .. }
+        | TStmt::For { .. }
+        | TStmt::Switch { .. }
+        | TStmt::Break { .. }
+        | TStmt::Continue { .. }
+        | TStmt::Goto { .. }
+        | TStmt::Label { .. }
+        | TStmt::Case { .. }
+        | TStmt::Default { .. } => None,
     }
 }
 
-// The expression of the form that is written so, where it is one.
-fn expression(alloc: Global, e: &c_syntax::Expr) -> Result<Option<Expr>, AllocError>
-    ensures { IfOk result (λ found. option_map expr_tree found ≡ expression (written.expr_tree e.now)) }
+// The expression of the form that this typed one is, where it is one.
+#[tactic(auto, using(c_syntax::proofs::Trees::the_trees))]
+fn expression(alloc: Global, e: &TExpr) -> Result<Option<Expr>, AllocError>
+    ensures { IfOk result (λ found. option_map expr_tree found ≡ expression (texpr_tree e.now)) }
 {
     match e {
-        c_syntax::Expr::Number { pos, constant } => Ok(constant_at(*pos, constant)),
-        c_syntax::Expr::Enclosed { inner, .. } => expression(alloc, inner),
-        c_syntax::Expr::Unary { pos, op, operand } => {
+        TExpr::Const { pos, ty, value } => Ok(constant_at(*pos, *ty, *value)),
+        TExpr::Unary { pos, op, operand } => {
             let operand = expression(alloc, operand)?;
             unary_at(alloc, *pos, *op, operand)
         }
-        c_syntax::Expr::Binary {
+        TExpr::Binary {
             pos,
             op,
             left,
@@ -201,31 +200,51 @@ fn expression(alloc: Global, e: &c_syntax::Expr) -> Result<Option<Expr>, AllocEr
             let right = expression(alloc, right)?;
             binary_at(alloc, *pos, operator_of(*op), left, right)
         }
-        c_syntax::Expr::Word { .. }
-        | c_syntax::Expr::Character { .. }
-        | c_syntax::Expr::Strings { .. }
-        | c_syntax::Expr::Index { .. }
-        | c_syntax::Expr::Call { .. }
-        | c_syntax::Expr::Dot { .. }
-        | c_syntax::Expr::Arrow { .. }
-        | c_syntax::Expr::PostStep { .. }
-        | c_syntax::Expr::PreStep { .. }
-        | c_syntax::Expr::SizeofExpr { .. }
-        | c_syntax::Expr::SizeofType { .. }
-        | c_syntax::Expr::Cast { .. }
-        | c_syntax::Expr::Cond { .. }
-        | c_syntax::Expr::Assign { .. }
-        | c_syntax::Expr::Compound { .. }
-        | c_syntax::Expr::Comma { .. } => Ok(None),
+        TExpr::Null { .. }
+        | TExpr::Load { .. }
+        | TExpr::AddressOf { .. }
+        | TExpr::Decay { .. }
+        | TExpr::Whole { .. }
+        | TExpr::Convert { .. }
+        | TExpr::Assign { .. }
+        | TExpr::AssignStruct { .. }
+        | TExpr::Compound { .. }
+        | TExpr::Step { .. }
+        | TExpr::And { .. }
+        | TExpr::Or { .. }
+        | TExpr::Cond { .. }
+        | TExpr::Comma { .. }
+        | TExpr::Call { .. }
+        | TExpr::Any { .. }
+        | TExpr::Assume { .. }
+        | TExpr::Assert { .. } => Ok(None),
     }
 }
 
-// The node of a constant, where an int holds it.
-fn constant_at(at: Pos, constant: &Constant) -> Option<Expr>
-    ensures { option_map expr_tree result ≡ constant_at at constant.now }
+fn is_int(ty: IntType) -> bool
+    ensures { result ≡ is_int ty }
 {
-    if constant.value <= GREATEST && !constant.unsigned && constant.longs == 0 {
-        Some(Expr::Constant(at, i128::from(constant.value)))
+    match ty {
+        IntType::Int => true,
+        IntType::Char
+        | IntType::SChar
+        | IntType::UChar
+        | IntType::Short
+        | IntType::UShort
+        | IntType::UInt
+        | IntType::Long
+        | IntType::ULong
+        | IntType::LLong
+        | IntType::ULLong => false,
+    }
+}
+
+// The node of a constant, where it is an int.
+fn constant_at(at: Pos, ty: IntType, value: i128) -> Option<Expr>
+    ensures { option_map expr_tree result ≡ constant_at at ty value }
+{
+    if is_int(ty) && LEAST <= value && value <= GREATEST {
+        Some(Expr::Constant(at, value))
     } else {
         None
     }
@@ -234,43 +253,61 @@ fn constant_at(at: Pos, constant: &Constant) -> Option<Expr>
 fn unary_at(
     alloc: Global,
     at: Pos,
-    op: UnaryOp,
+    op: TUnaryOp,
     operand: Option<Expr>,
 ) -> Result<Option<Expr>, AllocError>
     ensures { IfOk result (λ found. option_map expr_tree found ≡ unary_at at op (option_map expr_tree operand)) }
 {
     match op {
-        UnaryOp::Minus => match operand {
-            Some(operand) => Ok(Some(Expr::Negate(at, Box::new(alloc, operand)?))),
-            None => Ok(None),
-        },
-        UnaryOp::AddressOf | UnaryOp::Deref | UnaryOp::Plus | UnaryOp::Complement | UnaryOp::Not =>
-            Ok(None),
+        TUnaryOp::Minus(ty) => negation_at(alloc, at, ty, operand),
+        TUnaryOp::Plus(_) | TUnaryOp::Complement(_) | TUnaryOp::Not => Ok(None),
     }
 }
 
-fn operator_of(op: BinaryOp) -> Option<Operator>
+fn negation_at(
+    alloc: Global,
+    at: Pos,
+    ty: IntType,
+    operand: Option<Expr>,
+) -> Result<Option<Expr>, AllocError>
+    ensures { IfOk result (λ found. option_map expr_tree found ≡ negation_at at ty (option_map expr_tree operand)) }
+{
+    match operand {
+        Some(operand) => {
+            if is_int(ty) {
+                Ok(Some(Expr::Negate(at, Box::new(alloc, operand)?)))
+            } else {
+                Ok(None)
+            }
+        }
+        None => Ok(None),
+    }
+}
+
+fn operator_of(op: TBinaryOp) -> Option<Operator>
     ensures { result ≡ operator_of op }
 {
     match op {
-        BinaryOp::Plus => Some(Operator::Add),
-        BinaryOp::Minus => Some(Operator::Subtract),
-        BinaryOp::Multiply => Some(Operator::Multiply),
-        BinaryOp::Divide => Some(Operator::Divide),
-        BinaryOp::Remainder
-        | BinaryOp::ShiftLeft
-        | BinaryOp::ShiftRight
-        | BinaryOp::Less
-        | BinaryOp::Greater
-        | BinaryOp::AtMost
-        | BinaryOp::AtLeast
-        | BinaryOp::Equal
-        | BinaryOp::Unequal
-        | BinaryOp::BitAnd
-        | BinaryOp::BitXor
-        | BinaryOp::BitOr
-        | BinaryOp::And
-        | BinaryOp::Or => None,
+        TBinaryOp::Arithmetic(op, ty) => { if is_int(ty) { arithmetic_of(op) } else { None } }
+        TBinaryOp::Shift(_, _)
+        | TBinaryOp::CompareInts(_, _)
+        | TBinaryOp::ComparePointers(_)
+        | TBinaryOp::PointerPlusInt { .. }
+        | TBinaryOp::IntPlusPointer { .. }
+        | TBinaryOp::PointerMinusInt { .. }
+        | TBinaryOp::PointerMinusPointer { .. } => None,
+    }
+}
+
+fn arithmetic_of(op: Arithmetic) -> Option<Operator>
+    ensures { result ≡ arithmetic_of op }
+{
+    match op {
+        Arithmetic::Add => Some(Operator::Add),
+        Arithmetic::Subtract => Some(Operator::Subtract),
+        Arithmetic::Multiply => Some(Operator::Multiply),
+        Arithmetic::Divide => Some(Operator::Divide),
+        Arithmetic::Remainder | Arithmetic::BitAnd | Arithmetic::BitXor | Arithmetic::BitOr => None,
     }
 }
 

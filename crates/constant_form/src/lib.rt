@@ -1,11 +1,15 @@
 //! The built form: the one function `int main(void) { return E; }`, where `E` is made of constants.
 //!
-//! It is read on the tree of a file, and walked over the intervals of its values for what may go wrong. For
-//! example, `return 2147483647 + 1;` has one alarm, `Overflow` at the `+`, which shows 2147483648.
+//! It is read on the typed program of a file, and walked over the intervals of its values for what may go
+//! wrong. For example, `return 2147483647 + 1;` has one alarm, `Overflow` at the `+`, which shows 2147483648.
 //!
-//! `specs/Form.antt` states the form, `specs/Machine.antt` what a run does and when it goes wrong,
-//! `specs/Sound.antt` that alarms miss no run and show no more than runs reach, `specs/Admission.antt`
-//! which alarms a program admits, `specs/Order.antt` their order. `form_of` and `alarms_of` promise these.
+//! | What | Stated in `specs/` | Promised by |
+//! |---|---|---|
+//! | the form, on a typed program | `Form` | `form_of` |
+//! | what a run does, and when it goes wrong | `Machine` | |
+//! | alarms miss no run, and show no more than runs reach | `Sound` | `alarms_of` |
+//! | which alarms a program admits | `Admission` | `alarms_of` |
+//! | their order | `Order` | `alarms_of` |
 #![tactic(auto)]
 
 mod form;

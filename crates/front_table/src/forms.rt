@@ -3,10 +3,13 @@
 use crate::text::{Written, place, shown, signed};
 use crate::tokens;
 use crate::trees::{self, Reading, read};
-use c_syntax::{Alarm, Example};
+use c_check::check;
+use c_syntax::{Alarm, Example, TProgram};
+use c_type_errors::TypeError;
 use c_written::File;
 use constant_form::{alarms_of, form_of};
 use std::alloc::{AllocError, Global};
+use type_text::{refusal_pos, refusal_text};
 
 /// What may go wrong in the program of the text, as `Overflow 1:36 2147483648`, or `no alarm`, `not
 /// built`, or the refusal.
@@ -14,12 +17,34 @@ pub fn line(alloc: Global, text: &[u8]) -> Result<String, AllocError> {
     match read(alloc, text) {
         Reading::Uncut(error) => tokens::refused(alloc, error),
         Reading::Refused(error) => trees::refused(alloc, error),
-        Reading::Tree(file) => file_line(alloc, &file),
+        Reading::Tree(file) => file_line(alloc, file),
     }
 }
 
-fn file_line(alloc: Global, file: &File) -> Result<String, AllocError> {
-    match form_of(alloc, file)? {
+fn file_line(alloc: Global, file: File) -> Result<String, AllocError> {
+    match check(alloc, file) {
+        Err(error) => refused(alloc, &error),
+        Ok(program) => program_line(alloc, &program),
+    }
+}
+
+// What is told of a refusal of typing and where, as `undeclared 1:25`.
+fn refused(alloc: Global, error: &TypeError) -> Result<String, AllocError> {
+    let Some(pos) = refusal_pos(error) else {
+        return Err(AllocError);
+    };
+    let text = refusal_text(alloc, error)?;
+    let mut line = String::new(alloc);
+    for byte in text.as_slice() {
+        line.push(char::from(*byte))?;
+    }
+    line.push(' ')?;
+    place(&mut line, pos)?;
+    Ok(line)
+}
+
+fn program_line(alloc: Global, program: &TProgram) -> Result<String, AllocError> {
+    match form_of(alloc, program)? {
         None => String::from_str(alloc, "not built"),
         Some(returned) => {
             let alarms = alarms_of(alloc, &returned)?;

@@ -1,8 +1,8 @@
-// Expressions by what their file comes to, worked by hand.
+// Typed expressions by what their program comes to, worked by hand.
 
 use c_syntax::{
-    BinaryOp, BlockItem, BlockItems, Constant, Declarator, Expr, File, Name, Outer, Outers, Pos,
-    Spec, Specs, Stmt, TypeWord, UnaryOp,
+    Arithmetic, BlockKind, CType, Initials, IntType, Name, Numbers, Objects, Pos, StructDefs,
+    TBinaryOp, TExpr, TFunction, TFunctions, TProgram, TStmt, TStmts, TUnaryOp,
 };
 use constant_form::{alarms_of, form_of};
 use std::alloc::{AllocError as NoMemory, Global};
@@ -11,10 +11,10 @@ use std::test::Fail;
 // A word of an expression whose operators stand behind their operands.
 #[derive(Clone, Copy, Debug)]
 enum Word {
-    Number(u64),
-    Unsigned(u64),
-    One(UnaryOp),
-    Two(BinaryOp),
+    Number(i128),
+    Unsigned(i128),
+    One(TUnaryOp),
+    Two(Arithmetic),
 }
 
 fn at(col: u32) -> Pos {
@@ -25,78 +25,59 @@ fn at(col: u32) -> Pos {
     }
 }
 
-fn number(pos: Pos, value: u64, unsigned: bool) -> Expr {
-    let constant = Constant {
-        value,
-        decimal: true,
-        unsigned,
-        longs: 0,
-    };
-    Expr::Number { pos, constant }
-}
-
-// `main(void)`
-fn main_declarator(alloc: Global) -> Result<Declarator, NoMemory> {
-    let name = Declarator::Name {
+// `{ return value; }`
+fn returning(alloc: Global, value: TExpr) -> Result<TStmt, NoMemory> {
+    let mut items = Vec::new(alloc);
+    items.push(TStmt::Return {
         pos: at(1),
-        name: Name::from_vec("main".as_bytes().to_vec(alloc)?),
-    };
-    Ok(Declarator::VoidFunction {
+        value: Some(value),
+    })?;
+    Ok(TStmt::Block {
         pos: at(1),
-        inner: Box::new(alloc, name)?,
+        kind: BlockKind::Written,
+        objects: Numbers::new(alloc),
+        items: TStmts::from_vec(items),
     })
 }
 
-// `{ return value; }`
-fn returning(alloc: Global, value: Expr) -> Result<BlockItems, NoMemory> {
-    let mut items = Vec::new(alloc);
-    items.push(BlockItem::Statement(Stmt::Return {
-        pos: at(1),
-        value: Some(Box::new(alloc, value)?),
-    }))?;
-    Ok(BlockItems::from_vec(items))
-}
-
-// `int`
-fn int(alloc: Global) -> Result<Specs, NoMemory> {
-    let mut specs = Vec::new(alloc);
-    specs.push(Spec::Basic {
-        pos: at(1),
-        word: TypeWord::Int,
-    })?;
-    Ok(Specs::from_vec(specs))
-}
-
-// The file of the one function main that returns this.
-fn file_of(alloc: Global, value: Expr) -> Result<File, NoMemory> {
+// The program of the one function main that returns this.
+fn program_of(alloc: Global, value: TExpr) -> Result<TProgram, NoMemory> {
     let body = returning(alloc, value)?;
-    let specs = int(alloc)?;
-    let declarator = main_declarator(alloc)?;
-    let declarator = Box::new(alloc, declarator)?;
-    let mut outers = Vec::new(alloc);
-    outers.push(Outer::Function {
+    let mut functions = Vec::new(alloc);
+    functions.push(TFunction {
+        name: Name::from_vec("main".as_bytes().to_vec(alloc)?),
         pos: at(1),
-        specs,
-        declarator,
-        brace: at(1),
-        body,
+        params: Numbers::new(alloc),
+        result: CType::Int(IntType::Int),
+        body: Some(body),
     })?;
-    Ok(File {
-        outers: Outers::from_vec(outers),
+    Ok(TProgram {
+        structs: StructDefs::new(alloc),
+        objects: Objects::new(alloc),
+        functions: TFunctions::from_vec(functions),
+        initial: Initials::new(alloc),
     })
 }
 
 // The node of a word, over the operands that are taken off the stack.
-fn node(alloc: Global, pos: Pos, word: Word, stack: &mut Vec<Expr>) -> Result<Expr, Fail> {
+fn node(alloc: Global, pos: Pos, word: Word, stack: &mut Vec<TExpr>) -> Result<TExpr, Fail> {
     match word {
-        Word::Number(value) => Ok(number(pos, value, false)),
-        Word::Unsigned(value) => Ok(number(pos, value, true)),
+        Word::Number(value) => Ok(TExpr::Const {
+            pos,
+            ty: IntType::Int,
+            value,
+        }),
+        Word::Unsigned(value) => Ok(TExpr::Const {
+            pos,
+            ty: IntType::UInt,
+            value,
+        }),
         Word::One(op) => {
             let Some(operand) = stack.pop() else {
                 return Err("no operand".into());
             };
             let operand = Box::new(alloc, operand)?;
-            Ok(Expr::Unary { pos, op, operand })
+            Ok(TExpr::Unary { pos, op, operand })
         }
         Word::Two(op) => {
             let (Some(right), Some(left)) = (stack.pop(), stack.pop()) else {
@@ -104,9 +85,9 @@ fn node(alloc: Global, pos: Pos, word: Word, stack: &mut Vec<Expr>) -> Result<Ex
             };
             let left = Box::new(alloc, left)?;
             let right = Box::new(alloc, right)?;
-            Ok(Expr::Binary {
+            Ok(TExpr::Binary {
                 pos,
-                op,
+                op: TBinaryOp::Arithmetic(op, IntType::Int),
                 left,
                 right,
             })
@@ -115,7 +96,7 @@ fn node(alloc: Global, pos: Pos, word: Word, stack: &mut Vec<Expr>) -> Result<Ex
 }
 
 // The expression of these words, of which the nth stands at column n.
-fn read(alloc: Global, words: &[Word]) -> Result<Expr, Fail> {
+fn read(alloc: Global, words: &[Word]) -> Result<TExpr, Fail> {
     let mut stack = Vec::new(alloc);
     let mut col = 0u32;
     for word in words {
@@ -129,10 +110,10 @@ fn read(alloc: Global, words: &[Word]) -> Result<Expr, Fail> {
     }
 }
 
-// The alarms of the file that returns this, each with its kind, column and example.
+// The alarms of the program that returns this, each with its kind, column and example.
 fn told(alloc: Global, words: &[Word]) -> Result<String, Fail> {
-    let file = file_of(alloc, read(alloc, words)?)?;
-    let Some(e) = form_of(alloc, &file)? else {
+    let program = program_of(alloc, read(alloc, words)?)?;
+    let Some(e) = form_of(alloc, &program)? else {
         return Ok(String::from_str(alloc, "another form")?);
     };
     let alarms = alarms_of(alloc, &e)?;
@@ -148,32 +129,38 @@ fn told(alloc: Global, words: &[Word]) -> Result<String, Fail> {
 
 #[test]
 fn expressions(rt: HostRuntime) -> Result<(), Fail> {
-    use BinaryOp::{Divide, Minus, Multiply, Plus, Remainder};
+    use Arithmetic::{Add, Divide, Multiply, Remainder, Subtract};
     use Word::{Number, One, Two, Unsigned};
     let rows: [(&[Word], &str); 10] = [
         (
-            &[Number(2_147_483_647), Number(1), Two(Plus)],
+            &[Number(2_147_483_647), Number(1), Two(Add)],
             "Overflow at 3 by Number(2147483648)",
         ),
-        (&[Number(2_147_483_647), Number(0), Two(Plus)], ""),
+        (&[Number(2_147_483_647), Number(0), Two(Add)], ""),
         (
             &[Number(1), Number(0), Two(Divide)],
             "DivideByZero at 3 by Number(0)",
         ),
         // 7 - 2 * 3
         (
-            &[Number(7), Number(2), Number(3), Two(Multiply), Two(Minus)],
+            &[
+                Number(7),
+                Number(2),
+                Number(3),
+                Two(Multiply),
+                Two(Subtract),
+            ],
             "",
         ),
         // The least int is divided by -1.
         (
             &[
                 Number(2_147_483_647),
-                One(UnaryOp::Minus),
+                One(TUnaryOp::Minus(IntType::Int)),
                 Number(1),
-                Two(Minus),
+                Two(Subtract),
                 Number(1),
-                One(UnaryOp::Minus),
+                One(TUnaryOp::Minus(IntType::Int)),
                 Two(Divide),
             ],
             "Quotient at 7 by Number(2147483648)",
@@ -186,7 +173,10 @@ fn expressions(rt: HostRuntime) -> Result<(), Fail> {
         (&[Number(2_147_483_648)], "another form"),
         (&[Unsigned(1)], "another form"),
         (&[Number(7), Number(2), Two(Remainder)], "another form"),
-        (&[Number(7), One(UnaryOp::Plus)], "another form"),
+        (
+            &[Number(7), One(TUnaryOp::Plus(IntType::Int))],
+            "another form",
+        ),
     ];
     for (words, expected) in rows {
         let text = told(rt.alloc(), words)?;

@@ -1,6 +1,6 @@
 -- One name, and the report of alarms.
-use Rattle.std.proofs.Common.{◌≡◌, List, ℕ}
-use Rattle.std.specs.Prelude.{All, AllPairs}
+use Rattle.std.proofs.Common.{◌≡◌, List, ℕ, Option, Some, None}
+use Rattle.std.specs.Prelude.{All, AllPairs, IfSome, IsSomeAnd}
 use Rattle.c_syntax.specs.declared.alarm.Alarm.{Alarm}
 use Rattle.constant_form.specs.Tree.{ProgramTree}
 use Rattle.constant_form.specs.Sound.{IsSound}
@@ -9,11 +9,20 @@ use Rattle.constant_form.specs.Order.{Precedes, IsPrintable}
 use Rattle.verac.specs.Command.{IsCommand}
 use Rattle.verac.specs.Report.{text_of}
 use Rattle.verac.specs.Read.{IsOneProgram}
+use Rattle.verac.specs.Refusal.{RefusalTree}
+use Rattle.verac.specs.RefusalText.{line_of}
+use Rattle.verac.specs.Verdict.{IsRefusedFor}
 use Rattle.verac.specs.Headline.{IsReport}
 
 -- the words name one file
 pub same_name : (words : List (List ℕ)) (a b : List ℕ) → IsCommand words a → IsCommand words b → a ≡ b
 same_name words a b one two = let (p, e) = one.words_are in let (q, f) = two.words_are in cc
+
+-- a refusal with its line
+pub refused : (name bytes text : List ℕ) (found : Option RefusalTree) → IsSomeAnd found (IsRefusedFor bytes) → IfSome found (λ r. text ≡ line_of name r)
+    → (r : RefusalTree) × IsRefusedFor bytes r × (text ≡ line_of name r)
+refused name bytes text None is line = absurd is
+refused name bytes text (Some r) is line = (r, is, line)
 
 pub report : (name bytes : List ℕ) (program : ProgramTree) (alarms : List Alarm) (text : List ℕ) → IsOneProgram bytes program
     → IsSound program alarms → All (IsAdmitted program) alarms → AllPairs Precedes alarms → All IsPrintable alarms → text ≡ text_of name alarms → IsReport name bytes alarms text

@@ -1,3 +1,4 @@
 pub mod CommandLemmas
 pub mod VerdictLemmas
 pub mod HeadlineLemmas
+pub mod ReadLemmas

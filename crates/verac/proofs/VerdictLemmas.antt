@@ -1,20 +1,23 @@
--- Bytes are one program, or are refused once, by the laws of the cut and of the grammar.
-use Rattle.std.proofs.Common.{arith, ◌≡◌, ◌≤◌, ◌<◌, List, ℕ, length, refl, sym, subst, ◌∙◌}
+-- Bytes are one program, or are refused once, by the laws of the cut, of the grammar and of typing.
+use Rattle.std.proofs.Common.{arith, ◌≡◌, ◌≤◌, ◌<◌, List, ℕ, length, refl, sym, ap, subst, ◌∙◌}
 use Rattle.c_written.specs.declared.place.Pos.{Pos}
 use Rattle.c_written.specs.declared.token.Placed.{Placed}
 use Rattle.c_written.specs.declared.token.Tokens.{Tokens}
 use Rattle.c_written.specs.WrittenFile.{FileTree}
+use Rattle.c_syntax.specs.Program.{TProgramTree}
 use Rattle.c_lexer.specs.declared.reason.Reason.{Reason}
 use Rattle.c_lexer.specs.Cut.{IsCut}
 use Rattle.c_lexer.specs.Uncut.{IsUncut}
-use Rattle.c_grammar.specs.Refused.{IsFile, Why, Syntax, Unsupported, TooDeep}
+use Rattle.c_grammar.specs.Refused.{IsFile, Why}
 use Rattle.c_grammar.specs.Refused as grammar
-use Rattle.verac.specs.declared.refusal.Refusal.{Refusal}
-use Rattle.verac.specs.declared.refusal.Refusal.TheVariants as refusals
+use Rattle.c_typing.specs.World as typing
+use Rattle.c_typing.specs.File.{FileOutcome, TypesFile, Program, NoProgram}
+use Rattle.c_typing.specs.Laws.{FilesHaveOne}
 use Rattle.constant_form.specs.Tree.{ProgramTree}
 use Rattle.constant_form.specs.Form.{IsForm}
-use Rattle.verac.specs.Program.{IsSource, IsProgram}
-use Rattle.verac.specs.Verdict.{IsUnparsed, IsUnbuilt, IsRefusedFor}
+use Rattle.verac.specs.Program.{IsSource, IsTypedAs, IsProgram}
+use Rattle.verac.specs.Refusal.{RefusalTree, FileTooLarge, Lexing, Syntax, Unsupported, TooDeep, Typing, NotBuilt}
+use Rattle.verac.specs.Verdict.{IsUnparsed, IsUntyped, IsUnbuilt, IsRefusedFor}
 use Rattle.constant_form.proofs.FormLemmas.{one_form}
 
 abbrev pub OneCut : Type 0
@@ -39,50 +42,85 @@ one_source : OneCut → OneFile → (bytes : List ℕ) (a b : FileTree) → IsSo
 one_source cuts files bytes a b (ts, cut, is) (us, other, same) =
     files ts.list a b is (subst (λ (v : Tokens). IsFile v.list b) (cuts 0 bytes us ts other cut) same)
 
+-- the outcome of the file that bytes are
+abbrev ComesTo : List ℕ → FileOutcome → Type 0
+ComesTo bytes o = (file : FileTree) × IsSource bytes file × TypesFile file o
+
+one_outcome : OneCut → OneFile → FilesHaveOne → (bytes : List ℕ) (o q : FileOutcome) → ComesTo bytes o → ComesTo bytes q → o ≡ q
+one_outcome cuts files outcomes bytes o q (file, source, types) (other, found, also) =
+    outcomes file o q types (subst (λ (f : FileTree). TypesFile f q) (one_source cuts files bytes other file found source) also)
+
+the_program : (a b : TProgramTree) → Program a ≡ Program b → a ≡ b
+the_program a b is = cc
+
+the_refusal : (r s : typing.Refusal) → NoProgram r ≡ NoProgram s → r ≡ s
+the_refusal r s is = cc
+
+not_program : (a : TProgramTree) (r : typing.Refusal) → Program a ≡ NoProgram r → ⊥
+not_program a r is = cc
+
+one_typed : OneCut → OneFile → FilesHaveOne → (bytes : List ℕ) (a b : TProgramTree) → IsTypedAs bytes a → IsTypedAs bytes b → a ≡ b
+one_typed cuts files outcomes bytes a b is also = the_program a b (one_outcome cuts files outcomes bytes (Program a) (Program b) is also)
+
+not_untyped : OneCut → OneFile → FilesHaveOne → (bytes : List ℕ) (a : TProgramTree) (r : typing.Refusal) → IsTypedAs bytes a → IsUntyped bytes r → ⊥
+not_untyped cuts files outcomes bytes a r is refused = not_program a r (one_outcome cuts files outcomes bytes (Program a) (NoProgram r) is refused)
+
 not_unparsed : OneCut → NotFileAndRefused → (bytes : List ℕ) (file : FileTree) (why : Why) (at : Pos) → IsSource bytes file → IsUnparsed bytes why at → ⊥
 not_unparsed cuts not_both bytes file why at (ts, cut, is) (us, other, (rest, refused, place)) =
     not_both ts.list rest why file is (subst (λ (v : Tokens). grammar.IsRefused v.list rest why) (cuts 0 bytes us ts other cut) refused)
 
-pub one_program : OneCut → OneFile → (bytes : List ℕ) (a b : ProgramTree) → IsProgram bytes a → IsProgram bytes b → a ≡ b
-one_program cuts files bytes a b is other =
-    let (file, source, form) = is.read in
-    let (found, found_source, found_form) = other.read in
-    let same : found ≡ file = one_source cuts files bytes found file found_source source in
-    one_form file a b form (subst (λ (f : FileTree). IsForm f b) same found_form)
+pub one_program : OneCut → OneFile → FilesHaveOne → (bytes : List ℕ) (a b : ProgramTree) → IsProgram bytes a → IsProgram bytes b → a ≡ b
+one_program cuts files outcomes bytes a b is other =
+    let (tree, typed, form) = is.read in
+    let (found, found_typed, found_form) = other.read in
+    let same : found ≡ tree = one_typed cuts files outcomes bytes found tree found_typed typed in
+    one_form tree a b form (subst (λ (p : TProgramTree). IsForm p b) same found_form)
 
-pub not_both : OneCut → NotCutAndUncut → OneFile → NotFileAndRefused → (bytes : List ℕ) (program : ProgramTree) (r : Refusal) → length bytes ≤ 4194304 → IsProgram bytes program → IsRefusedFor bytes r → ⊥
-not_both cuts whole files parsed bytes program refusals.FileTooLarge small is large = absurd (omega arith)
-not_both cuts whole files parsed bytes program (refusals.Lexing reason at) small is (low, uncut) = let (file, (ts, cut, source), form) = is.read in whole 0 bytes ts at reason cut uncut
-not_both cuts whole files parsed bytes program (refusals.Syntax at) small is (low, r) = let (file, source, form) = is.read in not_unparsed cuts parsed bytes file Syntax at source r
-not_both cuts whole files parsed bytes program (refusals.Unsupported c at) small is (low, r) = let (file, source, form) = is.read in not_unparsed cuts parsed bytes file (Unsupported c) at source r
-not_both cuts whole files parsed bytes program (refusals.TooDeep at) small is (low, r) = let (file, source, form) = is.read in not_unparsed cuts parsed bytes file TooDeep at source r
-not_both cuts whole files parsed bytes program refusals.NotBuilt small is (low, (other, source, none)) =
-    let (file, found, form) = is.read in
-    none program (subst (λ (f : FileTree). IsForm f program) (one_source cuts files bytes file other found source) form)
+-- what is typed is not refused but for its form
+not_both_typed : OneCut → NotCutAndUncut → OneFile → NotFileAndRefused → FilesHaveOne → (bytes : List ℕ) (tree : TProgramTree) (program : ProgramTree) (r : RefusalTree) → length bytes ≤ 4194304
+    → IsTypedAs bytes tree → IsForm tree program → IsRefusedFor bytes r → ⊥
+not_both_typed cuts whole files parsed outcomes bytes tree program FileTooLarge small typed form large = absurd (omega arith)
+not_both_typed cuts whole files parsed outcomes bytes tree program (Lexing reason at) small (file, (ts, cut, source), types) form (low, uncut) = whole 0 bytes ts at reason cut uncut
+not_both_typed cuts whole files parsed outcomes bytes tree program (Syntax at) small (file, source, types) form (low, r) = not_unparsed cuts parsed bytes file grammar.Syntax at source r
+not_both_typed cuts whole files parsed outcomes bytes tree program (Unsupported c at) small (file, source, types) form (low, r) = not_unparsed cuts parsed bytes file (grammar.Unsupported c) at source r
+not_both_typed cuts whole files parsed outcomes bytes tree program (TooDeep at) small (file, source, types) form (low, r) = not_unparsed cuts parsed bytes file grammar.TooDeep at source r
+not_both_typed cuts whole files parsed outcomes bytes tree program (Typing r) small typed form (low, untyped) = not_untyped cuts files outcomes bytes tree r typed untyped
+not_both_typed cuts whole files parsed outcomes bytes tree program NotBuilt small typed form (low, (other, found, none)) =
+    none program (subst (λ (p : TProgramTree). IsForm p program) (one_typed cuts files outcomes bytes tree other typed found) form)
+
+pub not_both : OneCut → NotCutAndUncut → OneFile → NotFileAndRefused → FilesHaveOne → (bytes : List ℕ) (program : ProgramTree) (r : RefusalTree) → length bytes ≤ 4194304 → IsProgram bytes program → IsRefusedFor bytes r → ⊥
+not_both cuts whole files parsed outcomes bytes program r small is refused =
+    let (tree, typed, form) = is.read in not_both_typed cuts whole files parsed outcomes bytes tree program r small typed form refused
 
 -- the refusal of a token
-abbrev parsing : Why → Pos → Refusal
-parsing Syntax at = refusals.Syntax at
-parsing (Unsupported c) at = refusals.Unsupported c at
-parsing TooDeep at = refusals.TooDeep at
+abbrev parsing : Why → Pos → RefusalTree
+parsing grammar.Syntax at = Syntax at
+parsing (grammar.Unsupported c) at = Unsupported c at
+parsing grammar.TooDeep at = TooDeep at
+
+-- why bytes that are a file are refused
+data Late (bytes : List ℕ) (r : RefusalTree) : Type 0 where
+  untyped : (refusal : typing.Refusal) → IsUntyped bytes refusal → r ≡ Typing refusal → Late bytes r
+  unbuilt : IsUnbuilt bytes → r ≡ NotBuilt → Late bytes r
 
 -- why bytes that are not too many are refused
-data Cause (bytes : List ℕ) (r : Refusal) : Type 0 where
-  uncut : (reason : Reason) (at : Pos) → IsUncut 0 bytes at reason → r ≡ refusals.Lexing reason at → Cause bytes r
+data Cause (bytes : List ℕ) (r : RefusalTree) : Type 0 where
+  uncut : (reason : Reason) (at : Pos) → IsUncut 0 bytes at reason → r ≡ Lexing reason at → Cause bytes r
   unparsed : (why : Why) (at : Pos) → IsUnparsed bytes why at → r ≡ parsing why at → Cause bytes r
-  unbuilt : IsUnbuilt bytes → r ≡ refusals.NotBuilt → Cause bytes r
+  late : (file : FileTree) → IsSource bytes file → Late bytes r → Cause bytes r
 
-data Kind (bytes : List ℕ) (r : Refusal) : Type 0 where
-  large : 4194304 < length bytes → r ≡ refusals.FileTooLarge → Kind bytes r
+data Kind (bytes : List ℕ) (r : RefusalTree) : Type 0 where
+  large : 4194304 < length bytes → r ≡ FileTooLarge → Kind bytes r
   small : length bytes ≤ 4194304 → Cause bytes r → Kind bytes r
 
-kind_of : (bytes : List ℕ) (r : Refusal) → IsRefusedFor bytes r → Kind bytes r
-kind_of bytes refusals.FileTooLarge is = large is refl
-kind_of bytes (refusals.Lexing reason at) (low, is) = small low (uncut reason at is refl)
-kind_of bytes (refusals.Syntax at) (low, is) = small low (unparsed Syntax at is refl)
-kind_of bytes (refusals.Unsupported c at) (low, is) = small low (unparsed (Unsupported c) at is refl)
-kind_of bytes (refusals.TooDeep at) (low, is) = small low (unparsed TooDeep at is refl)
-kind_of bytes refusals.NotBuilt (low, is) = small low (unbuilt is refl)
+kind_of : (bytes : List ℕ) (r : RefusalTree) → IsRefusedFor bytes r → Kind bytes r
+kind_of bytes FileTooLarge is = large is refl
+kind_of bytes (Lexing reason at) (low, is) = small low (uncut reason at is refl)
+kind_of bytes (Syntax at) (low, is) = small low (unparsed grammar.Syntax at is refl)
+kind_of bytes (Unsupported c at) (low, is) = small low (unparsed (grammar.Unsupported c) at is refl)
+kind_of bytes (TooDeep at) (low, is) = small low (unparsed grammar.TooDeep at is refl)
+kind_of bytes (Typing r) (low, (file, source, types)) = small low (late file source (untyped r (file, source, types) refl))
+kind_of bytes NotBuilt (low, (tree, (file, source, types), none)) = small low (late file source (unbuilt (tree, (file, source, types), none) refl))
 
 one_unparsed : OneCut → OneRefusal → (bytes : List ℕ) (why other : Why) (at to : Pos) → IsUnparsed bytes why at → IsUnparsed bytes other to → parsing why at ≡ parsing other to
 one_unparsed cuts refusal bytes why other at to (ts, cut, (rest, refused, place)) (us, cut_too, (more, refused_too, place_too)) =
@@ -90,22 +128,32 @@ one_unparsed cuts refusal bytes why other at to (ts, cut, (rest, refused, place)
     let (e, f) = refusal ts.list rest more why other refused (subst (λ (v : Tokens). grammar.IsRefused v.list more other) same refused_too) in
     cc
 
-one_cause : OneCut → OneUncut → NotCutAndUncut → OneRefusal → NotFileAndRefused → (bytes : List ℕ) (a b : Refusal) → Cause bytes a → Cause bytes b → a ≡ b
-one_cause cuts uncuts whole refusal parsed bytes a b (uncut reason at is e) (uncut other to also f) = let (p, q) = uncuts 0 bytes at to reason other is also in cc
-one_cause cuts uncuts whole refusal parsed bytes a b (uncut reason at is e) (unparsed why to (ts, cut, also) f) = absurd (whole 0 bytes ts at reason cut is)
-one_cause cuts uncuts whole refusal parsed bytes a b (uncut reason at is e) (unbuilt (file, (ts, cut, also), none) f) = absurd (whole 0 bytes ts at reason cut is)
-one_cause cuts uncuts whole refusal parsed bytes a b (unparsed why at (ts, cut, is) e) (uncut reason to also f) = absurd (whole 0 bytes ts to reason cut also)
-one_cause cuts uncuts whole refusal parsed bytes a b (unparsed why at is e) (unparsed other to also f) = e ∙ one_unparsed cuts refusal bytes why other at to is also ∙ sym f
-one_cause cuts uncuts whole refusal parsed bytes a b (unparsed why at is e) (unbuilt (file, source, none) f) = absurd (not_unparsed cuts parsed bytes file why at source is)
-one_cause cuts uncuts whole refusal parsed bytes a b (unbuilt (file, (ts, cut, is), none) e) (uncut reason to also f) = absurd (whole 0 bytes ts to reason cut also)
-one_cause cuts uncuts whole refusal parsed bytes a b (unbuilt (file, source, none) e) (unparsed why to also f) = absurd (not_unparsed cuts parsed bytes file why to source also)
-one_cause cuts uncuts whole refusal parsed bytes a b (unbuilt is e) (unbuilt also f) = e ∙ sym f
+one_untyped : OneCut → OneFile → FilesHaveOne → (bytes : List ℕ) (r s : typing.Refusal) → IsUntyped bytes r → IsUntyped bytes s → r ≡ s
+one_untyped cuts files outcomes bytes r s is also = the_refusal r s (one_outcome cuts files outcomes bytes (NoProgram r) (NoProgram s) is also)
 
-one_kind : OneCut → OneUncut → NotCutAndUncut → OneRefusal → NotFileAndRefused → (bytes : List ℕ) (a b : Refusal) → Kind bytes a → Kind bytes b → a ≡ b
-one_kind cuts uncuts whole refusal parsed bytes a b (large many e) (large more f) = e ∙ sym f
-one_kind cuts uncuts whole refusal parsed bytes a b (large many e) (small few c) = absurd (omega arith)
-one_kind cuts uncuts whole refusal parsed bytes a b (small few c) (large many f) = absurd (omega arith)
-one_kind cuts uncuts whole refusal parsed bytes a b (small few c) (small less d) = one_cause cuts uncuts whole refusal parsed bytes a b c d
+one_late : OneCut → OneFile → FilesHaveOne → (bytes : List ℕ) (a b : RefusalTree) → Late bytes a → Late bytes b → a ≡ b
+one_late cuts files outcomes bytes a b (untyped r is e) (untyped s also f) = e ∙ ap Typing (one_untyped cuts files outcomes bytes r s is also) ∙ sym f
+one_late cuts files outcomes bytes a b (untyped r is e) (unbuilt (tree, typed, none) f) = absurd (not_untyped cuts files outcomes bytes tree r typed is)
+one_late cuts files outcomes bytes a b (unbuilt (tree, typed, none) e) (untyped r also f) = absurd (not_untyped cuts files outcomes bytes tree r typed also)
+one_late cuts files outcomes bytes a b (unbuilt is e) (unbuilt also f) = e ∙ sym f
 
-pub one_verdict : OneCut → OneUncut → NotCutAndUncut → OneRefusal → NotFileAndRefused → (bytes : List ℕ) (a b : Refusal) → IsRefusedFor bytes a → IsRefusedFor bytes b → a ≡ b
-one_verdict cuts uncuts whole refusal parsed bytes a b is also = one_kind cuts uncuts whole refusal parsed bytes a b (kind_of bytes a is) (kind_of bytes b also)
+one_cause : OneCut → OneUncut → NotCutAndUncut → OneRefusal → OneFile → NotFileAndRefused → FilesHaveOne → (bytes : List ℕ) (a b : RefusalTree) → Cause bytes a → Cause bytes b → a ≡ b
+one_cause cuts uncuts whole refusal files parsed outcomes bytes a b (uncut reason at is e) (uncut other to also f) = let (p, q) = uncuts 0 bytes at to reason other is also in cc
+one_cause cuts uncuts whole refusal files parsed outcomes bytes a b (uncut reason at is e) (unparsed why to (ts, cut, also) f) = absurd (whole 0 bytes ts at reason cut is)
+one_cause cuts uncuts whole refusal files parsed outcomes bytes a b (uncut reason at is e) (late file (ts, cut, also) f) = absurd (whole 0 bytes ts at reason cut is)
+one_cause cuts uncuts whole refusal files parsed outcomes bytes a b (unparsed why at (ts, cut, is) e) (uncut reason to also f) = absurd (whole 0 bytes ts to reason cut also)
+one_cause cuts uncuts whole refusal files parsed outcomes bytes a b (unparsed why at is e) (unparsed other to also f) = e ∙ one_unparsed cuts refusal bytes why other at to is also ∙ sym f
+one_cause cuts uncuts whole refusal files parsed outcomes bytes a b (unparsed why at is e) (late file source f) = absurd (not_unparsed cuts parsed bytes file why at source is)
+one_cause cuts uncuts whole refusal files parsed outcomes bytes a b (late file (ts, cut, is) e) (uncut reason to also f) = absurd (whole 0 bytes ts to reason cut also)
+one_cause cuts uncuts whole refusal files parsed outcomes bytes a b (late file source e) (unparsed why to also f) = absurd (not_unparsed cuts parsed bytes file why to source also)
+one_cause cuts uncuts whole refusal files parsed outcomes bytes a b (late file source e) (late other found f) = one_late cuts files outcomes bytes a b e f
+
+one_kind : OneCut → OneUncut → NotCutAndUncut → OneRefusal → OneFile → NotFileAndRefused → FilesHaveOne → (bytes : List ℕ) (a b : RefusalTree) → Kind bytes a → Kind bytes b → a ≡ b
+one_kind cuts uncuts whole refusal files parsed outcomes bytes a b (large many e) (large more f) = e ∙ sym f
+one_kind cuts uncuts whole refusal files parsed outcomes bytes a b (large many e) (small few c) = absurd (omega arith)
+one_kind cuts uncuts whole refusal files parsed outcomes bytes a b (small few c) (large many f) = absurd (omega arith)
+one_kind cuts uncuts whole refusal files parsed outcomes bytes a b (small few c) (small less d) = one_cause cuts uncuts whole refusal files parsed outcomes bytes a b c d
+
+pub one_verdict : OneCut → OneUncut → NotCutAndUncut → OneRefusal → OneFile → NotFileAndRefused → FilesHaveOne → (bytes : List ℕ) (a b : RefusalTree) → IsRefusedFor bytes a → IsRefusedFor bytes b → a ≡ b
+one_verdict cuts uncuts whole refusal files parsed outcomes bytes a b is also =
+    one_kind cuts uncuts whole refusal files parsed outcomes bytes a b (kind_of bytes a is) (kind_of bytes b also)

@@ -9,7 +9,7 @@ use Rattle.constant_form.specs.Sound.{IsSound}
 use Rattle.constant_form.specs.Admission.{IsAdmitted}
 use Rattle.constant_form.specs.Order.{Precedes, IsPrintable}
 use Rattle.verac.specs.Report.{text_of}
-use Rattle.verac.specs.declared.refusal.Refusal.{Refusal}
+use Rattle.verac.specs.Refusal.{RefusalTree}
 use Rattle.verac.specs.RefusalText.{line_of}
 use Rattle.verac.specs.Verdict.{IsRefusedFor}
 
@@ -18,7 +18,7 @@ pub record IsReport (name bytes : List ℕ) (alarms : List Alarm) (text : List �
   pub program : ProgramTree
   pub read : IsProgram bytes program
   pub only : (other : ProgramTree) → IsProgram bytes other → other ≡ program
-  pub accepted : (r : Refusal) → IsRefusedFor bytes r → ⊥
+  pub accepted : (r : RefusalTree) → IsRefusedFor bytes r → ⊥
   pub sound : IsSound program alarms
   pub admitted : All (IsAdmitted program) alarms
   pub ordered : AllPairs Precedes alarms
@@ -29,7 +29,7 @@ pub record IsReport (name bytes : List ℕ) (alarms : List Alarm) (text : List �
 abbrev pub IsAnswer : List ℕ → List ℕ → Status → List ℕ → Type 0
 IsAnswer name bytes NoAlarm text = IsReport name bytes [] text
 IsAnswer name bytes Alarms text = (alarms : List Alarm) × (alarms ≢ []) × IsReport name bytes alarms text
-IsAnswer name bytes Refused text = (r : Refusal) × IsRefusedFor bytes r × (text ≡ line_of name r)
+IsAnswer name bytes Refused text = (r : RefusalTree) × IsRefusedFor bytes r × (text ≡ line_of name r)
 IsAnswer name bytes status text = ⊥
 
 -- the answer comes with a text, and of that this holds

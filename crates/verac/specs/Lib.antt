@@ -1,3 +1,4 @@
+pub mod Refusal
 pub mod Program
 pub mod Report
 pub mod Command

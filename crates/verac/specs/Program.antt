@@ -2,8 +2,10 @@
 use Rattle.std.specs.Prelude.{ℕ, List}
 use Rattle.c_written.specs.declared.token.Tokens.{Tokens}
 use Rattle.c_written.specs.WrittenFile.{FileTree}
+use Rattle.c_syntax.specs.Program.{TProgramTree}
 use Rattle.c_lexer.specs.Cut.{IsCut}
 use Rattle.c_grammar.specs.Refused.{IsFile}
+use Rattle.c_typing.specs.File.{TypesFile, Program}
 use Rattle.constant_form.specs.Tree.{ProgramTree}
 use Rattle.constant_form.specs.Form.{IsForm}
 
@@ -11,6 +13,10 @@ use Rattle.constant_form.specs.Form.{IsForm}
 abbrev pub IsSource : List ℕ → FileTree → Type 0
 IsSource bytes file = (ts : Tokens) × IsCut 0 bytes ts × IsFile ts.list file
 
+-- the bytes are a file that has this typed program
+abbrev pub IsTypedAs : List ℕ → TProgramTree → Type 0
+IsTypedAs bytes typed = (file : FileTree) × IsSource bytes file × TypesFile file (Program typed)
+
 -- the bytes are this program
 pub record IsProgram (bytes : List ℕ) (program : ProgramTree) : Type 0 where
-  pub read : (file : FileTree) × IsSource bytes file × IsForm file program
+  pub read : (typed : TProgramTree) × IsTypedAs bytes typed × IsForm typed program

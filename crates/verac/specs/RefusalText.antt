@@ -1,12 +1,11 @@
 -- The line that says for what a file is refused.
 use Rattle.std.specs.Prelude.{ℕ, List, ◌++◌, codes, decimal}
 use Rattle.c_written.specs.declared.place.Pos.{Pos}
-use Rattle.c_written.specs.declared.construct.Construct.{Construct}
-use Rattle.c_written.specs.declared.construct.Construct.TheVariants as constructs
 use Rattle.c_lexer.specs.declared.reason.Reason.{Reason}
 use Rattle.c_lexer.specs.declared.reason.Reason.TheVariants as reasons
-use Rattle.verac.specs.declared.refusal.Refusal.{Refusal}
-use Rattle.verac.specs.declared.refusal.Refusal.TheVariants as refusals
+use Rattle.type_text.specs.Words.{construct_text}
+use Rattle.type_text.specs.RefusalText.{refusal_pos, refusal_text}
+use Rattle.verac.specs.Refusal.{RefusalTree, FileTooLarge, Lexing, Syntax, Unsupported, TooDeep, Typing, NotBuilt}
 
 abbrev pub reason_text : Reason → List ℕ
 reason_text reasons.BadByte = codes "byte not allowed"
@@ -16,43 +15,21 @@ reason_text reasons.TooWide = codes "integer constant too wide"
 reason_text reasons.BadEscape = codes "bad character or escape"
 reason_text reasons.Directive = codes "directive"
 
-abbrev pub construct_text : Construct → List ℕ
-construct_text constructs.Floating = codes "Floating"
-construct_text constructs.Union = codes "Union"
-construct_text constructs.Bool = codes "Bool"
-construct_text constructs.Inline = codes "Inline"
-construct_text constructs.ThreadLocal = codes "ThreadLocal"
-construct_text constructs.Generic = codes "Generic"
-construct_text constructs.StaticAssert = codes "StaticAssert"
-construct_text constructs.Qualifier = codes "Qualifier"
-construct_text constructs.AlignmentWord = codes "AlignmentWord"
-construct_text constructs.Complex = codes "Complex"
-construct_text constructs.BitField = codes "BitField"
-construct_text constructs.Variadic = codes "Variadic"
-construct_text constructs.Designator = codes "Designator"
-construct_text constructs.CompoundLiteral = codes "CompoundLiteral"
-construct_text constructs.InnerTypedef = codes "InnerTypedef"
-construct_text constructs.TypedefAgain = codes "TypedefAgain"
-construct_text constructs.FunctionPointer = codes "FunctionPointer"
-construct_text constructs.OldParameters = codes "OldParameters"
-construct_text constructs.NestedCase = codes "NestedCase"
-construct_text constructs.FlexibleArray = codes "FlexibleArray"
-construct_text constructs.StructByValue = codes "StructByValue"
-construct_text constructs.ConstMember = codes "ConstMember"
-construct_text constructs.PointerInteger = codes "PointerInteger"
-construct_text constructs.MainShape = codes "MainShape"
-
 -- a refusal of the whole file, and one at a place
 abbrev pub file_line : List ℕ → List ℕ → List ℕ
 file_line name text = name ++ (codes ": refused: " ++ (text ++ codes "\n"))
 
-abbrev pub place_line : List ℕ → Pos → List ℕ → List ℕ
-place_line name at text = name ++ (codes ":" ++ (decimal at.line ++ (codes ":" ++ (decimal at.col ++ (codes ": refused: " ++ (text ++ codes "\n"))))))
+abbrev pub place_front : List ℕ → Pos → List ℕ
+place_front name at = name ++ (codes ":" ++ (decimal at.line ++ (codes ":" ++ (decimal at.col ++ codes ": refused: "))))
 
-abbrev pub line_of : List ℕ → Refusal → List ℕ
-line_of name refusals.FileTooLarge = file_line name (codes "more than 4194304 bytes")
-line_of name (refusals.Lexing reason at) = place_line name at (reason_text reason)
-line_of name (refusals.Syntax at) = place_line name at (codes "syntax")
-line_of name (refusals.Unsupported construct at) = place_line name at (codes "unsupported " ++ construct_text construct)
-line_of name (refusals.TooDeep at) = place_line name at (codes "nesting above 200")
-line_of name refusals.NotBuilt = file_line name (codes "not built yet")
+abbrev pub place_line : List ℕ → Pos → List ℕ → List ℕ
+place_line name at text = place_front name at ++ (text ++ codes "\n")
+
+abbrev pub line_of : List ℕ → RefusalTree → List ℕ
+line_of name FileTooLarge = file_line name (codes "more than 4194304 bytes")
+line_of name (Lexing reason at) = place_line name at (reason_text reason)
+line_of name (Syntax at) = place_line name at (codes "syntax")
+line_of name (Unsupported construct at) = place_line name at (codes "unsupported " ++ construct_text construct)
+line_of name (TooDeep at) = place_line name at (codes "nesting above 200")
+line_of name (Typing r) = place_line name (refusal_pos r) (refusal_text r)
+line_of name NotBuilt = file_line name (codes "not built yet")

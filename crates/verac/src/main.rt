@@ -1,11 +1,16 @@
 //! Verac: what may go wrong in a C file, from its bytes to the report.
 //!
-//! `run` reads the words of the command, reads the file, has it cut, parsed and read as a program, finds the
-//! alarms, and writes the report or the line of the refusal, whole. For example, `verac analyze a.c` on
+//! `run` reads the words of the command, reads the file, has it cut, parsed, typed and read as a program, finds
+//! the alarms, and writes the report or the line of the refusal, whole. For example, `verac analyze a.c` on
 //! `int main(void) { return 1 / 0; }` writes one alarm, `DivideByZero`, and ends with status 1.
 //!
-//! The contract of `run` is the headline: its clauses cite `specs/Headline.antt` (what an answer is),
-//! `Command`, `Program`, `Verdict`, `Report` and `RefusalText`.
+//! | What | Stated in `specs/` | Promised by |
+//! |---|---|---|
+//! | what an answer is | `Headline` | `run` |
+//! | which words are a command | `Command` | `command` |
+//! | which program bytes are, and for what they are refused | `Program`, `Refusal`, `Verdict` | `program_of`, `one_program`, `one_verdict` |
+//! | the text of a report, and the line of a refusal | `Report`, `RefusalText` | `report_text`, `refusal_line` |
+//! | exit statuses | `Status` | `code` |
 #![tactic(auto)]
 
 mod command;

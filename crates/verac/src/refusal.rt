@@ -1,13 +1,19 @@
 // Refusals, and the line that tells of one.
-ghost use Rattle.std.specs.Prelude.{◌≡◌, ◌++◌, codes, IfOk, string_bytes};
-ghost use Rattle.verac.specs.RefusalText.{reason_text, construct_text, file_line, place_line, line_of};
+ghost use Rattle.std.specs.Prelude.{◌≡◌, ◌++◌, codes, IfOk, IfSome, string_bytes};
+ghost use Rattle.c_type_errors.specs.Views.{refusal_of};
+ghost use Rattle.type_text.specs.Words.{construct_text};
+ghost use Rattle.type_text.specs.RefusalText as told;
+ghost use Rattle.verac.specs.Refusal.{refusal_tree};
+ghost use Rattle.verac.specs.RefusalText.{reason_text, file_line, place_front, place_line, line_of};
 
 use c_lexer::Reason;
 use c_syntax::{Construct, Pos};
+use c_type_errors::TypeError;
 use std::alloc::{AllocError, Global};
+use type_text::{construct_name, refusal_pos, refusal_text};
 
 /// For what a file is refused, and where.
-#[derive(Clone, Copy, Debug, PartialEq, Eq)]
+#[derive(Debug, Drop)]
 pub enum Refusal {
     /// It has more than 4,194,304 bytes.
     FileTooLarge,
@@ -19,36 +25,55 @@ pub enum Refusal {
     Unsupported(Construct, Pos),
     /// With the token at this place more than 200 forms are unfinished.
     TooDeep(Pos),
+    /// It has no types, for this reason, which is never want of memory.
+    Typing(TypeError),
     /// It is of another form than the one that is built.
     NotBuilt,
 }
 
 /// The line that tells of a refusal of the file of this name.
-pub fn refusal_line(alloc: Global, name: &str, refusal: Refusal) -> Result<String, AllocError>
-    ensures { IfOk result (λ line. string_bytes line ≡ line_of name.now refusal) }
+pub fn refusal_line(alloc: Global, name: &str, refusal: &Refusal) -> Result<Vec<u8>, AllocError>
+    ensures { IfOk result (λ line. IfSome (refusal_tree refusal.now) (λ r. line.items ≡ line_of name.now r)) }
 {
     match refusal {
         Refusal::FileTooLarge => file_line(alloc, name, "more than 4194304 bytes"),
-        Refusal::Lexing(reason, at) => place_line(alloc, name, at, reason_name(reason)),
-        Refusal::Syntax(at) => place_line(alloc, name, at, "syntax"),
-        Refusal::Unsupported(construct, at) => unsupported_line(alloc, name, at, construct),
-        Refusal::TooDeep(at) => place_line(alloc, name, at, "nesting above 200"),
+        Refusal::Lexing(reason, at) => place_line(
+            alloc,
+            name,
+            *at,
+            reason_name(*reason).as_bytes(),
+        ),
+        Refusal::Syntax(at) => place_line(alloc, name, *at, "syntax".as_bytes()),
+        Refusal::Unsupported(construct, at) => unsupported_line(alloc, name, *at, *construct),
+        Refusal::TooDeep(at) => place_line(alloc, name, *at, "nesting above 200".as_bytes()),
+        Refusal::Typing(error) => typing_line(alloc, name, error),
         Refusal::NotBuilt => file_line(alloc, name, "not built yet"),
     }
 }
 
-fn file_line(alloc: Global, name: &str, text: &str) -> Result<String, AllocError>
-    ensures { IfOk result (λ line. string_bytes line ≡ file_line name.now text.now) }
+fn file_line(alloc: Global, name: &str, text: &str) -> Result<Vec<u8>, AllocError>
+    ensures { IfOk result (λ line. line.items ≡ file_line name.now text.now) }
 {
-    format!(in alloc; "{name}: refused: {text}\n")
+    let line = format!(in alloc; "{name}: refused: {text}\n")?;
+    Ok(line.into_bytes())
 }
 
-fn place_line(alloc: Global, name: &str, at: Pos, text: &str) -> Result<String, AllocError>
-    ensures { IfOk result (λ line. string_bytes line ≡ place_line name.now at text.now) }
+fn place_line(alloc: Global, name: &str, at: Pos, text: &[u8]) -> Result<Vec<u8>, AllocError>
+    ensures { IfOk result (λ line. line.items ≡ place_line name.now at text.now) }
+{
+    let front = place_front(alloc, name, at)?;
+    let mut line = front.into_bytes();
+    line.extend_from_slice(text)?;
+    line.push(b'\n')?;
+    Ok(line)
+}
+
+fn place_front(alloc: Global, name: &str, at: Pos) -> Result<String, AllocError>
+    ensures { IfOk result (λ front. string_bytes front ≡ place_front name.now at) }
 {
     let line = at.line;
     let col = at.col;
-    format!(in alloc; "{name}:{line}:{col}: refused: {text}\n")
+    format!(in alloc; "{name}:{line}:{col}: refused: ")
 }
 
 fn unsupported_line(
@@ -56,13 +81,27 @@ fn unsupported_line(
     name: &str,
     at: Pos,
     construct: Construct,
-) -> Result<String, AllocError>
+) -> Result<Vec<u8>, AllocError>
     ensures { IfOk result
-        (λ line. string_bytes line ≡ place_line name.now at (codes "unsupported " ++ construct_text construct)) }
+        (λ line. line.items ≡ place_line name.now at (codes "unsupported " ++ construct_text construct)) }
 {
     let construct = construct_name(construct);
     let text = format!(in alloc; "unsupported {construct}")?;
-    place_line(alloc, name, at, text.as_str())
+    place_line(alloc, name, at, text.as_bytes())
+}
+
+fn typing_line(alloc: Global, name: &str, error: &TypeError) -> Result<Vec<u8>, AllocError>
+    ensures { IfOk result (λ line. IfSome (refusal_of error.now)
+        (λ r. line.items ≡ place_line name.now (told.refusal_pos r) (told.refusal_text r))) }
+{
+    match refusal_pos(error) {
+        // Want of memory stands nowhere.
+        None => Err(AllocError),
+        Some(at) => {
+            let text = refusal_text(alloc, error)?;
+            place_line(alloc, name, at, text.as_slice())
+        }
+    }
 }
 
 fn reason_name(reason: Reason) -> &'static str
@@ -75,36 +114,5 @@ fn reason_name(reason: Reason) -> &'static str
         Reason::TooWide => "integer constant too wide",
         Reason::BadEscape => "bad character or escape",
         Reason::Directive => "directive",
-    }
-}
-
-fn construct_name(construct: Construct) -> &'static str
-    ensures { result.now ≡ construct_text construct }
-{
-    match construct {
-        Construct::Floating => "Floating",
-        Construct::Union => "Union",
-        Construct::Bool => "Bool",
-        Construct::Inline => "Inline",
-        Construct::ThreadLocal => "ThreadLocal",
-        Construct::Generic => "Generic",
-        Construct::StaticAssert => "StaticAssert",
-        Construct::Qualifier => "Qualifier",
-        Construct::AlignmentWord => "AlignmentWord",
-        Construct::Complex => "Complex",
-        Construct::BitField => "BitField",
-        Construct::Variadic => "Variadic",
-        Construct::Designator => "Designator",
-        Construct::CompoundLiteral => "CompoundLiteral",
-        Construct::InnerTypedef => "InnerTypedef",
-        Construct::TypedefAgain => "TypedefAgain",
-        Construct::FunctionPointer => "FunctionPointer",
-        Construct::OldParameters => "OldParameters",
-        Construct::NestedCase => "NestedCase",
-        Construct::FlexibleArray => "FlexibleArray",
-        Construct::StructByValue => "StructByValue",
-        Construct::ConstMember => "ConstMember",
-        Construct::PointerInteger => "PointerInteger",
-        Construct::MainShape => "MainShape",
     }
 }

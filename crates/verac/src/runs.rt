@@ -1,5 +1,5 @@
 // A run of the tool, from the words to the status.
-ghost use Rattle.std.specs.Prelude.{◌≡◌, ◌⊎◌, ◌<◌, ◌≤◌, ◌++◌, List, ℕ, Some, length, IfOk, string_bytes};
+ghost use Rattle.std.specs.Prelude.{◌≡◌, ◌⊎◌, ◌<◌, ◌≤◌, ◌++◌, List, ℕ, Some, length, IfOk};
 ghost use Rattle.outside_io.specs.Io.{Rose, IsFront};
 ghost use Rattle.verac.specs.Command.{IsCommand, texts};
 ghost use Rattle.verac.specs.Headline.{IsAnswer, OnWhole, OnNothing, IsWhole, Completes};
@@ -54,38 +54,39 @@ pub fn run<F: Files, K: Sink>(
         Err(ReadError::NoMemory) => Status::NoMemory,
         Err(ReadError::TooLarge) => match too_large(alloc, name) {
             Err(_) => Status::NoMemory,
-            Ok(answer) => finish(out, answer.0, answer.1.as_bytes()),
+            Ok(answer) => finish(out, answer.0, answer.1.as_slice()),
         },
         Ok(bytes) => match answer_for(alloc, name, bytes.as_slice()) {
             Err(_) => Status::NoMemory,
-            Ok(answer) => finish(out, answer.0, answer.1.as_bytes()),
+            Ok(answer) => finish(out, answer.0, answer.1.as_slice()),
         },
     }
 }
 
 // The answer for a file that is too large.
-fn too_large(alloc: Global, name: &str) -> Result<(Status, String), AllocError>
-    ensures answer { IfOk result (λ r. (bytes : List ℕ) → 4194304 < length bytes → IsAnswer name.now bytes r.0 (string_bytes r.1)) }
+fn too_large(alloc: Global, name: &str) -> Result<(Status, Vec<u8>), AllocError>
+    ensures answer { IfOk result (λ r. (bytes : List ℕ) → 4194304 < length bytes → IsAnswer name.now bytes r.0 r.1.items) }
     ensures done { IfOk result (λ r. IsWhole r.0) }
 {
-    let line = refusal_line(alloc, name, Refusal::FileTooLarge)?;
+    let line = refusal_line(alloc, name, &Refusal::FileTooLarge)?;
     Ok((Status::Refused, line))
 }
 
 // The answer for a file of this name with these bytes.
-fn answer_for(alloc: Global, name: &str, bytes: &[u8]) -> Result<(Status, String), AllocError>
+fn answer_for(alloc: Global, name: &str, bytes: &[u8]) -> Result<(Status, Vec<u8>), AllocError>
     requires { length bytes.now ≤ 4194304 }
-    ensures answer { IfOk result (λ r. IsAnswer name.now bytes.now r.0 (string_bytes r.1)) }
+    ensures answer { IfOk result (λ r. IsAnswer name.now bytes.now r.0 r.1.items) }
     ensures done { IfOk result (λ r. IsWhole r.0) }
 {
     match program_of(alloc, bytes)? {
         Read::Refused(refusal) => {
-            let line = refusal_line(alloc, name, refusal)?;
+            let line = refusal_line(alloc, name, &refusal)?;
             Ok((Status::Refused, line))
         }
         Read::Program(e) => {
             let alarms = alarms_of(alloc, &e)?;
-            let text = report_text(alloc, name, &alarms)?;
+            let report = report_text(alloc, name, &alarms)?;
+            let text = report.into_bytes();
             if alarms.is_empty() {
                 Ok((Status::NoAlarm, text))
             } else {

@@ -14,6 +14,47 @@ const OVERFLOW: &str = "int main(void) { return 2147483647 + 1; }";
 const OVERFLOW_TEXT: &str =
     "a.c:1:36: Overflow in main\n  shown: value in [2147483648,2147483648]; allowed [-2147483648,2147483647]\n  example: 2147483648\nalarms 1\n";
 
+// Files that have no types, each with its line.
+const UNTYPED: [(&str, &str); 10] = [
+    (
+        "int main(void){struct S{int k;}s;return s+1;}",
+        "a.c:1:42: refused: no rule for + on struct S and int\n",
+    ),
+    (
+        "int main(void){struct{int k;}*a[3];return !*a[0];}",
+        "a.c:1:43: refused: no rule for ! on struct\n",
+    ),
+    (
+        "unsigned x;int main(void){unsigned*p=&x;int(*q)[2]=p;return 0;}",
+        "a.c:1:52: refused: no rule for init on pointer to array of 2 int and pointer to unsigned int\n",
+    ),
+    (
+        "int main(void){return x;}",
+        "a.c:1:23: refused: undeclared\n",
+    ),
+    (
+        "int main(void){int a;int a;return 0;}",
+        "a.c:1:26: refused: declared before at 1:20\n",
+    ),
+    ("int x;int a[x];", "a.c:1:13: refused: not a constant\n"),
+    (
+        "int main(void){1=2;return 0;}",
+        "a.c:1:17: refused: not a modifiable lvalue\n",
+    ),
+    (
+        "char a[4097];int main(void){return 0;}",
+        "a.c:1:6: refused: object of 4097 bytes\n",
+    ),
+    (
+        "struct S{char b[4096];}a,b,c,d,e,f,g,h,i,j,k,l,m,n,o,p,q;",
+        "a.c:1:56: refused: objects of 69632 bytes together\n",
+    ),
+    (
+        "void main(void){}",
+        "a.c:1:6: refused: unsupported MainShape\n",
+    ),
+];
+
 // What a run wrote, and how it ended.
 #[derive(Drop)]
 struct Answer {
@@ -105,6 +146,14 @@ fn refusals(rt: HostRuntime) -> Result<(), Fail> {
         ("int x;", "a.c: refused: not built yet\n"),
     ];
     for (text, written) in rows {
+        tell(&rt, rt.alloc(), text.as_bytes(), Status::Refused, written)?;
+    }
+    Ok(())
+}
+
+#[test]
+fn typing_refusals(rt: HostRuntime) -> Result<(), Fail> {
+    for (text, written) in UNTYPED {
         tell(&rt, rt.alloc(), text.as_bytes(), Status::Refused, written)?;
     }
     Ok(())

@@ -1,12 +1,13 @@
 // Laws of the verdict: bytes are one program, or are refused once.
 ghost use Rattle.std.specs.Prelude.{◌≡◌, ◌≤◌, ℕ, List, length};
-ghost use Rattle.verac.specs.declared.refusal.Refusal.{Refusal};
 ghost use Rattle.constant_form.specs.Tree.{ProgramTree};
 ghost use Rattle.verac.specs.Program.{IsProgram};
+ghost use Rattle.verac.specs.Refusal.{RefusalTree};
 ghost use Rattle.verac.specs.Verdict.{IsRefusedFor};
 
 use c_grammar::{file_nor_refused, one_file, one_refusal};
 use c_lexer::{cut_nor_uncut, one_cut, one_uncut};
+use c_typing::files_have_one;
 
 /// Bytes are one program at most.
 pub fn one_program()
@@ -14,25 +15,29 @@ pub fn one_program()
 {
     one_cut();
     one_file();
+    files_have_one();
 }
 
 /// Bytes are refused for one reason at most, at one place.
 pub fn one_verdict()
-    ensures { (bytes : List ℕ) (a b : Refusal) → IsRefusedFor bytes a → IsRefusedFor bytes b → a ≡ b }
+    ensures { (bytes : List ℕ) (a b : RefusalTree) → IsRefusedFor bytes a → IsRefusedFor bytes b → a ≡ b }
 {
     one_cut();
     one_uncut();
     cut_nor_uncut();
     one_refusal();
     file_nor_refused();
+    one_file();
+    files_have_one();
 }
 
 /// Bytes that are a program are refused only where they are too many.
 pub fn program_nor_refused()
-    ensures { (bytes : List ℕ) (program : ProgramTree) (r : Refusal) → length bytes ≤ 4194304 → IsProgram bytes program → IsRefusedFor bytes r → ⊥ }
+    ensures { (bytes : List ℕ) (program : ProgramTree) (r : RefusalTree) → length bytes ≤ 4194304 → IsProgram bytes program → IsRefusedFor bytes r → ⊥ }
 {
     one_cut();
     cut_nor_uncut();
     one_file();
     file_nor_refused();
+    files_have_one();
 }

@@ -1,29 +1,39 @@
-use Rattle.std.proofs.Common.{rules, ◌≡◌, ◌≢◌, List, [], string_bytes, subst}
+use Rattle.std.proofs.Common.{rules, ◌≡◌, ◌≢◌, List, [], subst}
+use Rattle.std.specs.Prelude.{IfSome, IsSomeAnd}
 use Rattle.c_syntax.specs.declared.alarm.Alarm.{Alarm}
 use Rattle.constant_form.specs.Tree.{expr_tree, returning}
-use Rattle.verac.specs.Read.{IsOneProgram}
-use Rattle.verac.specs.Report.{text_of}
 use Rattle.verac.specs.Headline.{IsReport}
-use Rattle.verac.proofs.HeadlineLemmas.{report}
+use Rattle.verac.specs.Read.{IsOneProgram}
+use Rattle.verac.specs.Refusal.{refusal_tree}
+use Rattle.verac.specs.RefusalText.{line_of}
+use Rattle.verac.specs.Report.{text_of}
+use Rattle.verac.specs.Verdict.{IsRefusedFor}
+use Rattle.verac.proofs.HeadlineLemmas.{refused, report}
 use Rattle.verac.proofs.runs.answer_for.Goals as goal
+
+pub returns-in-Refused-clause-answer : goal.returns-in-Refused-clause-answer
+returns-in-Refused-clause-answer c =
+    let told : IsSomeAnd (refusal_tree c.in-Refused.refusal) (IsRefusedFor c.args.bytes.now) = search rules in
+    let line : IfSome (refusal_tree c.in-Refused.refusal) (λ r. c.in_ok-line-in-Refused.line.items ≡ line_of c.args.name.now r) = search rules in
+    refused c.args.name.now c.args.bytes.now c.in_ok-line-in-Refused.line.items (refusal_tree c.in-Refused.refusal) told line
 
 pub returns-then-is_empty-clause-answer : goal.returns-then-is_empty-clause-answer
 returns-then-is_empty-clause-answer c =
     let none : c.in_ok-alarms-in-Program.alarms.items ≡ [] = search rules in
     let one : IsOneProgram c.args.bytes.now (returning (expr_tree c.in-Program.e)) = search rules in
-    let text : string_bytes c.in_ok-text-in-Program.text ≡ text_of c.args.name.now c.in_ok-alarms-in-Program.alarms.items = search rules in
-    let whole : IsReport c.args.name.now c.args.bytes.now c.in_ok-alarms-in-Program.alarms.items (string_bytes c.in_ok-text-in-Program.text) =
-    report c.args.name.now c.args.bytes.now (returning (expr_tree c.in-Program.e)) c.in_ok-alarms-in-Program.alarms.items (string_bytes c.in_ok-text-in-Program.text) one
+    let text : c.into_bytes-text.result.items ≡ text_of c.args.name.now c.in_ok-alarms-in-Program.alarms.items = search rules in
+    let whole : IsReport c.args.name.now c.args.bytes.now c.in_ok-alarms-in-Program.alarms.items c.into_bytes-text.result.items =
+    report c.args.name.now c.args.bytes.now (returning (expr_tree c.in-Program.e)) c.in_ok-alarms-in-Program.alarms.items c.into_bytes-text.result.items one
     c.in_ok-alarms-in-Program.ensures.sound c.in_ok-alarms-in-Program.ensures.admitted c.in_ok-alarms-in-Program.ensures.ordered c.in_ok-alarms-in-Program.ensures.printable text in
-    subst (λ (alarms : List Alarm). IsReport c.args.name.now c.args.bytes.now alarms (string_bytes c.in_ok-text-in-Program.text)) none whole
+    subst (λ (alarms : List Alarm). IsReport c.args.name.now c.args.bytes.now alarms c.into_bytes-text.result.items) none whole
 
 pub returns-clause-answer : goal.returns-clause-answer
 returns-clause-answer c =
     let some : c.in_ok-alarms-in-Program.alarms.items ≢ [] = search rules in
     let one : IsOneProgram c.args.bytes.now (returning (expr_tree c.in-Program.e)) = search rules in
-    let text : string_bytes c.in_ok-text-in-Program.text ≡ text_of c.args.name.now c.in_ok-alarms-in-Program.alarms.items = search rules in (
+    let text : c.into_bytes-text.result.items ≡ text_of c.args.name.now c.in_ok-alarms-in-Program.alarms.items = search rules in (
       c.in_ok-alarms-in-Program.alarms.items,
       some,
-      report c.args.name.now c.args.bytes.now (returning (expr_tree c.in-Program.e)) c.in_ok-alarms-in-Program.alarms.items (string_bytes c.in_ok-text-in-Program.text) one
+      report c.args.name.now c.args.bytes.now (returning (expr_tree c.in-Program.e)) c.in_ok-alarms-in-Program.alarms.items c.into_bytes-text.result.items one
           c.in_ok-alarms-in-Program.ensures.sound c.in_ok-alarms-in-Program.ensures.admitted c.in_ok-alarms-in-Program.ensures.ordered c.in_ok-alarms-in-Program.ensures.printable text,
     )

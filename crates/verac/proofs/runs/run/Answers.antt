@@ -1,4 +1,4 @@
-use Rattle.std.proofs.Common.{rules, ◌≡◌, ◌<◌, List, ℕ, Some, length, string_bytes, subst}
+use Rattle.std.proofs.Common.{rules, ◌≡◌, ◌<◌, List, ℕ, Some, length, subst}
 use Rattle.verac.specs.Headline.{IsAnswer}
 use Rattle.verac.proofs.HeadlineLemmas.{same_name}
 use Rattle.verac.proofs.runs.run.Goals as goal
@@ -10,4 +10,4 @@ returns-in-Err-TooLarge-clause-prefix g c = λ e name bytes before named told wr
     let large : 4194304 < length bytes = search (rules, c.read_all.ensures.too_large) in
     let answer = c.in-Ok-too_large.ensures.answer bytes large in
     let cut = c.finish.ensures.cut e before wrote in
-    (c.in-Ok-too_large.answer.0, string_bytes c.in-Ok-too_large.answer.1, cut.0, subst (λ (n : List ℕ). IsAnswer n bytes c.in-Ok-too_large.answer.0 (string_bytes c.in-Ok-too_large.answer.1)) same answer, search rules, cut.2)
+    (c.in-Ok-too_large.answer.0, c.in-Ok-too_large.answer.1.items, cut.0, subst (λ (n : List ℕ). IsAnswer n bytes c.in-Ok-too_large.answer.0 c.in-Ok-too_large.answer.1.items) same answer, search rules, cut.2)
