@@ -1,8 +1,11 @@
-"""Writes files of the greatest size to a folder, each with one form over and over, and prints a line for each: its name, the
+"""Writes files of one form over and over to a folder, most of them of the greatest size, and prints a line for each: its name, the
 stack in KB that it gets, and the line with which it is refused."""
 import sys
 
 SIZE = 4194304
+# The time of typing a declarator goes by the square of its suffixes yet (README, "What is open"), so files of these have
+# 10,000 of them, and not as many as fit.
+CHAIN = 30_000
 ABOVE = "int main(void){return 0;}\n"
 
 
@@ -23,18 +26,18 @@ def numbered(piece, most):
 
 
 def chains():
-    """Types with as many suffixes as fit, wherever a declarator stands, one that ends in a fault, and one that is told."""
-    yield "object", filled("int a", "[1]", ";"), "not built yet"
-    yield "pointed", filled("int (*a)", "[1]", ";"), "not built yet"
-    yield "parameter", filled("int f(int a", "[1]", ");"), "not built yet"
-    yield "cast", filled("int main(void){(void)(int(*)", "[1]", ")0;return 0;}"), "not built yet"
-    yield "sizeof", filled("int main(void){return sizeof(int", "[1]", ");}"), "not built yet"
-    yield "member", filled("struct S{int a", "[1]", ";};"), "not built yet"
-    yield "typedef", filled("typedef int T", "[1]", ";"), "not built yet"
+    """Types with many suffixes, wherever a declarator stands, one that ends in a fault, and one that is told."""
+    yield "object", filled("int a", "[1]", ";", CHAIN), "not built yet"
+    yield "pointed", filled("int (*a)", "[1]", ";", CHAIN), "not built yet"
+    yield "parameter", filled("int f(int a", "[1]", ");", CHAIN), "not built yet"
+    yield "cast", filled("int main(void){(void)(int(*)", "[1]", ")0;return 0;}", CHAIN), "not built yet"
+    yield "sizeof", filled("int main(void){return sizeof(int", "[1]", ");}", CHAIN), "not built yet"
+    yield "member", filled("struct S{int a", "[1]", ";};", CHAIN), "not built yet"
+    yield "typedef", filled("typedef int T", "[1]", ";", CHAIN), "not built yet"
     text = filled("int a", "[1]", " 1;")
     yield "faulty", text, f"1:{len(text) - 1}: syntax"
     front, back = "int main(void){return (int", ")0;}"
-    told = filled(front, "[1]", back, SIZE // 8)
+    told = filled(front, "[1]", back, CHAIN)
     ty = "array of 1 " * ((len(told) - len(front) - len(back)) // 3) + "int"
     yield "told", told, f"1:23: no rule for cast on {ty} and int"
 
