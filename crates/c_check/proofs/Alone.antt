@@ -7,9 +7,9 @@ use Rattle.c_syntax.specs.Program.{tprogram_tree}
 use Rattle.c_layout.specs.WellTyped.{IsWellTyped}
 use Rattle.c_typing.specs.File.{Program, NoProgram}
 use Rattle.c_typing.specs.Laws.{FilesHaveOne}
-use Rattle.c_type_errors.specs.declared.error.TypeError.{TypeError}
-use Rattle.c_type_errors.specs.Views.{refusal_of}
-use Rattle.c_well_typed_laws.specs.WellTypedLaws.{TypedIsWellTyped}
+use Rattle.c_type_names.specs.declared.type_error.TypeError.{TypeError}
+use Rattle.c_type_names.specs.Views.{refusal_of}
+use Rattle.c_typing_laws.specs.WellTypedLaws.{TypedIsWellTyped}
 use Rattle.c_check.specs.Checks.{Checks, IsAlone}
 
 pub is_alone : FilesHaveOne → (file : FileTree) (res : Result TProgram TypeError) → Checks file res → IsAlone file res

@@ -4,8 +4,8 @@ use Rattle.c_written.specs.WrittenFile.{FileTree}
 use Rattle.c_syntax.specs.declared.program.TProgram.{TProgram}
 use Rattle.c_syntax.specs.Program.{tprogram_tree}
 use Rattle.c_typing.specs.File.{FileOutcome, TypesFile, Program, NoProgram}
-use Rattle.c_type_errors.specs.declared.error.TypeError.{TypeError}
-use Rattle.c_type_errors.specs.Views.{refusal_of}
+use Rattle.c_type_names.specs.declared.type_error.TypeError.{TypeError}
+use Rattle.c_type_names.specs.Views.{refusal_of}
 
 -- want of memory aside, the result is the outcome of the file: its typed program, or its first refusal
 abbrev pub Checks : FileTree → Result TProgram TypeError → Type 0

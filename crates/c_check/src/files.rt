@@ -6,19 +6,18 @@ ghost use Rattle.c_written.specs.WrittenFile.{file_tree, outer_tree};
 ghost use Rattle.c_syntax.specs.Program.{tprogram_tree};
 ghost use Rattle.c_layout.specs.WellTyped.{IsWellTyped};
 ghost use Rattle.c_typing.specs.File as files;
-ghost use Rattle.c_type_contexts.specs.Views.{context_tree};
-ghost use Rattle.c_type_errors.specs.Views.{Answers};
+ghost use Rattle.c_type_jumps.specs.ContextViews.{context_tree};
+ghost use Rattle.c_type_names.specs.Views.{Answers};
 ghost use Rattle.c_type_names.specs.Worlds.{world_of};
 ghost use Rattle.c_check.specs.Checks.{Checks, IsAlone};
 
 use crate::outers::outer;
 use c_syntax::TProgram;
-use c_type_contexts::{Context, FileNames};
-use c_type_errors::TypeError;
-use c_type_names::World;
+use c_type_jumps::{Context, FileNames};
+use c_type_names::{TypeError, World};
 use c_type_programs::program_of;
 use c_typing::files_have_one;
-use c_well_typed_laws::typed_is_well_typed;
+use c_typing_laws::typed_is_well_typed;
 use c_written::{File, Outer};
 use std::alloc::Global;
 

@@ -30,5 +30,5 @@ macro_rules! typed {
 mod files;
 mod outers;
 
-pub use c_type_errors::TypeError;
+pub use c_type_names::TypeError;
 pub use files::check;

@@ -5,17 +5,16 @@ ghost use Rattle.c_written.specs.Written.{declarator_tree, specs_tree};
 ghost use Rattle.c_written.specs.WrittenFile as written;
 ghost use Rattle.c_written.specs.WrittenFile.{blockitems_tree, outer_tree};
 ghost use Rattle.c_typing.specs.File as files;
-ghost use Rattle.c_type_contexts.specs.Views.{context_tree};
-ghost use Rattle.c_type_errors.specs.Views.{Answers};
+ghost use Rattle.c_type_jumps.specs.ContextViews.{context_tree};
+ghost use Rattle.c_type_names.specs.Views.{Answers};
 ghost use Rattle.c_type_names.specs.Worlds.{world_of};
 
 use c_type_bodies::{definition, definition_ends};
-use c_type_contexts::{Context, Function, labels_of};
+use c_type_declarators::{SpecPlace, type_told};
 use c_type_decls::declaration;
-use c_type_errors::TypeError;
 use c_type_exprs::{declarator, first_of, specs};
-use c_type_forms::{SpecPlace, type_told};
-use c_type_names::World;
+use c_type_jumps::{Context, Function, labels_of};
+use c_type_names::{TypeError, World};
 use c_type_stmts::block_items;
 use c_written::{BlockItems, Declarator, Outer, Pos, Specs};
 

@@ -27,7 +27,7 @@ use Rattle.c_syntax.specs.TypedExpr.{TExprTree, TLvalueTree, TExprTrees, texpr_t
 use Rattle.c_syntax.specs.TypedExpr as exprs
 use Rattle.c_syntax.specs.TypedStmt.{TInitTree, TStmtTree, TStmtTrees, tinit_tree, tstmt_tree, tstmts_from, tstmts_tree}
 use Rattle.c_syntax.specs.TypedStmt as stmts
-use Rattle.c_places.specs.Places.{place_of}
+use Rattle.c_effects.specs.Places.{place_of}
 use Rattle.c_effects.specs.declared.effects.Effects.{Effects}
 use Rattle.c_effects.specs.Effects.{called, effects_among, effects_at, effects_if_there, effects_in, effects_in_items, effects_of, init_effects, inits_effects}
 use Rattle.c_effects.specs.Joined.{change_at, joined, nothing, read_at, write_at}

@@ -1,6 +1,6 @@
 -- Effects put together one after the other.
 use Rattle.std.proofs.Common.{◌≡◌, List, [], ◌∷◌, ◌++◌, refl, sym, ap, ◌∙◌, append_assoc, append-nil}
-use Rattle.c_places.specs.declared.touch.Touch.{Touch}
+use Rattle.c_effects.specs.declared.touch.Touch.{Touch}
 use Rattle.c_effects.specs.declared.effects.Effects.{Effects}
 use Rattle.c_effects.specs.Joined.{change_at, joined, nothing, read_at, write_at}
 

@@ -5,7 +5,7 @@ use Rattle.c_syntax.specs.TypedExpr.{TExprTree, Const, Null, Load, AddressOf, De
 use Rattle.c_syntax.specs.TypedExpr.{Compound, Step, And, Or, Cond, Comma, Call, Any, Assume, Assert, TLvalueTree, Var, Deref, Member, TExprTrees}
 use Rattle.c_syntax.specs.TypedExpr as exprs
 use Rattle.c_syntax.specs.TypedStmt.{TInitTree, Store, Copy, TStmtTree, Expr, Block, Declare, If, While, DoWhile, For, Switch, Return, TStmtTrees, none, more}
-use Rattle.c_places.specs.Places.{place_of}
+use Rattle.c_effects.specs.Places.{place_of}
 use Rattle.c_effects.specs.declared.effects.Effects.{Effects}
 use Rattle.c_effects.specs.Joined.{change_at, joined, nothing, read_at, write_at}
 

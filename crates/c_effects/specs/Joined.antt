@@ -1,6 +1,6 @@
 -- Effects put together.
 use Rattle.std.specs.Prelude.{List, [], ◌∷◌, ◌++◌}
-use Rattle.c_places.specs.declared.touch.Touch.{Touch}
+use Rattle.c_effects.specs.declared.touch.Touch.{Touch}
 use Rattle.c_effects.specs.declared.effects.Effects.{Effects}
 
 abbrev pub nothing : Effects

@@ -3,7 +3,7 @@
 
 ghost use Rattle.std.specs.Prelude.{◌≡◌, IfOk};
 
-use c_places::{Path, Touch};
+use crate::{Path, Touch};
 use std::alloc::{AllocError as NoMemory, Global};
 use std::marker::Model;
 
@@ -22,7 +22,7 @@ pub struct Effects {
 
 impl Model for Touches {
     ghost use Rattle.std.specs.Prelude.{List};
-    ghost use Rattle.c_places.specs.declared.touch.Touch.{Touch};
+    ghost use Rattle.c_effects.specs.declared.touch.Touch.{Touch};
 
     ghost Value = { List Touch };
 
@@ -69,7 +69,7 @@ impl Touches {
 
 impl Effects {
     ghost use Rattle.std.specs.Prelude.{◌≡◌, OnOk};
-    ghost use Rattle.c_places.specs.declared.touch.Touch.{Touch};
+    ghost use Rattle.c_effects.specs.declared.touch.Touch.{Touch};
     ghost use Rattle.c_effects.specs.Joined.{change_at, joined, nothing, read_at, write_at};
 
     /// No effects.

@@ -3,12 +3,12 @@
 
 ghost use Rattle.std.specs.Prelude.{◌≡◌, IfOk, OnOk};
 ghost use Rattle.c_syntax.specs.TypedExpr.{texpr_tree, texprs_tree, tlvalue_tree};
-ghost use Rattle.c_places.specs.Places.{place_of};
+ghost use Rattle.c_effects.specs.Places.{place_of};
 ghost use Rattle.c_effects.specs.Effects.{called, effects_among, effects_at, effects_of};
 ghost use Rattle.c_effects.specs.Joined.{change_at, joined, read_at, write_at};
 
 use crate::effects::Effects;
-use c_places::place_of;
+use crate::place_of;
 use c_syntax::{TExpr, TExprs, TLvalue};
 use std::alloc::{AllocError as NoMemory, Global};
 

@@ -16,8 +16,8 @@ use Rattle.c_parse_steps.specs.declared.fault.Fault.{Fault}
 use Rattle.c_parse_steps.specs.Answers.{Gives, halted}
 use Rattle.c_parse_steps.proofs.Paths.{Path}
 use Rattle.c_parse_steps.proofs.Steps.{halts, stall, step, passed_on}
-use Rattle.c_parse_heads.specs.declared.head.ForOpening.{ForOpening}
-use Rattle.c_parse_heads.specs.Kinds.{ForOpenings, Substatements, boxed_tree, for_rest}
+use Rattle.c_parse_stmts.specs.declared.head.ForOpening.{ForOpening}
+use Rattle.c_parse_stmts.specs.HeadKinds.{ForOpenings, Substatements, boxed_tree, for_rest}
 
 -- the items before are these
 pub same_items : {b c : BlockItemTrees} {d : ℕ} {w : Scene} {ts : List Placed} {o : Outcome BlockItemTrees} → b ≡ c → Goes d w (Items b) ts o → Goes d w (Items c) ts o

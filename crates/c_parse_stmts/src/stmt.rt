@@ -11,19 +11,17 @@ ghost use Rattle.c_grammar.specs.Parts as part;
 ghost use Rattle.c_grammar.specs.Refused.{first_is};
 ghost use Rattle.c_parse_steps.specs.Answers.{Answers};
 ghost use Rattle.c_parse_steps.specs.Views.{boxed_expr, scene_of};
-ghost use Rattle.c_parse_simple.specs.Kinds.{StatementStarts};
-ghost use Rattle.c_parse_heads.specs.Kinds.{Substatements, boxed_tree};
+ghost use Rattle.c_parse_stmts.specs.SimpleKinds.{StatementStarts};
+ghost use Rattle.c_parse_stmts.specs.HeadKinds.{Substatements, boxed_tree};
 
+use crate::{
+    StatementKind, break_statement, case_stmt, condition, continue_statement, declaration, do_stmt,
+    empty_statement, ends_open, expression_statement, for_opening, for_stmt, goto_statement,
+    if_else_stmt, if_stmt, no_left_bracket, return_statement, statement_at, switch_stmt,
+    while_stmt,
+};
 use c_grammar::{Class, Setting};
-use c_parse_decls::declaration;
 use c_parse_exprs::conditional;
-use c_parse_heads::{
-    case_stmt, do_stmt, for_opening, for_stmt, if_else_stmt, if_stmt, switch_stmt, while_stmt,
-};
-use c_parse_simple::{
-    StatementKind, break_statement, condition, continue_statement, empty_statement, ends_open,
-    expression_statement, goto_statement, no_left_bracket, return_statement, statement_at,
-};
 use c_parse_steps::{
     Context, Lookahead, Reading, boxed_name_of, comes, label_ahead, refused, spec_ahead, taken,
 };

@@ -2,7 +2,7 @@
 //!
 //! `parse` reads one declaration after the other, and keeps the words that are names of types by then in
 //! a set. Its readers are the crates `c_parse_steps`, `c_parse_leaves`, `c_parse_exprs`,
-//! `c_parse_decls`, `c_parse_simple`, `c_parse_heads` and `c_parse_stmts`, each above the one before.
+//! `c_parse_stmts`, `c_parse_stmts`, `c_parse_stmts` and `c_parse_stmts`, each above the one before.
 //!
 //! For example, `typedef int T; T f(T x) { return x; }` is a file of two declarations, and
 //! `int main(void) { return 1 2; }` is refused at the `2`: `ParseError::Syntax`.

@@ -12,12 +12,11 @@ ghost use Rattle.c_parse_steps.specs.Answers.{Answers};
 ghost use Rattle.c_parse_steps.specs.Views.{boxed_declarator, scene_of};
 
 use c_grammar::{Class, Role};
-use c_parse_decls::{initial, no_declarators};
 use c_parse_exprs::{declarator, specs};
 use c_parse_steps::{
     Context, Lookahead, Reading, TypeNames, comes, declared_word, specs_pos, taken,
 };
-use c_parse_stmts::block_items;
+use c_parse_stmts::{block_items, initial, no_declarators};
 use c_written::{
     BlockItems, Declarator, InitDeclarator, Outer, Placed, Pos, Punctuator, Spec, Specs,
     StorageWord,

@@ -6,12 +6,12 @@ use Rattle.std.proofs.lemmas.Bool.{or_cases}
 use Rattle.std.proofs.lemmas.List.Elements.{Contains-append_cases, Contains-append_left, Contains-append_right}
 use Rattle.c_syntax.specs.Program.{TProgramTree}
 use Rattle.c_layout.specs.Calls.{PlacedCall}
-use Rattle.c_places.specs.declared.touch.Touch.{Touch}
-use Rattle.c_places.specs.Meeting.{Meet}
+use Rattle.c_effects.specs.declared.touch.Touch.{Touch}
+use Rattle.c_effects.specs.Meeting.{Meet}
 use Rattle.c_effects.specs.declared.effects.Effects.{Effects}
 use Rattle.c_effects.specs.Effects.{called}
-use Rattle.c_touch_sets.specs.Met.{met}
-use Rattle.c_touch_sets.proofs.Tests.{tells}
+use Rattle.c_effects.specs.Met.{met}
+use Rattle.c_effects.proofs.Tests.{tells}
 use Rattle.c_sides.specs.declared.known.Known.{Known}
 use Rattle.c_sides.specs.declared.side.Side.{Side}
 use Rattle.c_sides.specs.declared.side.Comparison.{Comparison}

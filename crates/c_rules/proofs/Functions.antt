@@ -7,7 +7,7 @@ use Rattle.c_written.specs.declared.place.Pos.{Pos}
 use Rattle.c_syntax.specs.declared.program.TFunction.{TFunction}
 use Rattle.c_syntax.specs.TypedStmt.{TStmtTree}
 use Rattle.c_syntax.specs.Program.{TFunctionTree, TProgramTree, tfunction_tree}
-use Rattle.c_gotos.specs.Gotos.{strays}
+use Rattle.c_calls.specs.Gotos.{strays}
 use Rattle.c_sides.specs.Sides.{compared_in_stmt}
 use Rattle.c_rules.specs.Earliest.{IsEarliest}
 use Rattle.c_rules.specs.Rules.{IsFirstStray, IsStrayOf, strays_by}

@@ -8,7 +8,7 @@ use Rattle.c_layout.specs.Plans.{IsStart}
 use Rattle.c_calls.specs.Graph.{AreDefined, graph_of, IsClosedList, IsOrderOf, IsWay}
 use Rattle.c_calls.specs.Inlined.{IsInlinedSize, sizes_of}
 use Rattle.c_calls.specs.Undefined.{IsFirstUndefined}
-use Rattle.c_gotos.specs.Gotos.{strays}
+use Rattle.c_calls.specs.Gotos.{strays}
 use Rattle.c_rules.specs.declared.error.RuleError.{RuleError}
 use Rattle.c_rules.specs.declared.error.RuleError.TheVariants as errors
 use Rattle.c_rules.specs.Earliest.{IsEarliest}

@@ -3,11 +3,11 @@ use Rattle.std.specs.Prelude.{◌≡◌, ◌↔◌, ◌⊎◌, ℕ, option_and_t
 use Rattle.c_written.specs.declared.place.Pos.{Pos}
 use Rattle.c_syntax.specs.Program.{TProgramTree}
 use Rattle.c_layout.specs.Calls.{PlacedCall}
-use Rattle.c_places.specs.declared.touch.Touch.{Touch}
-use Rattle.c_places.specs.Meeting.{Meet}
+use Rattle.c_effects.specs.declared.touch.Touch.{Touch}
+use Rattle.c_effects.specs.Meeting.{Meet}
 use Rattle.c_effects.specs.declared.effects.Effects.{Effects}
-use Rattle.c_addresses_taken.specs.Taken.{taken_table}
-use Rattle.c_closed_effects.specs.Closed.{AreClosed, IsCalledRead, IsCalledWrite}
+use Rattle.c_effects.specs.Taken.{taken_table}
+use Rattle.c_sides.specs.Closed.{AreClosed, IsCalledRead, IsCalledWrite}
 use Rattle.c_sides.specs.declared.known.Known.{Known}
 use Rattle.c_sides.specs.declared.side.Side.{Side}
 use Rattle.c_sides.specs.declared.side.Comparison.{Comparison}

@@ -29,7 +29,7 @@ use Rattle.c_syntax.specs.TypedExpr as exprs
 use Rattle.c_syntax.specs.TypedStmt.{TInitTree, TStmtTree, TStmtTrees, tinit_tree, tstmt_tree, tstmts_from, tstmts_tree}
 use Rattle.c_syntax.specs.TypedStmt as stmts
 use Rattle.c_layout.specs.Calls.{PlacedCall, calls_among, calls_at, calls_of}
-use Rattle.c_places.specs.Places.{place_of}
+use Rattle.c_effects.specs.Places.{place_of}
 use Rattle.c_effects.specs.Effects.{effects_among, effects_at, effects_of}
 use Rattle.c_effects.specs.Joined.{change_at, joined, nothing, read_at, write_at}
 use Rattle.c_effects.specs.declared.effects.Effects.{Effects}

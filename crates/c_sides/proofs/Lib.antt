@@ -1,4 +1,7 @@
+mod Closing
 pub mod FirstFound
 pub mod Forms
+mod Gathering
+pub mod GraphCalls
 mod Sidewise
 mod Together

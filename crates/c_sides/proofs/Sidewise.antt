@@ -15,12 +15,12 @@ use Rattle.c_syntax.specs.declared.typed.TLvalue.{TLvalue}
 use Rattle.c_syntax.specs.TypedExpr.{TExprTree, Assign, AssignStruct, texpr_tree}
 use Rattle.c_syntax.proofs.TypedExprTrees.{texpr_assign, texpr_assign_struct}
 use Rattle.c_layout.specs.Calls.{PlacedCall}
-use Rattle.c_places.specs.declared.touch.Touch.{Touch}
+use Rattle.c_effects.specs.declared.touch.Touch.{Touch}
 use Rattle.c_effects.specs.declared.effects.Effects.{Effects}
 use Rattle.c_effects.specs.Effects.{called, effects_of}
 use Rattle.c_effects.specs.Joined.{nothing}
 use Rattle.c_effects.proofs.Joins.{joined_nothing, three}
-use Rattle.c_touch_sets.specs.Met.{met}
+use Rattle.c_effects.specs.Met.{met}
 use Rattle.c_sides.specs.declared.side.Side.{Side}
 use Rattle.c_sides.specs.Made.{all_joined, no_side, sides_joined}
 use Rattle.c_sides.specs.Sides.{made_beside, side_of, store_of}

@@ -8,11 +8,11 @@ use Rattle.std.proofs.lemmas.List.Concat.{flat_map-append}
 use Rattle.std.proofs.lemmas.List.Folds.{Any-from_list_any, list_any-from_Any}
 use Rattle.std.proofs.lemmas.List.Elements.{Contains-append_cases, Contains-append_left, Contains-append_right}
 use Rattle.c_written.specs.declared.place.Pos.{Pos}
-use Rattle.c_places.specs.declared.touch.Touch.{Touch}
-use Rattle.c_places.specs.declared.touch.Touch.TheVariants.{Mem, Object}
+use Rattle.c_effects.specs.declared.touch.Touch.{Touch}
+use Rattle.c_effects.specs.declared.touch.Touch.TheVariants.{Mem, Object}
 use Rattle.c_effects.specs.declared.effects.Effects.{Effects}
-use Rattle.c_touch_sets.specs.Met.{begins, met}
-use Rattle.c_touch_sets.proofs.Tests.{number_same, same_number, not_true}
+use Rattle.c_effects.specs.Met.{begins, met}
+use Rattle.c_effects.proofs.Tests.{number_same, same_number, not_true}
 use Rattle.c_sides.specs.declared.known.Known.{Known}
 use Rattle.c_sides.specs.declared.side.Side.{Side}
 use Rattle.c_sides.specs.declared.side.Comparison.{Comparison}

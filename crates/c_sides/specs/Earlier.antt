@@ -1,7 +1,7 @@
 -- What the sides of a node do that were looked at so far.
 use Rattle.std.specs.Prelude.{Bool, List}
-use Rattle.c_places.specs.declared.touch.Touch.{Touch}
-use Rattle.c_touch_sets.specs.Held.{Holds}
+use Rattle.c_effects.specs.declared.touch.Touch.{Touch}
+use Rattle.c_effects.specs.Held.{Holds}
 use Rattle.c_sides.specs.declared.earlier.Earlier.{Earlier}
 
 -- they write these places, and touch these

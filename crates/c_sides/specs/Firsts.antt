@@ -2,10 +2,10 @@
 use Rattle.std.specs.Prelude.{◌||◌, Option, None, Some, Bool, List, ◌++◌, slice_get}
 use Rattle.std.specs.List.{filter, flat_map, list_any}
 use Rattle.c_layout.specs.Calls.{PlacedCall}
-use Rattle.c_places.specs.declared.touch.Touch.{Touch}
+use Rattle.c_effects.specs.declared.touch.Touch.{Touch}
 use Rattle.c_effects.specs.declared.effects.Effects.{Effects}
 use Rattle.c_effects.specs.Effects.{called}
-use Rattle.c_touch_sets.specs.Met.{met}
+use Rattle.c_effects.specs.Met.{met}
 use Rattle.c_sides.specs.declared.known.Known.{Known}
 use Rattle.c_sides.specs.declared.side.Side.{Side}
 use Rattle.c_sides.specs.declared.side.Comparison.{Comparison}

@@ -1,4 +1,6 @@
+pub mod Closed
 pub mod Earlier
 pub mod Firsts
+pub mod Gathered
 pub mod Made
 pub mod Sides

@@ -7,8 +7,8 @@ use Rattle.c_syntax.specs.TypedExpr.{Compound, Step, And, Or, Cond, Comma, Call,
 use Rattle.c_syntax.specs.TypedExpr as exprs
 use Rattle.c_syntax.specs.TypedStmt.{TInitTree, Store, Copy, TStmtTree, Expr, Block, Declare, If, While, DoWhile, For, Switch, Return, TStmtTrees, none, more}
 use Rattle.c_layout.specs.Calls.{calls_at, calls_of}
-use Rattle.c_places.specs.declared.touch.Touch.{Touch}
-use Rattle.c_places.specs.Places.{place_of}
+use Rattle.c_effects.specs.declared.touch.Touch.{Touch}
+use Rattle.c_effects.specs.Places.{place_of}
 use Rattle.c_effects.specs.Effects.{effects_at, effects_of}
 use Rattle.c_effects.specs.Joined.{joined, read_at, write_at}
 use Rattle.c_sides.specs.declared.side.Side.{Side}

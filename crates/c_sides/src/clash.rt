@@ -4,18 +4,16 @@
 ghost use Rattle.std.specs.Prelude.{◌≡◌, ◌++◌, ◌||◌, List, [], false, map, IfOk, OnOk};
 ghost use Rattle.std.specs.List.{list_any};
 ghost use Rattle.c_calls.specs.Placed.{placed};
-ghost use Rattle.c_places.specs.declared.touch.Touch.{Touch as Touching};
+ghost use Rattle.c_effects.specs.declared.touch.Touch.{Touch as Touching};
 ghost use Rattle.c_effects.specs.Effects.{called};
-ghost use Rattle.c_touch_sets.specs.Held.{Holds};
-ghost use Rattle.c_touch_sets.specs.Met.{met};
+ghost use Rattle.c_effects.specs.Held.{Holds};
+ghost use Rattle.c_effects.specs.Met.{met};
 ghost use Rattle.c_sides.specs.Firsts.{all_reads, all_writes, called_reads, called_writes, writes_into};
 
 use crate::known::Known;
 use crate::side::Side;
 use c_calls::Call;
-use c_effects::{Effects, add_called};
-use c_places::Touch;
-use c_touch_sets::TouchSet;
+use c_effects::{Effects, Touch, TouchSet, add_called};
 use std::alloc::{AllocError as NoMemory, Global};
 
 /// What a side reads and writes, with what the functions do that it calls.

@@ -10,7 +10,7 @@ use crate::clash::{clash, effects_of_side};
 use crate::earlier::Earlier;
 use crate::known::Known;
 use crate::side::{Comparison, Side};
-use c_places::{Touch, place_of};
+use c_effects::{Touch, place_of};
 use c_syntax::{Pos, TExpr, TLvalue};
 use std::alloc::{AllocError as NoMemory, Global};
 

@@ -3,13 +3,12 @@
 
 ghost use Rattle.std.specs.Prelude.{◌≡◌, ◌++◌, ◌||◌, List, [], IfOk, OnOk};
 ghost use Rattle.std.specs.List.{list_any};
-ghost use Rattle.c_places.specs.declared.touch.Touch.{Touch as Touching};
-ghost use Rattle.c_touch_sets.specs.Held.{Holds};
-ghost use Rattle.c_touch_sets.specs.Met.{met};
+ghost use Rattle.c_effects.specs.declared.touch.Touch.{Touch as Touching};
+ghost use Rattle.c_effects.specs.Held.{Holds};
+ghost use Rattle.c_effects.specs.Met.{met};
 
 use crate::clash::{insert_all, one_met};
-use c_effects::Effects;
-use c_touch_sets::TouchSet;
+use c_effects::{Effects, TouchSet};
 use std::alloc::{AllocError as NoMemory, Global};
 
 // What they write, and all that they touch.

@@ -3,7 +3,7 @@
 
 ghost use Rattle.std.specs.Prelude.{◌≡◌, ◌++◌, IfOk, OnOk};
 ghost use Rattle.c_syntax.specs.TypedExpr.{texpr_tree, texprs_tree, tlvalue_tree};
-ghost use Rattle.c_places.specs.Places.{place_of};
+ghost use Rattle.c_effects.specs.Places.{place_of};
 ghost use Rattle.c_effects.specs.Joined.{change_at, read_at, write_at};
 ghost use Rattle.c_sides.specs.Firsts.{or_first};
 ghost use Rattle.c_sides.specs.Made.{all_joined, only, sides_joined, with_call, with_own};
@@ -12,7 +12,7 @@ ghost use Rattle.c_sides.specs.Sides.{all_pairs, compared_among, compared_at, co
 use crate::compare::{compare, compare_all, compare_stored};
 use crate::known::Known;
 use crate::side::{Comparison, Side, all_joined};
-use c_places::place_of;
+use c_effects::place_of;
 use c_syntax::{Pos, TExpr, TExprs, TLvalue};
 use std::alloc::{AllocError as NoMemory, Global};
 

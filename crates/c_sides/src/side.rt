@@ -5,8 +5,7 @@ ghost use Rattle.std.specs.Prelude.{◌≡◌, ◌++◌, IfOk, OnOk};
 ghost use Rattle.c_sides.specs.Made.{all_joined};
 
 use c_calls::{Call, Calls};
-use c_effects::{Effects, Touches, copy_touch};
-use c_places::Touch;
+use c_effects::{Effects, Touch, Touches, copy_touch};
 use c_syntax::Pos;
 use std::alloc::{AllocError as NoMemory, Global};
 

@@ -6,7 +6,7 @@ use Rattle.c_typing.specs.Declarators.{ParameterTree}
 use Rattle.c_typing.specs.Names.{object_limit, total_limit, within_limits}
 use Rattle.c_typing.specs.Decls.{numbers_from, parameter_object, size_or_zero, with_object, with_total}
 use Rattle.c_typing.specs.File.{with_counted}
-use Rattle.c_type_declared.proofs.ParameterForms.{numbers_more}
+use Rattle.c_type_decls.proofs.ParameterForms.{numbers_more}
 use Rattle.c_type_declarators.specs.declared.shape.Parameter.{Parameter}
 use Rattle.c_type_declarators.specs.Views.{parameter_tree}
 use Rattle.c_type_bodies.specs.Views.{counted}

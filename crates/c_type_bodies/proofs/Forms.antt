@@ -13,8 +13,8 @@ use Rattle.c_typing.specs.Decls.{is_word, numbers_from}
 use Rattle.c_typing.specs.File.{Begun, with_function_at, defined_function, in_body, body_in, body_begins, definition_laid, definition_of}
 use Rattle.c_type_declarators.specs.declared.shape.Step as code
 use Rattle.c_type_declarators.specs.Views.{step_tree}
-use Rattle.c_type_errors.specs.declared.error.TypeError.{TypeError}
-use Rattle.c_type_errors.proofs.Steps.{when_true, when_false}
+use Rattle.c_type_names.specs.declared.type_error.TypeError.{TypeError}
+use Rattle.c_type_names.proofs.Steps.{when_true, when_false}
 use Rattle.c_type_bodies.specs.declared.begun.Begun as held
 use Rattle.c_type_bodies.specs.Views.{ComesToBody, by_list, list_in, own_list}
 

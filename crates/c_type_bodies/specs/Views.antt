@@ -9,8 +9,8 @@ use Rattle.c_typing.specs.Names.{within_limits}
 use Rattle.c_typing.specs.World.{World, Binding, TagBinding, Outcome, Typed, Refused, no_rule}
 use Rattle.c_syntax.specs.declared.op.Op.TheVariants as ops
 use Rattle.c_type_declarators.specs.Views.{parameter_tree}
-use Rattle.c_type_errors.specs.declared.error.TypeError.{TypeError}
-use Rattle.c_type_errors.specs.Views.{refusal_of}
+use Rattle.c_type_names.specs.declared.type_error.TypeError.{TypeError}
+use Rattle.c_type_names.specs.Views.{refusal_of}
 use Rattle.c_type_names.specs.Trees.{binding_tree, tag_tree}
 use Rattle.c_type_names.specs.Worlds.{Encloses}
 use Rattle.c_type_bodies.specs.declared.begun.Begun.{Begun}

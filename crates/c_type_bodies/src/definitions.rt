@@ -9,9 +9,9 @@ ghost use Rattle.c_typing.specs.Declarators as declarators;
 ghost use Rattle.c_typing.specs.Decls as decls;
 ghost use Rattle.c_typing.specs.File as files;
 ghost use Rattle.c_typing.specs.World as worlds;
-ghost use Rattle.c_type_contexts.specs.Views.{context_tree};
+ghost use Rattle.c_type_jumps.specs.ContextViews.{context_tree};
 ghost use Rattle.c_type_declarators.specs.Views.{name_tree, shape_tree, step_tree};
-ghost use Rattle.c_type_errors.specs.Views.{Tells};
+ghost use Rattle.c_type_names.specs.Views.{Tells};
 ghost use Rattle.c_type_names.specs.Trees.{form_tree};
 ghost use Rattle.c_type_names.specs.Worlds.{world_of};
 ghost use Rattle.c_type_bodies.specs.Views.{ComesToBody, by_list, list_tree};
@@ -22,11 +22,10 @@ use crate::lists::{ParameterList, own_list};
 use crate::parameters::count_parameters;
 use crate::scopes::in_body;
 use c_syntax::{CType, Pos, StorageWord};
-use c_type_contexts::{Context, is_word};
 use c_type_declarators::{DeclaredName, Shape, Step, laid, no_init, shown, unknown_function};
-use c_type_declared::function_declared;
-use c_type_errors::TypeError;
-use c_type_names::{Form, World};
+use c_type_decls::function_declared;
+use c_type_jumps::{Context, is_word};
+use c_type_names::{Form, TypeError, World};
 
 /// The head of a function's definition (C11 6.9.1), by the storage words and the type of its specs and by its declarator: the
 /// scope of the body begins. Without a name it is Undeclared at the first token of the specs; a typedef, and what is no

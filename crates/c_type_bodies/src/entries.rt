@@ -9,7 +9,7 @@ ghost use Rattle.c_syntax.specs.TypedStmt.{tstmt_tree};
 ghost use Rattle.c_typing.specs.File as files;
 ghost use Rattle.c_typing.specs.World as worlds;
 ghost use Rattle.c_type_declarators.specs.Views.{name_tree};
-ghost use Rattle.c_type_made.specs.Views.{made_tree};
+ghost use Rattle.c_type_decls.specs.MadeViews.{made_tree};
 ghost use Rattle.c_type_names.specs.Worlds.{Encloses, world_of};
 ghost use Rattle.c_type_bodies.specs.Views.{begun_tree};
 
@@ -17,7 +17,7 @@ use crate::begun::Begun;
 use crate::scopes::forget_jumps;
 use c_syntax::{BlockKind, Numbers, Pos, TFunction, TStmt, TStmts};
 use c_type_declarators::DeclaredName;
-use c_type_made::Made;
+use c_type_decls::Made;
 use c_type_names::World;
 
 /// Behind the body of a function, whose brace opens here: its scope ends, and the function has what was made of it.

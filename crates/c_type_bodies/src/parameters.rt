@@ -6,15 +6,14 @@ ghost use Rattle.c_syntax.specs.Types.{object_tree};
 ghost use Rattle.c_typing.specs.Decls as decls;
 ghost use Rattle.c_typing.specs.File as files;
 ghost use Rattle.c_type_declarators.specs.Views.{parameter_tree};
-ghost use Rattle.c_type_errors.specs.Views.{Answers};
+ghost use Rattle.c_type_names.specs.Views.{Answers};
 ghost use Rattle.c_type_names.specs.Worlds.{world_of};
 ghost use Rattle.c_type_bodies.specs.Views as views;
 
 use c_syntax::{Numbers, Object};
 use c_type_declarators::Parameter;
-use c_type_declared::{check_limits, count, parameter_object, size_or_zero};
-use c_type_errors::TypeError;
-use c_type_names::World;
+use c_type_decls::{check_limits, count, parameter_object, size_or_zero};
+use c_type_names::{TypeError, World};
 use std::alloc::AllocError as NoMemory;
 
 /// Objects for parameters, which count among the sizes one by one: their numbers. One that goes past a limit is too large, at

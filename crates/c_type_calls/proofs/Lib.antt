@@ -1,1 +1,4 @@
+pub mod Limits
 pub mod Passing
+pub mod Refusals
+pub mod WordArguments

@@ -4,8 +4,8 @@ use Rattle.c_syntax.specs.declared.typed.TExpr.{TExpr}
 use Rattle.c_syntax.specs.declared.typed.TExprs.{TExprs}
 use Rattle.c_syntax.specs.TypedExpr.{texpr_tree, texprs_tree}
 use Rattle.c_typing.specs.Nodes.{Passed, Passes, Fails, with_passed}
-use Rattle.c_type_errors.specs.declared.error.TypeError.{TypeError}
-use Rattle.c_type_errors.specs.Views.{refusal_of}
+use Rattle.c_type_names.specs.declared.type_error.TypeError.{TypeError}
+use Rattle.c_type_names.specs.Views.{refusal_of}
 
 -- memory aside, the arguments pass as these, or fail with this refusal
 abbrev pub IsPassed : Passed → Result TExprs TypeError → Type 0

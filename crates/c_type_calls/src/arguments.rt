@@ -13,8 +13,8 @@ ghost use Rattle.c_typing.specs.World.{World};
 ghost use Rattle.c_type_calls.specs.Views.{IsPassed, IsPassedFirst};
 
 use c_syntax::{CType, Op, Pos, StructDefs, TExpr, TExprs};
-use c_type_errors::{TypeError, no_rule};
-use c_type_stores::store_row;
+use c_type_names::{TypeError, no_rule};
+use c_type_operators::store_row;
 use std::alloc::Global;
 
 /// The arguments as their parameters' types, in their order (C11 6.5.2.2p7). The first that no row has is NoRule at

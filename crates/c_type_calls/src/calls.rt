@@ -8,19 +8,18 @@ ghost use Rattle.c_syntax.specs.Types as types;
 ghost use Rattle.c_syntax.specs.TypedExpr.{texpr_tree, texprs_tree};
 ghost use Rattle.c_syntax.specs.TypedExpr as trees;
 ghost use Rattle.c_typing.specs.Nodes as nodes;
-ghost use Rattle.c_type_conversions.specs.Views.{operand_tree};
+ghost use Rattle.c_type_operators.specs.OperandViews.{operand_tree};
 ghost use Rattle.c_typing.specs.World as worlds;
-ghost use Rattle.c_type_errors.specs.Views.{Answers, Tells};
+ghost use Rattle.c_type_names.specs.Views.{Answers, Tells};
 ghost use Rattle.c_type_names.specs.Trees.{meaning_tree};
 ghost use Rattle.c_type_names.specs.Worlds.{world_of};
 
 use crate::arguments::passed;
+use crate::{input_read, told};
 use c_syntax::{CType, IntType, Op, Pos, TExpr, TExprs};
-use c_type_conversions::{Operand, value_type};
-use c_type_errors::{TypeError, no_rule};
-use c_type_leaves::object_place;
-use c_type_names::{Meaning, World, input_type};
-use c_type_words::{input_read, told};
+use c_type_names::{Meaning, TypeError, World, input_type, no_rule};
+use c_type_nodes::object_place;
+use c_type_operators::{Operand, value_type};
 use std::alloc::AllocError as NoMemory;
 
 /// A call of a name with these arguments: of a function, of an input, of `__assume` or of `__assert`. What is no

@@ -3,8 +3,8 @@ use Rattle.std.specs.Prelude.{◌≡◌, ℕ, map, Option, Some, None, option_ma
 use Rattle.c_syntax.specs.Types.{ctype_tree}
 use Rattle.c_typing.specs.Declarators as declarators
 use Rattle.c_typing.specs.World.{Refusal}
-use Rattle.c_type_errors.specs.declared.error.TypeError.{TypeError}
-use Rattle.c_type_errors.specs.Views.{refusal_of}
+use Rattle.c_type_names.specs.declared.type_error.TypeError.{TypeError}
+use Rattle.c_type_names.specs.Views.{refusal_of}
 use Rattle.c_type_names.specs.Trees.{binding_tree, tag_tree}
 use Rattle.c_type_declarators.specs.declared.shape.DeclaredName.{DeclaredName}
 use Rattle.c_type_declarators.specs.declared.shape.Parameter.{Parameter}

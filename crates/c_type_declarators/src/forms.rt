@@ -6,7 +6,7 @@ ghost use Rattle.c_syntax.specs.declared.op.Op.TheVariants as ops;
 ghost use Rattle.c_syntax.specs.Types.{ctype_tree};
 ghost use Rattle.c_typing.specs.Declarators as declarators;
 ghost use Rattle.c_typing.specs.World as worlds;
-ghost use Rattle.c_type_errors.specs.Views.{Answers};
+ghost use Rattle.c_type_names.specs.Views.{Answers};
 ghost use Rattle.c_type_names.specs.Trees.{form_tree};
 ghost use Rattle.c_type_names.specs.Worlds.{world_of};
 ghost use Rattle.c_type_declarators.specs.Views.{IsComplete, parameter_tree, step_tree};
@@ -15,9 +15,8 @@ ghost use Rattle.c_typing.specs.Operands as operands;
 use crate::refusals::{array_of, no_init, shown};
 use crate::shape::{Parameter, Step};
 use c_syntax::{CType, Construct, Pos};
-use c_type_conversions::{complete_size, pointer_to};
-use c_type_errors::TypeError;
-use c_type_names::{Form, World};
+use c_type_names::{Form, TypeError, World};
+use c_type_operators::{complete_size, pointer_to};
 use std::alloc::{AllocError as NoMemory, Global};
 
 /// The most bytes that a type may take.

@@ -3,7 +3,7 @@
 
 ghost use Rattle.std.specs.Prelude.{◌≡◌, map};
 ghost use Rattle.c_typing.specs.Declarators as declarators;
-ghost use Rattle.c_type_errors.specs.Views.{Answers};
+ghost use Rattle.c_type_names.specs.Views.{Answers};
 ghost use Rattle.c_type_names.specs.Trees.{form_tree};
 ghost use Rattle.c_type_names.specs.Worlds.{world_of};
 ghost use Rattle.c_type_declarators.specs.Views.{step_tree};
@@ -11,8 +11,7 @@ ghost use Rattle.c_type_declarators.specs.Views.{step_tree};
 use crate::forms::step_form;
 use crate::shape::Step;
 use c_syntax::Pos;
-use c_type_errors::TypeError;
-use c_type_names::{Form, World};
+use c_type_names::{Form, TypeError, World};
 
 /// The type that the steps of a declarator make of the type that its specs tell, from the outermost in. A pointer to and
 /// an array of a function are Unsupported, an array of arrays without size is NotConstant, what has no complete element

@@ -6,13 +6,12 @@ ghost use Rattle.c_syntax.specs.Types as types;
 ghost use Rattle.c_syntax.specs.Types.{ctype_tree};
 ghost use Rattle.c_typing.specs.Declarators as declarators;
 ghost use Rattle.c_typing.specs.World as worlds;
-ghost use Rattle.c_type_errors.specs.Views.{Tells};
+ghost use Rattle.c_type_names.specs.Views.{Tells};
 ghost use Rattle.c_type_names.specs.Trees.{form_tree};
 ghost use Rattle.c_type_names.specs.Worlds.{world_of};
 
 use c_syntax::{CType, Op, Pos, Target};
-use c_type_errors::{TypeError, no_rule};
-use c_type_names::{Form, World};
+use c_type_names::{Form, TypeError, World, no_rule};
 use std::alloc::{AllocError as NoMemory, Global};
 use std::rc::Rc;
 

@@ -1,1 +1,5 @@
+pub mod Changes
+pub mod DeclaredViews
+pub mod Entities
 pub mod Forms
+pub mod MadeViews

@@ -4,23 +4,21 @@
 ghost use Rattle.std.specs.Prelude.{map};
 ghost use Rattle.c_written.specs.WrittenDecl.{decl_tree, initdeclarator_tree};
 ghost use Rattle.c_typing.specs.Decls as decls;
-ghost use Rattle.c_type_contexts.specs.Views.{context_tree};
-ghost use Rattle.c_type_errors.specs.Views.{Answers};
-ghost use Rattle.c_type_made.specs.Views.{made_tree};
+ghost use Rattle.c_type_jumps.specs.ContextViews.{context_tree};
+ghost use Rattle.c_type_names.specs.Views.{Answers};
+ghost use Rattle.c_type_decls.specs.MadeViews.{made_tree};
 ghost use Rattle.c_type_names.specs.Trees.{form_tree};
 ghost use Rattle.c_type_names.specs.Worlds.{world_of};
 ghost use Rattle.c_type_decls.specs.Forms.{OneDeclarator};
 
 use crate::initials::initial;
 use crate::structs::is_struct_alone;
+use crate::{Made, declared};
 use c_syntax::{Pos, StorageWord};
-use c_type_contexts::Context;
-use c_type_declared::declared;
-use c_type_errors::TypeError;
+use c_type_declarators::{SpecPlace, copy_form, type_told};
 use c_type_exprs::{declarator, first_of, specs};
-use c_type_forms::{SpecPlace, copy_form, type_told};
-use c_type_made::Made;
-use c_type_names::{Form, World};
+use c_type_jumps::Context;
+use c_type_names::{Form, TypeError, World};
 use c_written::{Decl, InitDeclarator};
 
 /// A declaration: what it is in the typed program if it stands in a block. It is refused for the first of its parts that

@@ -4,17 +4,15 @@
 ghost use Rattle.std.specs.Prelude.{option_map};
 ghost use Rattle.c_written.specs.WrittenDecl.{init_tree};
 ghost use Rattle.c_typing.specs.Decls as decls;
-ghost use Rattle.c_type_declared.specs.Views.{declares_tree, now_tree};
-ghost use Rattle.c_type_errors.specs.Views.{Answers};
-ghost use Rattle.c_type_made.specs.Views.{made_tree};
+ghost use Rattle.c_type_decls.specs.DeclaredViews.{declares_tree, now_tree};
+ghost use Rattle.c_type_names.specs.Views.{Answers};
+ghost use Rattle.c_type_decls.specs.MadeViews.{made_tree};
 ghost use Rattle.c_type_names.specs.Worlds.{world_of};
 ghost use Rattle.c_type_decls.specs.Forms.{WithInitialiser};
 
-use c_type_declared::{Declares, ObjectNow};
-use c_type_errors::TypeError;
+use crate::{Declares, Made, ObjectNow, frame_for, initialised, made_of};
 use c_type_inits::initialiser;
-use c_type_made::{Made, frame_for, initialised, made_of};
-use c_type_names::World;
+use c_type_names::{TypeError, World};
 use c_written::Init;
 
 /// The initialiser of what was declared, if it has one. An extern declaration in a block is no statement.

@@ -11,8 +11,8 @@ use Rattle.c_typing.specs.Operands.{OperandTree}
 use Rattle.c_typing.specs.Specifiers.{SpecPart, no_specs_yet, OfPlainType, type_told}
 use Rattle.c_typing.specs.Typing.{Types, TypesSpec, TypesSpecs, TypesMemberNames, TypesDeclarator, MemberMade, first_of}
 use Rattle.c_typing.specs.World.{World, Outcome, Typed, Refused, Then, Is, goes_on, stops}
-use Rattle.c_type_errors.specs.declared.error.TypeError.{TypeError}
-use Rattle.c_type_errors.specs.Views.{Answers, refusal_of}
+use Rattle.c_type_names.specs.declared.type_error.TypeError.{TypeError}
+use Rattle.c_type_names.specs.Views.{Answers, refusal_of}
 use Rattle.c_type_exprs.specs.Views.{ConstantForm, MemberLine, inside}
 
 -- a result that is an outcome of one kind is one of another

@@ -16,8 +16,8 @@ use Rattle.c_typing.specs.Specifiers.{SpecPart, no_specs_yet, OfPlainType, type_
 use Rattle.c_typing.specs.Typing.{Types, TypesMembers, TypesMemberNames, TypesEnumerators, TypesSpecs, TypesDeclarator, TypesParams, Valued, OfParameter, first_of, struct_made, enumerated, enumerator, array_sized, with_function}
 use Rattle.c_typing.specs.Typing as typing
 use Rattle.c_typing.specs.World.{World, Outcome, Typed, Then, Is}
-use Rattle.c_type_parts.specs.declared.members.MemberMade.{MemberMade}
-use Rattle.c_type_parts.specs.Views.{made_tree}
+use Rattle.c_type_declarators.specs.declared.members.MemberMade.{MemberMade}
+use Rattle.c_type_declarators.specs.PartViews.{made_tree}
 
 -- `++` and `--`, before their operand or behind it (C11 6.5.2.4, 6.5.3.1)
 abbrev pub StepForm : World → Pos → StepTime → StepWay → ExprTree → Outcome OperandTree → Type 0

@@ -10,7 +10,7 @@ ghost use Rattle.c_typing.specs.Typing as typing;
 ghost use Rattle.c_typing.specs.World as worlds;
 ghost use Rattle.c_typing.specs.World.{Typed};
 ghost use Rattle.c_type_declarators.specs.Views.{parameter_tree, shape_tree};
-ghost use Rattle.c_type_errors.specs.Views.{Answers};
+ghost use Rattle.c_type_names.specs.Views.{Answers};
 ghost use Rattle.c_type_names.specs.Worlds.{world_of};
 ghost use Rattle.c_type_exprs.specs.Views.{ArrayStep, FunctionStep, ParamForm, inside};
 
@@ -19,12 +19,11 @@ use crate::leaves::first_of;
 use crate::steps::{forms, longer, named, no_parameters, no_shape, with_function};
 use crate::types::specs;
 use c_syntax::{Declarator, Expr, Param, Params, Pos, Specs};
-use c_type_constants::constant_value;
-use c_type_declarators::{Parameter, Shape, Step};
-use c_type_errors::TypeError;
-use c_type_forms::{SpecPlace, type_told};
-use c_type_names::World;
-use c_type_parts::{array_sized, parameter_made};
+use c_type_declarators::{
+    Parameter, Shape, SpecPlace, Step, array_sized, parameter_made, type_told,
+};
+use c_type_names::{TypeError, World};
+use c_type_operators::constant_value;
 
 /// The name and the steps of a declarator (C11 6.7.6), of any length. The sizes of its arrays and its parameters are
 /// typed in the order of the text, and the first refusal is that of the whole.

@@ -5,8 +5,8 @@ ghost use Rattle.c_written.specs.Written as written;
 ghost use Rattle.c_written.specs.Written.{declarator_tree, expr_tree, exprs_tree, specs_tree};
 ghost use Rattle.c_syntax.specs.TypedExpr.{none, texpr_tree, texprs_tree};
 ghost use Rattle.c_typing.specs.Typing.{Types, TypesArgs, Valued};
-ghost use Rattle.c_type_conversions.specs.Views.{operand_tree};
-ghost use Rattle.c_type_errors.specs.Views.{Answers};
+ghost use Rattle.c_type_operators.specs.OperandViews.{operand_tree};
+ghost use Rattle.c_type_names.specs.Views.{Answers};
 ghost use Rattle.c_type_names.specs.Worlds.{world_of};
 ghost use Rattle.c_type_exprs.specs.Views.{StepForm};
 
@@ -16,16 +16,13 @@ use c_syntax::{
     AssignOp, BinaryOp, Declarator, Expr, Exprs, Pos, Specs, StepTime, StepWay, TExpr, TExprs,
     UnaryOp,
 };
-use c_type_calls::called;
-use c_type_changes::{assigned, compound, stepped};
-use c_type_conversions::{Operand, operand_type, value_of};
-use c_type_errors::TypeError;
-use c_type_leaves::character;
-use c_type_members::{arrow, member};
-use c_type_named::{cast_to, size_of_form};
-use c_type_names::World;
-use c_type_nodes::{binary, conditional, indexed, sequenced, size_of, unary};
-use c_type_words::{literal, word};
+use c_type_calls::{called, cast_to, literal, size_of_form, word};
+use c_type_names::{TypeError, World};
+use c_type_nodes::{
+    arrow, assigned, binary, character, compound, conditional, indexed, member, sequenced, size_of,
+    stepped, unary,
+};
+use c_type_operators::{Operand, operand_type, value_of};
 
 /// What an expression names or gives (C11 6.5). It is refused for the first of its parts, in the order of the text, that
 /// has no types, and at last for what these parts have no row for.

@@ -10,18 +10,17 @@ ghost use Rattle.c_typing.specs.Nodes as nodes;
 ghost use Rattle.c_typing.specs.Specifiers as specifiers;
 ghost use Rattle.c_typing.specs.Typing as typing;
 ghost use Rattle.c_typing.specs.World as worlds;
-ghost use Rattle.c_type_conversions.specs.Views.{operand_tree};
-ghost use Rattle.c_type_errors.specs.Views.{Answers};
-ghost use Rattle.c_type_forms.specs.Views.{part_tree};
+ghost use Rattle.c_type_operators.specs.OperandViews.{operand_tree};
+ghost use Rattle.c_type_names.specs.Views.{Answers};
+ghost use Rattle.c_type_declarators.specs.FormViews.{part_tree};
 ghost use Rattle.c_type_names.specs.Worlds.{world_of};
 
 use c_syntax::{CType, Constant, Declarators, IntType, MemberDecl, Pos, Specs, Tag};
-use c_type_conversions::Operand;
-use c_type_errors::TypeError;
-use c_type_forms::SpecPart;
-use c_type_leaves::number;
-use c_type_named::{enum_tagged, struct_tagged};
-use c_type_names::{Form, World};
+use c_type_calls::{enum_tagged, struct_tagged};
+use c_type_declarators::SpecPart;
+use c_type_names::{Form, TypeError, World};
+use c_type_nodes::number;
+use c_type_operators::Operand;
 
 /// The place of the first token of specs, or this place where there are none.
 pub fn first_of(pos: Pos, specs: &Specs) -> Pos

@@ -7,14 +7,13 @@ ghost use Rattle.c_typing.specs.Declarators as declarators;
 ghost use Rattle.c_typing.specs.Typing as typing;
 ghost use Rattle.c_typing.specs.World as worlds;
 ghost use Rattle.c_type_declarators.specs.Views.{parameter_tree, shape_tree, step_tree};
-ghost use Rattle.c_type_errors.specs.Views.{Answers};
+ghost use Rattle.c_type_names.specs.Views.{Answers};
 ghost use Rattle.c_type_names.specs.Worlds.{Encloses, world_of};
 ghost use Rattle.c_type_exprs.specs.Views.{forms_of, inside, stands_around_one};
 
 use c_syntax::{Declarator, Name, Pos};
 use c_type_declarators::{DeclaredName, Parameter, Shape, Step};
-use c_type_errors::TypeError;
-use c_type_names::{Scope, World};
+use c_type_names::{Scope, TypeError, World};
 use std::alloc::{AllocError as NoMemory, Global};
 
 /// The forms of a declarator, from the outermost in.

@@ -8,8 +8,8 @@ ghost use Rattle.c_written.specs.Written.{declarator_tree, declarators_tree, enu
 ghost use Rattle.c_typing.specs.Specifiers.{no_specs_yet};
 ghost use Rattle.c_typing.specs.Typing.{OfTypeName, TypesDeclarator, TypesEnumerators, TypesMemberNames, TypesMembers, TypesSpec, TypesSpecs};
 ghost use Rattle.c_typing.specs.Typing as typing;
-ghost use Rattle.c_type_errors.specs.Views.{Answers};
-ghost use Rattle.c_type_forms.specs.Views.{made_tree, part_tree};
+ghost use Rattle.c_type_names.specs.Views.{Answers};
+ghost use Rattle.c_type_declarators.specs.FormViews.{made_tree, part_tree};
 ghost use Rattle.c_type_names.specs.Trees.{form_tree};
 ghost use Rattle.c_type_names.specs.Worlds.{world_of};
 ghost use Rattle.c_type_exprs.specs.Views.{ConstantForm, EnumBody, MemberLine, StructBody, ValuedConstant, members_of};
@@ -21,15 +21,16 @@ use c_syntax::{
     Declarator, Declarators, Enumerator, Enumerators, Expr, MemberDecl, MemberDecls, Name, Pos,
     Spec, Specs, Tag,
 };
-use c_type_constants::constant_value;
-use c_type_errors::TypeError;
-use c_type_forms::{SpecPart, SpecPlace, SpecsMade, copy_form, type_told};
-use c_type_named::{enum_begun, enum_tagged, struct_begun, struct_tagged};
-use c_type_names::{Form, Table, World};
-use c_type_parts::{MemberMade, enumerator, member_made, struct_made, type_name, typedef_named};
+use c_type_calls::{enum_begun, enum_tagged, struct_begun, struct_tagged};
+use c_type_declarators::{
+    MemberMade, SpecPart, SpecPlace, SpecsMade, copy_form, enumerator, member_made, struct_made,
+    type_name, type_told, typedef_named,
+};
+use c_type_names::{Form, Table, TypeError, World};
+use c_type_operators::constant_value;
 
 /// The type that a cast or a `sizeof` names (C11 6.7.7). It is refused for the first of its parts that is, and then as
-/// `type_name` of c_type_parts refuses it.
+/// `type_name` of c_type_declarators refuses it.
 #[cycle(walk)]
 pub(crate) fn named_type(
     world: &mut World,

@@ -1,1 +1,4 @@
+pub mod Current
+pub mod Members
+pub mod Rows
 pub mod TextItems

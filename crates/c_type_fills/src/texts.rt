@@ -8,16 +8,15 @@ ghost use Rattle.c_syntax.specs.TypedExpr as exprs;
 ghost use Rattle.c_syntax.specs.TypedStmt as trees;
 ghost use Rattle.c_syntax.specs.TypedStmt.{tinit_tree};
 ghost use Rattle.c_typing.specs.Inits as inits;
-ghost use Rattle.c_type_errors.specs.Views.{Answers};
-ghost use Rattle.c_type_init_places.specs.Views.{part_tree};
+ghost use Rattle.c_type_names.specs.Views.{Answers};
+ghost use Rattle.c_type_fills.specs.RoomViews.{part_tree};
 ghost use Rattle.c_type_names.specs.Worlds.{world_of};
 
+use crate::Part;
 use c_layout::wrap;
 use c_syntax::{CType, IntType, Pos, TExpr, TInit};
 use c_type_declarators::no_init;
-use c_type_errors::TypeError;
-use c_type_init_places::Part;
-use c_type_names::World;
+use c_type_names::{TypeError, World};
 use std::alloc::{AllocError as NoMemory, Global};
 
 /// How many characters a literal of so many bytes has room for: those of the array, or as many as it has with its zero where

@@ -9,19 +9,16 @@ ghost use Rattle.c_syntax.specs.TypedStmt.{tinit_tree};
 ghost use Rattle.c_typing.specs.Inits as inits;
 ghost use Rattle.c_typing.specs.Rows as rows;
 ghost use Rattle.c_typing.specs.World as worlds;
-ghost use Rattle.c_type_errors.specs.Views.{Answers, Tells};
-ghost use Rattle.c_type_init_places.specs.Views.{part_tree};
+ghost use Rattle.c_type_names.specs.Views.{Answers, Tells};
+ghost use Rattle.c_type_fills.specs.RoomViews.{part_tree};
 ghost use Rattle.c_type_names.specs.Worlds.{world_of};
-ghost use Rattle.c_type_stores.specs.Views.{stored_tree};
+ghost use Rattle.c_type_operators.specs.StoreViews.{stored_tree};
 
+use crate::{Part, is_static_item};
 use c_syntax::{CType, Op, Pos, TExpr, TInit};
-use c_type_conversions::is_scalar;
 use c_type_declarators::no_init;
-use c_type_errors::{TypeError, no_rule};
-use c_type_init_places::Part;
-use c_type_names::World;
-use c_type_statics::is_static_item;
-use c_type_stores::{Stored, stored_row};
+use c_type_names::{TypeError, World, no_rule};
+use c_type_operators::{Stored, is_scalar, stored_row};
 
 /// A value at this place of the text fills a part, as by `=`. Where no row stores it, it is NoRule with Op `init`; what is no
 /// constant is NotConstant in a static object: both at this place.

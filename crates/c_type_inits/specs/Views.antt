@@ -2,7 +2,7 @@
 use Rattle.std.specs.Prelude.{map}
 use Rattle.c_syntax.specs.TypedStmt.{tinit_tree}
 use Rattle.c_typing.specs.Inits as inits
-use Rattle.c_type_init_places.specs.Views.{aggregates_tree}
+use Rattle.c_type_fills.specs.RoomViews.{aggregates_tree}
 use Rattle.c_type_inits.specs.declared.filled.Filled.{Filled}
 
 abbrev pub filled_tree : Filled → inits.Filled

@@ -10,15 +10,14 @@ ghost use Rattle.c_syntax.specs.TypedExpr.{texpr_tree};
 ghost use Rattle.c_typing.specs.Inits as inits;
 ghost use Rattle.c_typing.specs.Typing.{Types, Valued};
 ghost use Rattle.c_typing.specs.World as worlds;
-ghost use Rattle.c_type_errors.specs.Views.{Answers, Tells, refusal_of};
+ghost use Rattle.c_type_names.specs.Views.{Answers, Tells, refusal_of};
 ghost use Rattle.c_type_names.specs.Worlds.{world_of};
 ghost use Rattle.c_type_inits.specs.Forms.{ListInBraces, OneTooMany};
 
 use c_syntax::{CType, Init, Inits, Pos, TExpr};
 use c_type_declarators::no_init;
-use c_type_errors::TypeError;
 use c_type_exprs::value;
-use c_type_names::World;
+use c_type_names::{TypeError, World};
 
 /// That an object of this type has no part for what stands at this place.
 pub(crate) fn excess(world: &World, whole: &CType, at: Pos) -> TypeError

@@ -5,11 +5,11 @@ ghost use Rattle.std.specs.Prelude.{◌≡◌, ◌∷◌, ◌++◌, [], IfOk, ma
 ghost use Rattle.c_syntax.specs.TypedStmt.{tinit_tree};
 ghost use Rattle.c_typing.specs.CurrentObject as objects;
 ghost use Rattle.c_typing.specs.Inits as inits;
-ghost use Rattle.c_type_init_places.specs.Views.{aggregates_tree, frame_tree};
+ghost use Rattle.c_type_fills.specs.RoomViews.{aggregates_tree, frame_tree};
 ghost use Rattle.c_type_inits.specs.Views.{filled_tree};
 
 use c_syntax::TInit;
-use c_type_init_places::{Aggregates, Frame};
+use c_type_fills::{Aggregates, Frame};
 use std::alloc::{AllocError as NoMemory, Global};
 
 /// What the items of a list store so far, and the aggregates that they fill.

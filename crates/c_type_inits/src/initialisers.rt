@@ -6,9 +6,9 @@ ghost use Rattle.c_written.specs.Written as written;
 ghost use Rattle.c_written.specs.Written.{expr_tree};
 ghost use Rattle.c_syntax.specs.Types.{ctype_tree};
 ghost use Rattle.c_typing.specs.Inits as inits;
-ghost use Rattle.c_type_errors.specs.Views.{Answers};
+ghost use Rattle.c_type_names.specs.Views.{Answers};
 ghost use Rattle.c_type_fills.specs.Views.{by_tree};
-ghost use Rattle.c_type_init_places.specs.Views.{frame_tree};
+ghost use Rattle.c_type_fills.specs.RoomViews.{frame_tree};
 ghost use Rattle.c_type_names.specs.Worlds.{world_of};
 ghost use Rattle.c_type_inits.specs.Forms as forms;
 ghost use Rattle.c_type_inits.specs.Forms.{ByExpression, ByList, ByLiteral};
@@ -18,10 +18,8 @@ use crate::items::list_items;
 use crate::texts::{as_text, by_text};
 use crate::values::by_value;
 use c_syntax::{CType, Expr, Init, Inits, Pos};
-use c_type_errors::TypeError;
-use c_type_fills::Initialised;
-use c_type_init_places::{Frame, is_text};
-use c_type_names::World;
+use c_type_fills::{Frame, Initialised, is_text};
+use c_type_names::{TypeError, World};
 
 /// What an initialiser stores in an object of type `ty`, whose parts the frame tells; an array without size has as many as
 /// the initialiser fills (C11 6.7.9p11 to p16 and p22). What a static object holds is constant.

@@ -7,8 +7,8 @@ ghost use Rattle.c_written.specs.WrittenDecl.{init_tree, inits_tree};
 ghost use Rattle.c_syntax.specs.Types.{ctype_tree};
 ghost use Rattle.c_syntax.specs.TypedStmt.{tinit_tree};
 ghost use Rattle.c_typing.specs.Inits as inits;
-ghost use Rattle.c_type_errors.specs.Views.{Answers};
-ghost use Rattle.c_type_init_places.specs.Views.{aggregates_tree, part_tree};
+ghost use Rattle.c_type_names.specs.Views.{Answers};
+ghost use Rattle.c_type_fills.specs.RoomViews.{aggregates_tree, part_tree};
 ghost use Rattle.c_type_names.specs.Worlds.{world_of};
 ghost use Rattle.c_type_inits.specs.Forms as forms;
 ghost use Rattle.c_type_inits.specs.Forms.{ItemForm, ListInPart, ListItem};
@@ -19,9 +19,8 @@ use crate::filled::{Filled, nothing_filled, with_items};
 use crate::texts::{as_text, text_item};
 use crate::values::value_item;
 use c_syntax::{CType, Expr, Init, Inits, Pos, TInit};
-use c_type_errors::TypeError;
-use c_type_init_places::{Aggregates, Frame, Part};
-use c_type_names::World;
+use c_type_fills::{Aggregates, Frame, Part};
+use c_type_names::{TypeError, World};
 
 /// The items of a list for an object of type `whole`, behind those that stand before them. An item too many is NoRule with
 /// Op `init` and `whole` left.

@@ -2,7 +2,7 @@
 //!
 //! A list fills the parts of an object one after the other. An item in braces of its own fills one part as a whole; one
 //! without fills the first part that takes it whole, where it may begin arrays and structs that stand in each other to
-//! any depth. Those under way are a stack of their own (c_type_init_places), so that only braces recurse, whose nesting
+//! any depth. Those under way are a stack of their own (c_type_fills), so that only braces recurse, whose nesting
 //! is at most 200. Items are typed in the order of the text, each in the program that the one before it left, and the
 //! first refusal is that of the whole.
 //!

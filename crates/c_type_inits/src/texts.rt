@@ -9,9 +9,9 @@ ghost use Rattle.c_syntax.specs.TypedExpr.{texpr_tree};
 ghost use Rattle.c_syntax.specs.TypedStmt.{tinit_tree};
 ghost use Rattle.c_typing.specs.Inits as inits;
 ghost use Rattle.c_typing.specs.Typing.{Types, Valued};
-ghost use Rattle.c_type_errors.specs.Views.{Answers};
+ghost use Rattle.c_type_names.specs.Views.{Answers};
 ghost use Rattle.c_type_fills.specs.Views.{by_tree};
-ghost use Rattle.c_type_init_places.specs.Views.{aggregates_tree, part_tree};
+ghost use Rattle.c_type_fills.specs.RoomViews.{aggregates_tree, part_tree};
 ghost use Rattle.c_type_names.specs.Worlds.{world_of};
 ghost use Rattle.c_type_inits.specs.Forms as forms;
 ghost use Rattle.c_type_inits.specs.Forms.{TextAsValue, TextInBraces, TextInPart, TextItem};
@@ -20,12 +20,10 @@ ghost use Rattle.c_type_inits.specs.Views.{filled_tree};
 use crate::excess::too_many;
 use crate::filled::{Filled, with_items};
 use c_syntax::{CType, Expr, Pos, TExpr, TInit};
-use c_type_conversions::value_of;
-use c_type_errors::TypeError;
-use c_type_fills::{Initialised, fill, fill_text, room};
-use c_type_init_places::{Aggregates, Item, Part, is_text};
-use c_type_names::World;
-use c_type_words::literal;
+use c_type_calls::literal;
+use c_type_fills::{Aggregates, Initialised, Item, Part, fill, fill_text, is_text, room};
+use c_type_names::{TypeError, World};
+use c_type_operators::value_of;
 
 /// The place and the bytes of a string literal, and nothing of another expression.
 #[tactic(auto, using(c_written::proofs::Trees::the_written_trees))]

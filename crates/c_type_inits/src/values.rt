@@ -6,8 +6,8 @@ ghost use Rattle.c_written.specs.Written.{expr_tree};
 ghost use Rattle.c_syntax.specs.Types.{ctype_tree};
 ghost use Rattle.c_syntax.specs.TypedStmt.{tinit_tree};
 ghost use Rattle.c_typing.specs.Inits as inits;
-ghost use Rattle.c_type_errors.specs.Views.{Answers};
-ghost use Rattle.c_type_init_places.specs.Views.{aggregates_tree, part_tree};
+ghost use Rattle.c_type_names.specs.Views.{Answers};
+ghost use Rattle.c_type_fills.specs.RoomViews.{aggregates_tree, part_tree};
 ghost use Rattle.c_type_names.specs.Worlds.{world_of};
 ghost use Rattle.c_type_fills.specs.Views.{by_tree};
 ghost use Rattle.c_type_inits.specs.Forms.{ValueInPart, ValueItem};
@@ -16,11 +16,9 @@ ghost use Rattle.c_type_inits.specs.Views.{filled_tree};
 use crate::excess::too_many;
 use crate::filled::{Filled, with_item};
 use c_syntax::{CType, Expr, TInit};
-use c_type_errors::TypeError;
 use c_type_exprs::value;
-use c_type_fills::{Initialised, fill};
-use c_type_init_places::{Aggregates, Item, Part};
-use c_type_names::World;
+use c_type_fills::{Aggregates, Initialised, Item, Part, fill};
+use c_type_names::{TypeError, World};
 
 /// An expression that is no string literal, as an item.
 pub(crate) fn value_item(

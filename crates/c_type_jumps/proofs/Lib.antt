@@ -1,1 +1,4 @@
 pub mod Bare
+pub mod Finding
+pub mod LabelForms
+pub mod Words

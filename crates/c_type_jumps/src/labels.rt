@@ -5,14 +5,13 @@ ghost use Rattle.std.specs.Prelude.{◌≡◌};
 ghost use Rattle.c_syntax.specs.TypedStmt.{tstmt_tree};
 ghost use Rattle.c_typing.specs.Stmts as stmts;
 ghost use Rattle.c_typing.specs.World.{World as Program};
-ghost use Rattle.c_type_contexts.specs.Views.{context_tree};
-ghost use Rattle.c_type_errors.specs.Views.{Answers};
+ghost use Rattle.c_type_jumps.specs.ContextViews.{context_tree};
+ghost use Rattle.c_type_names.specs.Views.{Answers};
 ghost use Rattle.c_type_names.specs.Worlds.{world_of};
 
+use crate::Context;
 use c_syntax::{Name, Pos, TStmt};
-use c_type_contexts::Context;
-use c_type_errors::TypeError;
-use c_type_names::{Labelled, World};
+use c_type_names::{Labelled, TypeError, World};
 
 /// A label, which is new in its function, else it is Redeclared: its number. After want of memory the program is only
 /// dropped.

@@ -9,13 +9,12 @@ ghost use Rattle.c_syntax.specs.TypedStmt as trees;
 ghost use Rattle.c_syntax.specs.TypedStmt.{tstmt_tree};
 ghost use Rattle.c_typing.specs.Stmts as stmts;
 ghost use Rattle.c_typing.specs.World as worlds;
-ghost use Rattle.c_type_errors.specs.Views.{Answers, Tells};
+ghost use Rattle.c_type_names.specs.Views.{Answers, Tells};
 ghost use Rattle.c_type_names.specs.Worlds.{world_of};
 
 use c_syntax::{CType, Op, Pos, TExpr, TStmt};
-use c_type_errors::{TypeError, no_rule};
-use c_type_names::World;
-use c_type_stores::store_row;
+use c_type_names::{TypeError, World, no_rule};
+use c_type_operators::store_row;
 
 /// A return with a value, as by `=` to the result. One that no row stores is NoRule with Op `return`, with the result and
 /// the value's type.

@@ -11,15 +11,14 @@ ghost use Rattle.c_syntax.specs.TypedStmt as trees;
 ghost use Rattle.c_syntax.specs.TypedStmt.{tstmt_tree};
 ghost use Rattle.c_typing.specs.Stmts as stmts;
 ghost use Rattle.c_typing.specs.World as worlds;
-ghost use Rattle.c_type_errors.specs.Views.{Answers};
+ghost use Rattle.c_type_names.specs.Views.{Answers};
 ghost use Rattle.c_type_names.specs.Worlds.{world_of};
 ghost use Rattle.c_type_jumps.specs.Views.{Keeps, switched_tree};
 
 use c_layout::{promote, wrap};
 use c_syntax::{CType, IntType, Op, Pos, TExpr, TStmt};
-use c_type_conversions::as_int;
-use c_type_errors::{TypeError, no_rule};
-use c_type_names::{CaseAt, World};
+use c_type_names::{CaseAt, TypeError, World, no_rule};
+use c_type_operators::as_int;
 use std::mem;
 
 /// The value of a switch, which has its promoted type.

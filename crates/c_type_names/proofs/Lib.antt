@@ -1,5 +1,6 @@
-pub mod Cuts
-pub mod Places
-pub mod Indexes
-pub mod Found
 pub mod Become
+pub mod Cuts
+pub mod Found
+pub mod Indexes
+pub mod Places
+pub mod Steps

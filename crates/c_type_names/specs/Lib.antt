@@ -1,4 +1,5 @@
-pub mod Places
 pub mod Kept
+pub mod Places
 pub mod Trees
+pub mod Views
 pub mod Worlds

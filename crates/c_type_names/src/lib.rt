@@ -1,5 +1,18 @@
-//! The names, tags, scopes, objects and literals of typing: the program so far as code, met with what
-//! `c_typing` says of it.
+//! Names of the program so far, and the errors of typing.
+//!
+//! # Why a program has no types, and what a result of typing says
+//!
+//! A `TypeError` is the first refusal, with its place in the text, or want of memory. Where no row has the
+//! types of an operator's operands, it carries these types, and the tags of the structs so far, by which the
+//! types are printed.
+//!
+//! For example, `no_rule` of the place of a `+`, the operator, a struct and an int is what `s + 1` is refused
+//! with.
+//!
+//! `refusal_of` of `specs/Views.antt` is the refusal of c_typing that an error tells, and `Answers` says of a
+//! result that, memory aside, it is an outcome of a kind. `no_rule` tells the refusal of c_typing's name.
+//!
+//! # The names, tags, scopes, objects and literals of typing: the program so far as code, met with what `c_typing` says of it
 //!
 //! A `World` is the program up to a place of the text. It is seen as the `World` of the definition
 //! (`world_of`, `specs/Worlds.antt`), and each call promises the definition's own equation: after `open`
@@ -26,15 +39,19 @@ mod enum_tags;
 mod error;
 mod name_index;
 mod objects;
+mod refusals;
 mod reserved;
 mod struct_tags;
 mod table;
+mod type_error;
 mod types;
 mod world;
 
 pub use error::NameError;
 pub use objects::literal_type;
+pub use refusals::no_rule;
 pub use reserved::{input_type, is_reserved};
 pub use table::{Named, Table};
+pub use type_error::TypeError;
 pub use types::{Binding, CaseAt, Form, Labelled, Linked, Meaning, TagBinding, TagMeaning};
 pub use world::{Scope, World};

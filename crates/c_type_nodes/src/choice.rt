@@ -10,14 +10,13 @@ ghost use Rattle.c_typing.specs.Nodes as nodes;
 ghost use Rattle.c_typing.specs.Operands as operands;
 ghost use Rattle.c_typing.specs.Rows as rows;
 ghost use Rattle.c_typing.specs.World.{World};
-ghost use Rattle.c_type_conversions.specs.Views.{operand_tree};
-ghost use Rattle.c_type_errors.specs.Views.{Answers};
+ghost use Rattle.c_type_operators.specs.OperandViews.{operand_tree};
+ghost use Rattle.c_type_names.specs.Views.{Answers};
 
 use crate::given::given;
 use c_syntax::{Op, Pos, StructDefs, TExpr};
-use c_type_conversions::{Operand, is_scalar, not_used};
-use c_type_errors::{TypeError, no_rule};
-use c_type_stores::cond_row;
+use c_type_names::{TypeError, no_rule};
+use c_type_operators::{Operand, cond_row, is_scalar, not_used};
 use std::alloc::{AllocError as NoMemory, Global};
 
 /// A condition, which is to be a scalar (C11 6.8.4.1p1, 6.8.5p2). Where it is none it is NoRule with Op `test`.

@@ -8,12 +8,12 @@ ghost use Rattle.c_syntax.specs.Program.{structdef_tree};
 ghost use Rattle.c_typing.specs.Nodes as nodes;
 ghost use Rattle.c_typing.specs.World as worlds;
 ghost use Rattle.c_typing.specs.World.{World};
-ghost use Rattle.c_type_conversions.specs.Views.{operand_tree};
-ghost use Rattle.c_type_errors.specs.Views.{Answers};
+ghost use Rattle.c_type_operators.specs.OperandViews.{operand_tree};
+ghost use Rattle.c_type_names.specs.Views.{Answers};
 
 use c_syntax::{CType, Op, Pos, StructDefs, TExpr, TLvalue};
-use c_type_conversions::Operand;
-use c_type_errors::{TypeError, no_rule};
+use c_type_names::{TypeError, no_rule};
+use c_type_operators::Operand;
 use std::alloc::Global;
 
 /// The value that a row gives, or that no row has these types.

@@ -8,16 +8,16 @@ ghost use Rattle.c_syntax.specs.Program.{structdef_tree};
 ghost use Rattle.c_typing.specs.Nodes as nodes;
 ghost use Rattle.c_typing.specs.Rows as rows;
 ghost use Rattle.c_typing.specs.World.{World};
-ghost use Rattle.c_type_conversions.specs.Views.{operand_tree};
-ghost use Rattle.c_type_errors.specs.Views.{Answers};
+ghost use Rattle.c_type_operators.specs.OperandViews.{operand_tree};
+ghost use Rattle.c_type_names.specs.Views.{Answers};
 
 use crate::given::{given, given_place};
 use c_syntax::{Arithmetic, BinaryOp, CType, Comparison, Op, Pos, Shift, StructDefs, TExpr};
-use c_type_arithmetic::{arithmetic_row, minus_row, plus_row, shift_row};
-use c_type_conversions::Operand;
-use c_type_equalities::{and_row, equality_row, or_row, order_row};
-use c_type_errors::TypeError;
-use c_type_places::index_row;
+use c_type_names::TypeError;
+use c_type_operators::{
+    Operand, and_row, arithmetic_row, equality_row, index_row, minus_row, or_row, order_row,
+    plus_row, shift_row,
+};
 use std::alloc::{AllocError as NoMemory, Global};
 
 /// An operator between two typed values. Where no row has their types it is NoRule, at the operator.

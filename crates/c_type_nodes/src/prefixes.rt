@@ -9,16 +9,14 @@ ghost use Rattle.c_typing.specs.Nodes as nodes;
 ghost use Rattle.c_typing.specs.Operands as operands;
 ghost use Rattle.c_typing.specs.Rows as rows;
 ghost use Rattle.c_typing.specs.World.{World};
-ghost use Rattle.c_type_arithmetic.specs.Views.{sign_at};
-ghost use Rattle.c_type_conversions.specs.Views.{operand_tree};
-ghost use Rattle.c_type_errors.specs.Views.{Answers};
+ghost use Rattle.c_type_operators.specs.ArithmeticViews.{sign_at};
+ghost use Rattle.c_type_operators.specs.OperandViews.{operand_tree};
+ghost use Rattle.c_type_names.specs.Views.{Answers};
 
 use crate::given::{given, given_place};
 use c_syntax::{DerefKind, Op, Pos, StructDefs, TExpr, TLvalue, UnaryOp};
-use c_type_arithmetic::{Sign, not_row, unary_row};
-use c_type_conversions::{Operand, is_unsized, value_of};
-use c_type_errors::{TypeError, no_rule};
-use c_type_places::star_row;
+use c_type_names::{TypeError, no_rule};
+use c_type_operators::{Operand, Sign, is_unsized, not_row, star_row, unary_row, value_of};
 use std::alloc::Global;
 
 /// A prefix operator on a typed operand. `&` of what is no place is NotLvalue; where no row has the operand's

@@ -10,14 +10,13 @@ ghost use Rattle.c_syntax.specs.Program.{structdef_tree};
 ghost use Rattle.c_typing.specs.Nodes as nodes;
 ghost use Rattle.c_typing.specs.Operands as operands;
 ghost use Rattle.c_typing.specs.World.{World, Plain};
-ghost use Rattle.c_type_conversions.specs.Views.{operand_tree};
-ghost use Rattle.c_type_errors.specs.Views.{Answers, Tells};
+ghost use Rattle.c_type_operators.specs.OperandViews.{operand_tree};
+ghost use Rattle.c_type_names.specs.Views.{Answers, Tells};
 
 use crate::given::given;
 use c_syntax::{CType, Construct, IntType, Op, Pos, StructDefs, TExpr};
-use c_type_conversions::{Operand, complete_size};
-use c_type_errors::{TypeError, no_rule};
-use c_type_stores::{cast_row, is_pointer_integer};
+use c_type_names::{TypeError, no_rule};
+use c_type_operators::{Operand, cast_row, complete_size, is_pointer_integer};
 use std::alloc::Global;
 
 /// `sizeof` a type: its size in bytes, as an unsigned long (C11 6.5.3.4). A type that is not complete is NoRule.

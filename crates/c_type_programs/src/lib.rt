@@ -1,4 +1,25 @@
-//! The typed program at the end of its file.
+//! The typed program of a whole file, settled.
+//!
+//! # Typed bodies as they stand at the end of their file
+//!
+//! An array of the file may get its size behind a use of it. So once all is typed, each name of an object is given the type
+//! that the object has by then; all else stays as it is.
+//!
+//! For example, behind `int a[]; int f(void) { return a[1]; } int a[3];` the `a` in the body of `f` is an array of 3.
+//!
+//! | What | Stated in `Settled` of c_typing | Promised by |
+//! |---|---|---|
+//! | the type of an object at the end | `last_type` | `settled_place` |
+//! | expressions, places and arguments | `settled_expr`, `settled_place`, `settled_exprs` | `settled_expr`, `settled_place`, `settled_exprs` |
+//! | items of initialisers | `settled_init` | `settled_init`, `settled_inits` |
+//! | statements | `settled_stmt`, `settled_stmts` | `settled_stmt`, `settled_stmts` |
+//! | a function | `settled_function` | `settled_function` |
+//!
+//! A tree is taken apart and put together again, node by node, so that a body is never there twice: each node is given back
+//! before the one in its place is taken. A list is made anew, of the nodes that it has. A type is shared. Trees nest no
+//! deeper than the text does, and lists are walked by loops.
+//!
+//! # The typed program at the end of its file
 //!
 //! What the file has so far becomes the program: its structs and objects as they are, its functions with the types that the
 //! objects have now, since an array may get its size behind a use of it, and an initial value for each static object, in the
@@ -12,12 +33,16 @@
 //! | the program | `program_of` | `program_of` |
 //! | an initial value for each static object | `initials_from`, `given_initial` | `static_initials` |
 //!
-//! No body is copied (c_type_settled). Initial values go into a table by the numbers of their objects, from which each is
+//! No body is copied (c_type_programs). Initial values go into a table by the numbers of their objects, from which each is
 //! taken once, so that none is searched for.
 #![tactic(auto)]
 
+mod exprs;
 mod initials;
 mod programs;
+mod stmts;
 
+pub use exprs::{settled_expr, settled_exprs, settled_place};
 pub use initials::static_initials;
 pub use programs::program_of;
+pub use stmts::{settled_function, settled_init, settled_inits, settled_stmt, settled_stmts};

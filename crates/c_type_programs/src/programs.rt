@@ -9,9 +9,9 @@ ghost use Rattle.c_typing.specs.Settled as settled;
 ghost use Rattle.c_type_names.specs.Worlds.{world_of};
 
 use crate::initials::static_initials;
+use crate::settled_function;
 use c_syntax::{Initials, Object, Objects, TFunction, TFunctions, TProgram};
 use c_type_names::World;
-use c_type_settled::settled_function;
 use std::alloc::{AllocError as NoMemory, Global};
 
 /// The program that a file leaves.

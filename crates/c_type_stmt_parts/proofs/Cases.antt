@@ -7,8 +7,8 @@ use Rattle.c_syntax.specs.TypedExpr.{TExprTree}
 use Rattle.c_syntax.specs.TypedParts.{texpr_type}
 use Rattle.c_typing.specs.Stmts.{Switched, SwitchValue, switched_by}
 use Rattle.c_typing.specs.World.{World, Typed, goes_on}
-use Rattle.c_case_laws.specs.CaseLaws.{HasCasesOf}
-use Rattle.c_case_laws.proofs.Expressions.{expressions_leave_cases}
+use Rattle.c_type_stmt_parts.specs.CaseLaws.{HasCasesOf}
+use Rattle.c_type_stmt_parts.proofs.Expressions.{expressions_leave_cases}
 
 same_world : (w v : World) (at : Pos) (e : TExprTree) (ty : CTypeTree) (s : Switched) → Typed s v ≡ switched_by w at e ty → w ≡ v
 same_world w v at e (Int t) s p = cc

@@ -1,2 +1,4 @@
-pub mod Results
 pub mod Cases
+pub mod Expressions
+pub mod Leaving
+pub mod Results

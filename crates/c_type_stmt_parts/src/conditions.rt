@@ -6,17 +6,16 @@ ghost use Rattle.c_written.specs.Written.{expr_tree};
 ghost use Rattle.c_written.specs.WrittenFile.{optional_tree};
 ghost use Rattle.c_syntax.specs.TypedExpr.{texpr_tree};
 ghost use Rattle.c_typing.specs.Stmts as stmts;
-ghost use Rattle.c_type_errors.specs.Views.{Answers};
+ghost use Rattle.c_type_names.specs.Views.{Answers};
 ghost use Rattle.c_type_jumps.specs.Views.{switched_tree};
 ghost use Rattle.c_type_names.specs.Worlds.{world_of};
 
 use c_syntax::{Expr, Pos, TExpr};
-use c_type_conversions::not_used;
-use c_type_errors::TypeError;
 use c_type_exprs::value;
 use c_type_jumps::{Switched, switched_by};
-use c_type_names::World;
+use c_type_names::{TypeError, World};
 use c_type_nodes::tested;
+use c_type_operators::not_used;
 
 /// A condition of the statement at this place, which is to be a scalar (C11 6.8.4.1p1, 6.8.5p2). Where it is none it is
 /// NoRule with Op `test`.

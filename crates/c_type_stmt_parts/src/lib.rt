@@ -1,3 +1,16 @@
+//! Expressions leave the cases of the switch around as they were.
+//!
+//! An expression may declare structs, enumerations and their constants, in the types of casts and sizes, and literals; but
+//! a case stands only in a statement. So the cases and the `default` of a switch that hold before its value is typed hold
+//! after it.
+//!
+//! For example, in `switch (sizeof(struct S { int a; }))` within another switch, the cases of the outer one are those that
+//! stood before the inner one.
+//!
+//! | What | Stated in `specs/` | Promised by |
+//! |---|---|---|
+//! | cases before and after an expression | `CaseLaws` | `expressions_leave_cases` |
+//!
 //! The parts of statements that hold no other statement, and the nodes of statements made of typed parts.
 //!
 //! Expressions in statements are conditions, values that are dropped, values of switches, of cases and of returns; some of
@@ -31,11 +44,13 @@ macro_rules! typed {
     };
 }
 
+mod case_laws;
 mod conditions;
 mod nodes;
 mod prefixes;
 mod returns;
 
+pub use case_laws::expressions_leave_cases;
 pub use conditions::{condition, condition_if_any, dropped, dropped_if_any, switch_value};
 pub use nodes::{
     block_node, do_while_node, empty_node, expression_node, for_node, if_node, no_else,

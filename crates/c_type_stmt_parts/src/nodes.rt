@@ -6,10 +6,10 @@ ghost use Rattle.c_syntax.specs.TypedExpr.{texpr_tree};
 ghost use Rattle.c_syntax.specs.TypedStmt as trees;
 ghost use Rattle.c_syntax.specs.TypedStmt.{tstmt_tree};
 ghost use Rattle.c_typing.specs.Stmts as stmts;
-ghost use Rattle.c_type_made.specs.Views.{made_tree};
+ghost use Rattle.c_type_decls.specs.MadeViews.{made_tree};
 
 use c_syntax::{BlockKind, Numbers, Pos, TExpr, TStmt, TStmts};
-use c_type_made::Made;
+use c_type_decls::Made;
 use std::alloc::{AllocError as NoMemory, Global};
 
 /// `;`

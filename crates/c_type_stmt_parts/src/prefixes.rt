@@ -5,16 +5,15 @@ ghost use Rattle.std.specs.Prelude.{◌≡◌};
 ghost use Rattle.c_written.specs.Written.{expr_tree};
 ghost use Rattle.c_syntax.specs.TypedStmt as trees;
 ghost use Rattle.c_syntax.specs.TypedStmt.{tstmt_tree};
-ghost use Rattle.c_type_errors.specs.Views.{Answers};
+ghost use Rattle.c_type_names.specs.Views.{Answers};
 ghost use Rattle.c_type_names.specs.Worlds.{world_of};
 ghost use Rattle.c_type_stmt_parts.specs.Forms.{Cases, Labels};
 
 use c_syntax::{Expr, IntType, Name, Pos, TStmt};
-use c_type_constants::constant_value;
-use c_type_errors::TypeError;
 use c_type_exprs::value;
 use c_type_jumps::{case_of, labelled};
-use c_type_names::World;
+use c_type_names::{TypeError, World};
+use c_type_operators::constant_value;
 
 /// A label before a statement (C11 6.8.1p3). One that the function has already is Redeclared.
 pub fn label_of(world: &mut World, at: Pos, name: &Name) -> Result<TStmt, TypeError>

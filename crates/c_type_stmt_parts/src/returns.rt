@@ -7,17 +7,15 @@ ghost use Rattle.c_written.specs.WrittenFile.{optional_tree};
 ghost use Rattle.c_syntax.specs.TypedExpr.{texpr_tree};
 ghost use Rattle.c_syntax.specs.TypedStmt.{tstmt_tree};
 ghost use Rattle.c_typing.specs.Stmts as stmts;
-ghost use Rattle.c_type_contexts.specs.Views.{context_tree};
-ghost use Rattle.c_type_errors.specs.Views.{Answers};
+ghost use Rattle.c_type_jumps.specs.ContextViews.{context_tree};
+ghost use Rattle.c_type_names.specs.Views.{Answers};
 ghost use Rattle.c_type_names.specs.Worlds.{world_of};
 ghost use Rattle.c_type_stmt_parts.specs.Forms.{Returns, ReturnsValue};
 
 use c_syntax::{CType, Expr, Pos, TExpr, TStmt};
-use c_type_contexts::Context;
-use c_type_errors::TypeError;
 use c_type_exprs::value;
-use c_type_jumps::{returned, returned_bare};
-use c_type_names::World;
+use c_type_jumps::{Context, returned, returned_bare};
+use c_type_names::{TypeError, World};
 
 /// A return from the function around (C11 6.8.6.4). With a value it is as by `=` to the function's result, and NoRule with
 /// Op `return`, the result and the value's type, where no row stores it; without one the function gives nothing, or it is

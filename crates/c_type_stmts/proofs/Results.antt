@@ -6,8 +6,8 @@ use Rattle.c_written.specs.WrittenFile.{StmtTree}
 use Rattle.c_typing.specs.Context.{Context}
 use Rattle.c_typing.specs.Decls.{Made}
 use Rattle.c_typing.specs.World.{World, Outcome, Typed, Refused}
-use Rattle.c_type_errors.specs.declared.error.TypeError.{TypeError}
-use Rattle.c_type_errors.specs.Views.{Answers, refusal_of}
+use Rattle.c_type_names.specs.declared.type_error.TypeError.{TypeError}
+use Rattle.c_type_names.specs.Views.{Answers, refusal_of}
 use Rattle.c_type_stmts.specs.Forms.{Behind}
 
 -- a result that is an outcome of one kind is one of another

@@ -1,5 +1,5 @@
 -- What stands below a switch, as typing speaks of it.
-use Rattle.c_type_made.specs.Views.{made_tree}
+use Rattle.c_type_decls.specs.MadeViews.{made_tree}
 use Rattle.c_type_stmts.specs.Forms as forms
 use Rattle.c_type_stmts.specs.declared.switches.SwitchBody.{SwitchBody}
 

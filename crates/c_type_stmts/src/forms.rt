@@ -6,18 +6,17 @@ ghost use Rattle.c_written.specs.WrittenFile as files;
 ghost use Rattle.c_written.specs.WrittenFile.{blockitems_tree, forstart_tree, optional_tree, stmt_tree};
 ghost use Rattle.c_syntax.specs.TypedStmt.{tstmt_tree};
 ghost use Rattle.c_typing.specs.Stmts.{TypesStmt, one};
-ghost use Rattle.c_type_contexts.specs.Views.{context_tree};
-ghost use Rattle.c_type_errors.specs.Views.{Answers};
+ghost use Rattle.c_type_jumps.specs.ContextViews.{context_tree};
+ghost use Rattle.c_type_names.specs.Views.{Answers};
 ghost use Rattle.c_type_names.specs.Worlds.{world_of};
 ghost use Rattle.c_type_stmts.specs.Forms.{Substatement};
 
 use crate::items::{block_items, statement};
 use crate::simple::start;
 use c_syntax::{BlockItems, BlockKind, Expr, ForHead, Pos, Stmt, TStmt};
-use c_type_contexts::Context;
-use c_type_errors::TypeError;
-use c_type_made::Made;
-use c_type_names::World;
+use c_type_decls::Made;
+use c_type_jumps::Context;
+use c_type_names::{TypeError, World};
 use c_type_stmt_parts::{
     block_node, condition, condition_if_any, do_while_node, dropped_if_any, for_node, if_node,
     no_else, while_node,

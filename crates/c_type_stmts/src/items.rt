@@ -4,9 +4,9 @@
 ghost use Rattle.c_written.specs.WrittenFile.{blockitem_tree, blockitems_tree, stmt_tree};
 ghost use Rattle.c_typing.specs.Decls as decls;
 ghost use Rattle.c_typing.specs.Stmts as stmts;
-ghost use Rattle.c_type_contexts.specs.Views.{context_tree};
-ghost use Rattle.c_type_errors.specs.Views.{Answers};
-ghost use Rattle.c_type_made.specs.Views.{made_tree};
+ghost use Rattle.c_type_jumps.specs.ContextViews.{context_tree};
+ghost use Rattle.c_type_names.specs.Views.{Answers};
+ghost use Rattle.c_type_decls.specs.MadeViews.{made_tree};
 ghost use Rattle.c_type_names.specs.Worlds.{world_of};
 ghost use Rattle.c_type_stmts.specs.Forms.{Behind, ItemForm};
 
@@ -18,10 +18,9 @@ use crate::simple::{
 };
 use crate::switches::switch_form;
 use c_syntax::{BlockItem, BlockItems, Stmt};
-use c_type_contexts::Context;
-use c_type_errors::TypeError;
-use c_type_made::Made;
-use c_type_names::World;
+use c_type_decls::Made;
+use c_type_jumps::Context;
+use c_type_names::{TypeError, World};
 
 /// The items of a block (C11 6.8.2): its automatic objects and its statements. The scope around them is the caller's.
 #[cycle(walk)]

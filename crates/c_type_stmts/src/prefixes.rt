@@ -5,19 +5,17 @@ ghost use Rattle.c_written.specs.Written.{expr_tree};
 ghost use Rattle.c_written.specs.WrittenFile as files;
 ghost use Rattle.c_written.specs.WrittenFile.{stmt_tree};
 ghost use Rattle.c_syntax.specs.TypedStmt.{tstmt_tree};
-ghost use Rattle.c_type_contexts.specs.Views.{context_tree};
-ghost use Rattle.c_type_errors.specs.Views.{Answers};
-ghost use Rattle.c_type_made.specs.Views.{made_tree};
+ghost use Rattle.c_type_jumps.specs.ContextViews.{context_tree};
+ghost use Rattle.c_type_names.specs.Views.{Answers};
+ghost use Rattle.c_type_decls.specs.MadeViews.{made_tree};
 ghost use Rattle.c_type_names.specs.Worlds.{world_of};
 ghost use Rattle.c_type_stmts.specs.Forms.{Behind, BehindPrefix};
 
 use crate::items::statement;
 use c_syntax::{Expr, Name, Pos, Stmt, TStmt};
-use c_type_contexts::Context;
-use c_type_errors::TypeError;
-use c_type_jumps::default_of;
-use c_type_made::Made;
-use c_type_names::World;
+use c_type_decls::Made;
+use c_type_jumps::{Context, default_of};
+use c_type_names::{TypeError, World};
 use c_type_stmt_parts::{case_at, label_of};
 
 /// A label and its statement (C11 6.8.1).

@@ -11,19 +11,16 @@ ghost use Rattle.c_syntax.specs.TypedStmt.{tstmt_tree};
 ghost use Rattle.c_typing.specs.Context.{Context as Surroundings};
 ghost use Rattle.c_typing.specs.Stmts.{TypesStart, TypesStmt, one};
 ghost use Rattle.c_typing.specs.World.{World as Program};
-ghost use Rattle.c_type_contexts.specs.Views.{context_tree};
-ghost use Rattle.c_type_errors.specs.Views.{Answers};
-ghost use Rattle.c_type_made.specs.Views.{made_tree};
+ghost use Rattle.c_type_jumps.specs.ContextViews.{context_tree};
+ghost use Rattle.c_type_names.specs.Views.{Answers};
+ghost use Rattle.c_type_decls.specs.MadeViews.{made_tree};
 ghost use Rattle.c_type_names.specs.Worlds.{world_of};
 ghost use Rattle.c_type_stmts.specs.Forms.{Behind, BehindDeclaration, ValueStart};
 
 use c_syntax::{Decl, Expr, ForStart, Name, Pos, TStmt};
-use c_type_contexts::Context;
-use c_type_decls::declaration;
-use c_type_errors::TypeError;
-use c_type_jumps::{allowed, goto_of};
-use c_type_made::Made;
-use c_type_names::World;
+use c_type_decls::{Made, declaration};
+use c_type_jumps::{Context, allowed, goto_of};
+use c_type_names::{TypeError, World};
 use c_type_stmt_parts::{dropped, empty_node, expression_node, return_of};
 
 /// One statement behind what stands before it, or its refusal.

@@ -7,19 +7,17 @@ ghost use Rattle.c_written.specs.WrittenFile as files;
 ghost use Rattle.c_written.specs.WrittenFile.{blockitems_tree, stmt_tree};
 ghost use Rattle.c_syntax.specs.TypedStmt.{tstmt_tree};
 ghost use Rattle.c_typing.specs.Stmts.{TypesStmt, one};
-ghost use Rattle.c_type_contexts.specs.Views.{context_tree};
-ghost use Rattle.c_type_errors.specs.Views.{Answers};
+ghost use Rattle.c_type_jumps.specs.ContextViews.{context_tree};
+ghost use Rattle.c_type_names.specs.Views.{Answers};
 ghost use Rattle.c_type_names.specs.Worlds.{world_of};
 ghost use Rattle.c_type_stmts.specs.Forms.{AddedBody, SwitchBodyForm, WrittenBody, as_block};
 ghost use Rattle.c_type_stmts.specs.Views.{body_tree};
 
 use crate::items::{block_items, statement};
 use c_syntax::{BlockItems, BlockKind, Expr, Pos, Stmt, TStmt};
-use c_type_contexts::Context;
-use c_type_errors::TypeError;
-use c_type_jumps::{Switched, begin_cases, end_cases};
-use c_type_made::Made;
-use c_type_names::World;
+use c_type_decls::Made;
+use c_type_jumps::{Context, Switched, begin_cases, end_cases};
+use c_type_names::{TypeError, World};
 use c_type_stmt_parts::{switch_node, switch_value};
 
 /// The block of a switch, which is written, or added around another statement.

@@ -7,7 +7,7 @@ use c_lexer::{LexError, lex};
 use c_parser::{ParseError, parse};
 use c_rules::{RuleError, admit};
 use c_syntax::{File, Names, Plan, TFunctions, TProgram};
-use c_type_errors::TypeError;
+use c_type_names::TypeError;
 use std::alloc::{AllocError, AllocFailed, Global};
 
 /// The most bytes of a file that is cut into tokens.

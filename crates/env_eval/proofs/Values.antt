@@ -16,7 +16,7 @@ use Rattle.num_api.specs.Spans.{Span, point, range_of, FitsSpan, unary_span, bin
 use Rattle.num_api.specs.Plain.{plain}
 use Rattle.num_api.specs.Fold.{IsFold, IsAlignment}
 use Rattle.num_api.proofs.Multiples.{zero_multiple}
-use Rattle.var_map.specs.declared.entries.Entry.{Entry}
+use Rattle.env_eval.specs.declared.entries.Entry.{Entry}
 use Rattle.env_eval.specs.States.{AllAdmit, known_in}
 use Rattle.env_eval.specs.Evaluation.{IsValue, IsNoValue}
 use Rattle.env_eval.proofs.Parts.{some_and, of_one-some, of_two-some, fits, whole_range, wider, inside, still_point, only_number, in_point, is_point, by_zero, may_be_zero, IsFactor, fold_const, fold_read, fold_unary, fold_binary}

@@ -10,7 +10,7 @@ use Rattle.num_api.specs.Spans.{Span, range_of}
 use Rattle.num_api.specs.Plain.{plain, IsPlain, MayDivide}
 use Rattle.num_api.specs.Fold.{IsFold, IsAlignment}
 use Rattle.num_api.specs.Known.{IsSharpOn}
-use Rattle.var_map.specs.declared.entries.Entry.{Entry}
+use Rattle.env_eval.specs.declared.entries.Entry.{Entry}
 use Rattle.env_eval.specs.States.{AllAdmit, known_in}
 
 -- the value r admits what the expression e comes to; the other fields are the laws of ranges and classes, by the flags of the domain

@@ -1,2 +1,5 @@
-pub mod States
+pub mod Entries
 pub mod Evaluation
+pub mod Passes
+pub mod Standings
+pub mod States

@@ -3,8 +3,8 @@ use Rattle.std.specs.Prelude.{ℕ, ℤ, ◌≡◌, List, Option, Some, None}
 use Rattle.ext_int.specs.Valuation.{value_at}
 use Rattle.num_api.specs.declared.message.Range.{Range}
 use Rattle.num_api.specs.Ranges.{all_numbers}
-use Rattle.var_map.specs.declared.entries.Entry.{Entry}
-use Rattle.var_map.specs.Entries.{value_in}
+use Rattle.env_eval.specs.declared.entries.Entry.{Entry}
+use Rattle.env_eval.specs.Entries.{value_in}
 
 -- each value admits the number of its variable
 abbrev pub AllAdmit : {V : Type 0} → (V → ℤ → Type 0) → List (Entry V) → List ℤ → Type 0

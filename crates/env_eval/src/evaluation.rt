@@ -10,9 +10,9 @@ ghost use Rattle.num_api.specs.declared.expr.NOp.TheVariants.{Quot};
 ghost use Rattle.env_eval.specs.States.{AllAdmit, known_in};
 ghost use Rattle.env_eval.specs.Evaluation.{IsValue, IsNoValue};
 
+use crate::VarMap;
 use ext_int::Ext;
 use num_api::{NExpr, NOp, Range, ValueDomain, Var};
-use var_map::VarMap;
 
 // The value of a variable.
 fn variable<V: ValueDomain>(state: &VarMap<V>, x: Var) -> V

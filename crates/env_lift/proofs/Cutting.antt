@@ -16,9 +16,9 @@ use Rattle.num_api.specs.Spans.{Span, FitsSpan, range_of}
 use Rattle.num_api.specs.Value.{value_of, unary_value, binary_value, truth, has_truth}
 use Rattle.num_api.specs.Plain.{Standing, less, at_most, greater, at_least, same, other, standing, turned, cut, cut_side, cut_sides, tested, plain, IsPlain}
 use Rattle.env_eval.proofs.Parts.{of_one-some, of_two-some}
-use Rattle.range_cuts.specs.Standings.{Stands}
-use Rattle.range_cuts.proofs.Truths.{op_stands, truth_is, turned_truth}
-use Rattle.var_map.specs.declared.entries.Entry.{Entry}
+use Rattle.env_eval.specs.Standings.{Stands}
+use Rattle.env_eval.proofs.Truths.{op_stands, truth_is, turned_truth}
+use Rattle.env_eval.specs.declared.entries.Entry.{Entry}
 use Rattle.env_eval.specs.States.{AllAdmit}
 use Rattle.env_lift.specs.Changes.{HasTruth, Compare, LiesIn}
 

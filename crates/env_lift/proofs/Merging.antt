@@ -4,10 +4,10 @@ use Rattle.ext_int.specs.Valuation.{value_at}
 use Rattle.ext_int.proofs.Ends.{lesser_mono, greater_mono, lesser_first, lesser_second, greater_first, greater_second}
 use Rattle.num_api.specs.declared.message.Range.{Range}
 use Rattle.num_api.specs.Ranges.{NoWider, IsUnder, hull, all_numbers}
-use Rattle.var_map.specs.declared.entries.Entry.{Entry}
-use Rattle.var_map.specs.Entries.{value_in}
-use Rattle.var_map.specs.Passes.{IsMerged, AllMet}
-use Rattle.var_map.proofs.Found.{merged_some, merged_none, met_at}
+use Rattle.env_eval.specs.declared.entries.Entry.{Entry}
+use Rattle.env_eval.specs.Entries.{value_in}
+use Rattle.env_eval.specs.Passes.{IsMerged, AllMet}
+use Rattle.env_eval.proofs.Found.{merged_some, merged_none, met_at}
 use Rattle.env_eval.specs.States.{AllAdmit, known_of, known_in}
 use Rattle.env_eval.proofs.Parts.{wider}
 

@@ -16,11 +16,10 @@ ghost use Rattle.num_api.specs.Lives.{is_live};
 ghost use Rattle.env_eval.specs.States.{known_of, known_in};
 ghost use Rattle.env_lift.specs.Changes.{MayAdmit, IsCut};
 
-use env_eval::eval;
+use env_eval::{VarMap, eval};
 use ext_int::{Ext, neg_low};
 use num_api::{Live, Message, NExpr, NOp, Range, Residue, ValueDomain, Var};
 use std::alloc::AllocError as NoMemory;
-use var_map::VarMap;
 
 // What is left of a variable's value where it lies in another one too; `None` only where nothing is.
 fn left_of<V: ValueDomain>(old: Option<V>, told: &V) -> Option<V>

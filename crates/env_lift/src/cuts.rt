@@ -11,16 +11,14 @@ ghost use Rattle.num_api.specs.Known.{IsSharpOn};
 ghost use Rattle.num_api.specs.Lives.{is_live};
 ghost use Rattle.num_api.specs.declared.message.Range.{Range};
 ghost use Rattle.env_eval.specs.States.{AllAdmit, known_in};
-ghost use Rattle.range_cuts.specs.Standings.{standing_of, Stands};
+ghost use Rattle.env_eval.specs.Standings.{standing_of, Stands};
 ghost use Rattle.env_lift.specs.Changes.{IsCut, LiesIn, HasTruth, Compare};
 
 use crate::changes::{narrow, part};
 use crate::inverses::{operand, operands, told_sides, with_truth};
-use env_eval::eval;
+use env_eval::{Standing, VarMap, compared, cut_range, eval, may_be, turned};
 use num_api::{Live, NExpr, NOp, ValueDomain};
-use range_cuts::{Standing, compared, cut_range, may_be, turned};
 use std::alloc::AllocError as NoMemory;
-use var_map::VarMap;
 
 // Whether the expression may have this truth.
 pub fn may_hold<V: ValueDomain>(state: &VarMap<V>, e: &NExpr, truth: bool) -> bool

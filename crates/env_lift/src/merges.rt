@@ -1,17 +1,16 @@
 // Two states at once.
 
 ghost use Rattle.std.specs.Prelude.{◌≡◌, ℕ, ℤ, ◌≤◌, ◌<◌, false, List, IsTrue, IfOk};
-ghost use Rattle.ramps.specs.Told.{Keeps};
+ghost use Rattle.num_api.specs.Told.{Keeps};
 ghost use Rattle.num_api.specs.Ranges.{NoWider, IsUnder, hull};
 ghost use Rattle.num_api.specs.declared.message.Range.{Range};
-ghost use Rattle.var_map.specs.Passes.{all_met};
+ghost use Rattle.env_eval.specs.Passes.{all_met};
 ghost use Rattle.env_eval.specs.States.{AllAdmit, known_in};
 ghost use Rattle.env_lift.specs.Laws.{total_weight};
 
-use num_api::ValueDomain;
-use ramps::{Ramp, Steps};
+use env_eval::VarMap;
+use num_api::{Ramp, Steps, ValueDomain};
 use std::alloc::{AllocError as NoMemory, Global};
-use var_map::VarMap;
 
 // The variables that both states have, each with the join of its values.
 pub fn joined<V: ValueDomain>(

@@ -11,9 +11,9 @@ ghost use Rattle.env_eval.specs.States.{known_in};
 ghost use Rattle.env_lift.specs.Changes.{IsCut, HasTruth};
 
 use crate::cuts::keep_truth;
+use env_eval::VarMap;
 use num_api::{Live, NExpr, Range, ValueDomain};
 use std::alloc::{AllocError as NoMemory, Global};
-use var_map::VarMap;
 
 /// How often a test is taken again at most, after the first time.
 const MORE: u64 = 2;

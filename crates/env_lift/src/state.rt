@@ -2,7 +2,7 @@
 
 ghost use Rattle.std.specs.Prelude.{◌≡◌, ◌&&◌, ℕ, ℤ, List, IsTrue};
 ghost use Rattle.env_eval.specs.States.{AllAdmit, known_in};
-ghost use Rattle.var_map.specs.Passes.{all_met};
+ghost use Rattle.env_eval.specs.Passes.{all_met};
 ghost use Rattle.env_lift.specs.Laws.{total_weight, known_holds_in, known_some_in, first_flag, both_flags};
 
 use crate::changes::{accepted, met};
@@ -10,16 +10,13 @@ use crate::cuts::may_hold;
 use crate::merges::{covers_all, joined, widened};
 use crate::rounds::keep_rounds;
 use crate::told::{put_facts, tell, tell_read};
-use env_eval::eval;
+use env_eval::{VarMap, eval, may_be, no_numbers};
 use num_api::{
-    Exact, ExactValue, Live, Message, Messages, NExpr, NumDomain, NumFacts, Oracle, Range, Residue,
-    ValueDomain, Var,
+    Exact, ExactValue, Live, Message, Messages, NExpr, NumDomain, NumFacts, Oracle, Ramp, Range,
+    Residue, Steps, ValueDomain, Var,
 };
-use ramps::{Ramp, Steps};
-use range_cuts::{may_be, no_numbers};
 use std::alloc::{AllocError as NoMemory, Global};
 use std::marker::Model;
-use var_map::VarMap;
 
 /// A value for some of the variables; each other may be anything. A contract sees the list of the variables
 /// with their values, by rising variable.
@@ -31,7 +28,7 @@ pub struct Env<V> {
 
 impl<V> Model for Env<V> {
     ghost use Rattle.std.specs.Prelude.{List};
-    ghost use Rattle.var_map.specs.declared.entries.Entry.{Entry};
+    ghost use Rattle.env_eval.specs.declared.entries.Entry.{Entry};
 
     ghost Value = { List (Entry V) };
 

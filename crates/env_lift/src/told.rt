@@ -3,12 +3,12 @@
 ghost use Rattle.std.specs.Prelude.{◌≡◌, ℤ, List, OnOk, IfOk};
 ghost use Rattle.ext_int.specs.Valuation.{value_at};
 ghost use Rattle.num_api.specs.Messages.{Adds, TellsOf};
-ghost use Rattle.var_map.specs.Entries.{IsRising};
+ghost use Rattle.env_eval.specs.Entries.{IsRising};
 ghost use Rattle.env_eval.specs.States.{AllAdmit};
 
+use env_eval::{Entry, VarMap};
 use num_api::{Message, Messages, NExpr, NumFacts, ValueDomain, Var};
 use std::alloc::AllocError as NoMemory;
-use var_map::{Entry, VarMap};
 
 // Puts out the range and the class of a variable.
 pub fn tell<V: ValueDomain>(x: Var, value: &V, out: &mut Messages) -> Result<(), NoMemory>

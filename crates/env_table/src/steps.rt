@@ -1,18 +1,17 @@
 // Steps over a state.
 
 ghost use Rattle.std.specs.Prelude.{◌≡◌};
-ghost use Rattle.ramps.specs.Steps.{least};
-ghost use Rattle.ramps.specs.Powers.{power_steps};
+ghost use Rattle.num_api.specs.Steps.{least};
+ghost use Rattle.num_api.specs.Powers.{power_steps};
 
 use crate::exprs::{expression, variable};
 use env_lift::Env;
 use ext_int::Ext;
 use intervals::Interval;
 use num_api::{
-    Live, Message, Messages, NExpr, NumDomain, NumFacts, Oracle, Range, Residue, Unknowing, Var,
-    settle,
+    Live, Message, Messages, NExpr, NumDomain, NumFacts, Oracle, Powers, Ramp, Range, Residue,
+    Unknowing, Var, power_step, settle,
 };
-use ramps::{Powers, Ramp, power_step};
 use residues::{Class, Pair};
 use std::alloc::{AllocError as NoMemory, Global};
 use std::mem;

@@ -5,7 +5,7 @@ use crate::tokens;
 use crate::trees::{self, Reading, read};
 use c_check::check;
 use c_syntax::{Alarm, Example, TProgram};
-use c_type_errors::TypeError;
+use c_type_names::TypeError;
 use c_written::File;
 use constant_form::{alarms_of, form_of};
 use std::alloc::{AllocError, Global};

@@ -6,9 +6,9 @@ use Rattle.std.specs.Int.RustNames.{int_le}
 use Rattle.std.proofs.lemmas.Int.{ints, by_lt_z}
 use Rattle.std.proofs.lemmas.List.Elements.{All-head, All-tail}
 use mir.Syntax.{w128}
-use Rattle.ramps.specs.Steps.{IsSmall, least, greatest, steps_above, steps_below}
-use Rattle.ramps.proofs.StepLemmas.{least-hit, least-miss}
-use Rattle.ramps.proofs.WeightLemmas.{least-ge, above-falls, greatest-le, below-falls}
+use Rattle.num_api.specs.Steps.{IsSmall, least, greatest, steps_above, steps_below}
+use Rattle.num_api.proofs.StepLemmas.{least-hit, least-miss}
+use Rattle.num_api.proofs.WeightLemmas.{least-ge, above-falls, greatest-le, below-falls}
 use Rattle.ext_int.specs.declared.Ext.{Ext}
 use Rattle.ext_int.specs.declared.Ext.TheVariants.{Low, Fin, High}
 use Rattle.ext_int.specs.Ext.{Below, Above, AtMost, holds_number}

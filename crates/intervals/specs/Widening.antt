@@ -3,7 +3,7 @@ use Rattle.std.specs.Prelude.{ℤ, List, Option, Some, None, if◌then◌else◌
 use Rattle.ext_int.specs.declared.Ext.{Ext}
 use Rattle.ext_int.specs.declared.Ext.TheVariants.{Low, Fin, High}
 use Rattle.num_api.specs.declared.message.Range.{Range}
-use Rattle.ramps.specs.Steps.{least, greatest}
+use Rattle.num_api.specs.Steps.{least, greatest}
 use Rattle.intervals.specs.declared.Interval.{Interval}
 use Rattle.intervals.specs.Interval.{least_end, greatest_end}
 use Rattle.intervals.specs.Order.{is_at_most}

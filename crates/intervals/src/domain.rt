@@ -9,7 +9,7 @@ ghost use Rattle.num_api.specs.Value.{unary_value, binary_value};
 ghost use Rattle.intervals.specs.Operations.{Decides, DecidesOne};
 ghost use Rattle.intervals.specs.Bounds.{IsBounded};
 ghost use Rattle.num_api.specs.Weight.{range_weight};
-ghost use Rattle.ramps.specs.Told.{Keeps};
+ghost use Rattle.num_api.specs.Told.{Keeps};
 ghost use Rattle.intervals.specs.Interval.{Admits, least_end, greatest_end, ends_of, class_of};
 ghost use Rattle.intervals.specs.Laws.{in_class_between, class_between_is_proper};
 ghost use Rattle.intervals.specs.Order.{includes};
@@ -19,8 +19,7 @@ use crate::Interval;
 use crate::ends::is_range;
 use crate::operators::{all_numbers, at_most, binary, number, unary};
 use crate::widening::{lower, raise};
-use num_api::{NOp, Range, Residue, ValueDomain};
-use ramps::{Ramp, Steps};
+use num_api::{NOp, Ramp, Range, Residue, Steps, ValueDomain};
 
 impl ValueDomain for Interval {
     ghost admits = { Admits };

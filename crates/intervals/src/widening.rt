@@ -1,13 +1,13 @@
 //! Where ends go when an interval is widened.
 
 ghost use Rattle.std.specs.Prelude.{◌≡◌};
-ghost use Rattle.ramps.specs.Told.{Keeps};
-ghost use Rattle.ramps.specs.Steps.{least, greatest};
+ghost use Rattle.num_api.specs.Told.{Keeps};
+ghost use Rattle.num_api.specs.Steps.{least, greatest};
 ghost use Rattle.intervals.specs.Widening.{step_or, raised, lowered};
 
 use crate::operators::at_most;
 use ext_int::Ext;
-use ramps::{Ramp, Steps};
+use num_api::{Ramp, Steps};
 
 // The greatest size of a step.
 const LIMIT: i128 = 1 << 100;

@@ -16,10 +16,10 @@ use Rattle.num_api.specs.Residues.{IsMultiple}
 use Rattle.num_api.proofs.Multiples.{multiple_along, in_from_off, off_from_in}
 use Rattle.num_api.proofs.Remainders.{rem_same, rem_low, rem_high}
 use Rattle.num_api.specs.Value.{bits_of_both, binary_value, of_two, value_of}
-use Rattle.machine_exprs.specs.Machine.{wrapped_value}
-use Rattle.machine_exprs.proofs.Values.{wrapped-has}
-use Rattle.machine_exprs.proofs.Congruences.{wrapped_same}
-use Rattle.machine_exprs.proofs.Types.{wrapped_is}
+use Rattle.machine_nums.specs.Machine.{wrapped_value}
+use Rattle.machine_nums.proofs.Values.{wrapped-has}
+use Rattle.machine_nums.proofs.ExprCongruences.{wrapped_same}
+use Rattle.machine_nums.proofs.ExprTypes.{wrapped_is}
 
 -- the bits that a number has among the low k are its remainder by 2 to k
 ones-and : (k m : ℕ) → m < 2 ^ k → bit_and (2 ^ k - 1) m ≡ m

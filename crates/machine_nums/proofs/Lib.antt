@@ -1,2 +1,12 @@
-pub mod Reaches
+pub mod ExprCongruences
+pub mod ExprTypes
 pub mod Fits
+pub mod Nodes
+pub mod OperatorCongruences
+pub mod OperatorValues
+pub mod Reaches
+pub mod Rules
+pub mod Trees
+pub mod Typed
+pub mod Values
+pub mod Wrapped

@@ -10,7 +10,7 @@ use Rattle.ext_int.specs.declared.Ext.TheVariants.{Fin}
 use Rattle.num_api.specs.declared.message.Range.{Range}
 use Rattle.num_api.specs.Ranges.{InRange}
 use Rattle.num_api.specs.Residues.{IsMultiple}
-use Rattle.machine_exprs.proofs.Types.{has_between}
+use Rattle.machine_nums.proofs.ExprTypes.{has_between}
 
 past : (a b n s : ℤ) → a ≤ℤ (b -ℤ s) → b ≤ℤ n → a ≤ℤ (n -ℤ s)
 past a b n s h i = omega (arith, ints)

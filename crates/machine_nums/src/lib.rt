@@ -1,4 +1,25 @@
-//! C's integers over any numeric domain.
+//! C's integer expressions over any numeric domain.
+//!
+//! # C's integer expressions over variables, each node with its type
+//!
+//! Every node wraps what it comes to into its type. So `x - 1` at `unsigned char` is 255 where x is 0: the
+//! exact result of the difference is -1, and the value of the node is 255.
+//!
+//! specs/MExprs.antt has the tree of an expression, without pointers, and specs/Machine.antt its value: the
+//! exact result of a node, an operator on the values of its operands, and the value, which is that result
+//! wrapped by the type's one definition in `c_written`. `MExpr::int_type` promises that a value is a number of
+//! the type, and `MExpr::untyped` that the expression without types has the exact result as its value wherever
+//! each operand's exact result fits its type.
+//!
+//! # C's operators on integers, as operators on whole numbers whose results wrap
+//!
+//! A node of an `MExpr` has an operator without a width and wraps its result into its type. Each call here
+//! gives what stands for an operator of C, and promises that its wrapped result is the one that `c_values` has
+//! for C's operator at that type. For example, `~x` at `unsigned char` is -1 - x, wrapped: 255 - x.
+//!
+//! specs/Laws.antt has what it means to stand for an operator.
+//!
+//! # C's integers over any numeric domain
 //!
 //! A state of the domain, whose variables have numbers of C's types. `set` gives a variable the value of an
 //! expression of C, `test` keeps the valuations in which an expression has a truth, and `check_range` answers
@@ -12,10 +33,31 @@
 //! type, from which a domain still tells the range of the type and the low bits.
 //!
 //! specs/Machines.antt has the state behind a machine and what lies in a type. What an expression means is
-//! `machine_exprs`' own. The laws are clauses of the calls of `Machine`.
+//! `machine_nums`' own. The laws are clauses of the calls of `Machine`.
+//!
+//! # Ranges of what C's operators on integers give, before and behind wrapping
+//!
+//! An operator on whole numbers takes the ranges of its operands to one of its exact result, and wrapping takes
+//! that to a range of the value. For example, [200, 255] and [100, 100] have sums in [300, 355], which at
+//! `unsigned char` are [44, 99]: all of them less 256. Of sums in [200, 355] only the type's numbers are known.
+//!
+//! specs/Wrapping.antt says what wrapping a range promises. The ranges are no wider than the plain rule for C's
+//! expressions, which `machine_nums` has, and points go to points.
 #![tactic(auto)]
 
+mod c_operators;
+mod expr;
 mod machine;
+mod operators;
+mod range_types;
 mod types;
+mod wrapping;
 
+pub use c_operators::{
+    Compared, arithmetic_operator, comparison_operator, complement, minus, shift_operator,
+};
+pub use expr::MExpr;
 pub use machine::Machine;
+pub use operators::{like_product, typed_range, unary_range};
+pub use range_types::{lies_in, mask, meet, type_range, wrap};
+pub use wrapping::{Way, Wrapping, wrap_range};

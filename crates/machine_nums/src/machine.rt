@@ -1,8 +1,8 @@
 // The machine.
-#![tactic(auto, using(machine_exprs::proofs::Trees::mexpr_trees, num_api::proofs::Trees::nexpr_trees))]
+#![tactic(auto, using(crate::proofs::Trees::mexpr_trees, num_api::proofs::Trees::nexpr_trees))]
 
 ghost use Rattle.std.specs.Prelude.{◌≡◌, ◌≢◌, ℕ, ◌-◌, ◌^◌, ℤ, pos, List, ◌≤◌, ◌<◌, IsTrue, false, IfSome, IfOk, OnOk, Some};
-ghost use Rattle.ramps.specs.Told.{Keeps};
+ghost use Rattle.num_api.specs.Told.{Keeps};
 ghost use Rattle.num_api.specs.Exprs.{nexpr_tree, Const, Binary};
 ghost use Rattle.num_api.specs.Ranges.{InRange, IsPoint, NoWider, IsUnder, with_range, all_numbers, holds_some, hull};
 ghost use Rattle.num_api.specs.Residues.{InResidue, IsResidue};
@@ -17,17 +17,17 @@ ghost use Rattle.num_api.specs.declared.expr.NExpr.{NExpr};
 ghost use Rattle.num_api.specs.declared.expr.NOp.TheVariants.{Add, Sub, And};
 ghost use Rattle.num_api.specs.declared.expr.Var.{Var as Variable};
 ghost use Rattle.c_written.specs.Integer.{width, least, HasNumber};
-ghost use Rattle.machine_exprs.specs.MExprs.{mexpr_tree};
-ghost use Rattle.machine_exprs.specs.Machine.{wrapped_value, exact_value, machine_value};
+ghost use Rattle.machine_nums.specs.MExprs.{mexpr_tree};
+ghost use Rattle.machine_nums.specs.Machine.{wrapped_value, exact_value, machine_value};
 ghost use Rattle.machine_nums.specs.Machines.{state_of};
 
+use crate::MExpr;
 use crate::types::{mask, range_of, shift_into};
 use c_written::IntType;
-use machine_exprs::MExpr;
 use num_api::{
-    Live, Message, Messages, NExpr, NOp, NumDomain, NumFacts, Range, Residue, Unknowing, Var,
+    Live, Message, Messages, NExpr, NOp, NumDomain, NumFacts, Ramp, Range, Residue, Steps,
+    Unknowing, Var,
 };
-use ramps::{Ramp, Steps};
 use std::alloc::{AllocError as NoMemory, Global};
 
 // The expression less the number.

@@ -3,7 +3,7 @@
 ghost use Rattle.std.specs.Prelude.{◌<◌, IfSome};
 
 use c_written::IntType;
-use machine_exprs::MExpr;
+use machine_nums::MExpr;
 use num_api::{NOp, Var};
 use std::alloc::{AllocError as NoMemory, Global};
 

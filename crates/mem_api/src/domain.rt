@@ -1,7 +1,7 @@
 // Sets of states of the language that is analysed, and their laws.
 
 ghost use Rattle.std.specs.Prelude.{◌≡◌, ◌≢◌, ℕ, ℤ, List, [], ◌∷◌, ◌<◌, length, IsTrue, true, false, Bool, Option, Some, IfOk, OnOk};
-ghost use Rattle.ramps.specs.Told.{Keeps};
+ghost use Rattle.num_api.specs.Told.{Keeps};
 ghost use Rattle.num_api.specs.Lives.{is_live};
 ghost use Rattle.c_syntax.specs.Operand.{Operand};
 ghost use Rattle.c_syntax.specs.Admission.{IsInShown, IsModerate, IsProper, Fails};
@@ -29,7 +29,7 @@ use block_mem::Scalar;
 use c_syntax::{Facts, IntType, Shown};
 use csharp::{CsCheck, CsExpr, CsProgram};
 use ext_int::Live;
-use ramps::{Ramp, Steps};
+use num_api::{Ramp, Steps};
 use std::alloc::{AllocError as NoMemory, Global};
 
 /// A set of states. It is for the program that `start` was given, and what a call is given is of that

@@ -2,12 +2,12 @@
 
 ghost use Rattle.std.specs.Prelude.{◌≡◌, ℤ, List, IfOk, Ok};
 ghost use Rattle.std.specs.Fn.{FnReturnsAt};
-ghost use Rattle.ramps.specs.Told.{Keeps};
+ghost use Rattle.num_api.specs.Told.{Keeps};
 ghost use Rattle.csharp.specs.Trees.{CsProgramTree};
 ghost use Rattle.csharp.specs.States.{State};
 
 use crate::MemDomain;
-use ramps::{Ramp, Steps};
+use num_api::{Ramp, Steps};
 use std::alloc::AllocError as NoMemory;
 
 /// Widens a set until it holds what a step makes of it. The set holds the start. The step keeps the

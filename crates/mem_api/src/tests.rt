@@ -1,8 +1,8 @@
 // The set of all states, as a small domain that keeps every law and claims none of the exact ones.
 
 ghost use Rattle.std.specs.Prelude.{◌≡◌, IfOk, length, map, false};
-ghost use Rattle.ramps.specs.Steps.{least};
-ghost use Rattle.ramps.specs.Powers.{power_steps};
+ghost use Rattle.num_api.specs.Steps.{least};
+ghost use Rattle.num_api.specs.Powers.{power_steps};
 ghost use Rattle.csharp.specs.Trees.{csexpr_tree};
 ghost use Rattle.mem_api.specs.Owned.{IsOwned, any_pointer as all_pointers, any_pointers as one_or_two, anything as of_kind};
 
@@ -11,7 +11,7 @@ use block_mem::Scalar;
 use c_syntax::{Facts, IntType, Numbers, Pointers, Shown, WrongKind};
 use csharp::{CsCheck, CsExpr, CsProgram};
 use ext_int::Live;
-use ramps::{Powers, Ramp, Steps, power_step};
+use num_api::{Powers, Ramp, Steps, power_step};
 use std::alloc::{AllocError as NoMemory, Global};
 
 /// All states of the programs that have so many objects.

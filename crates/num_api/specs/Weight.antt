@@ -1,6 +1,6 @@
 -- How far a bound can still go when it moves from step to step: the weights that domains are made of.
 use Rattle.std.specs.Prelude.{ℕ, ℤ, ◌+◌, List}
-use Rattle.ramps.specs.Steps.{steps_above, steps_below}
+use Rattle.num_api.specs.Steps.{steps_above, steps_below}
 use Rattle.ext_int.specs.declared.Ext.{Ext}
 use Rattle.ext_int.specs.declared.Ext.TheVariants.{Low, Fin, High}
 use Rattle.num_api.specs.declared.message.Range.{Range}

@@ -2,7 +2,7 @@
 #![tactic(auto, using(crate::proofs::Trees::nexpr_trees))]
 
 ghost use Rattle.std.specs.Prelude.{◌≡◌, ◌≢◌, ℕ, ℤ, List, ◌≤◌, ◌<◌, IsTrue, true, false, Bool, Option, IfSome, IfNone, IfOk, OnOk, Some, None};
-ghost use Rattle.ramps.specs.Told.{Keeps};
+ghost use Rattle.num_api.specs.Told.{Keeps};
 ghost use Rattle.num_api.specs.Exprs.{NExprTree, Read, nexpr_tree};
 ghost use Rattle.num_api.specs.Ranges.{InRange, IsPoint, NoWider, IsUnder, with_range, all_numbers, holds_some, hull};
 ghost use Rattle.num_api.specs.Residues.{InResidue, IsResidue, IsFoldResidue};
@@ -20,8 +20,7 @@ ghost use Rattle.num_api.specs.declared.message.Message.TheVariants.{Between};
 ghost use Rattle.num_api.specs.declared.expr.Var.{Var as Variable};
 ghost use Rattle.num_api.specs.declared.message.Residue.{Residue};
 
-use crate::{Live, Message, Messages, NExpr, NumFacts, Range, Residue, Var};
-use ramps::{Ramp, Steps};
+use crate::{Live, Message, Messages, NExpr, NumFacts, Ramp, Range, Residue, Steps, Var};
 use std::alloc::{AllocError as NoMemory, Global};
 
 /// What can be asked of a state. An answer speaks of the valuations that the state admits and in which

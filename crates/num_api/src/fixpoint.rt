@@ -2,10 +2,9 @@
 
 ghost use Rattle.std.specs.Prelude.{◌≡◌, ℤ, List, true, IfOk, Ok};
 ghost use Rattle.std.specs.Fn.{FnReturnsAt};
-ghost use Rattle.ramps.specs.Told.{Keeps};
+ghost use Rattle.num_api.specs.Told.{Keeps};
 
-use crate::{NumDomain, ValueDomain};
-use ramps::{Ramp, Steps};
+use crate::{NumDomain, Ramp, Steps, ValueDomain};
 use std::alloc::AllocError as NoMemory;
 
 /// Widens a value until it holds what a step makes of it. The value holds the start, and is the start

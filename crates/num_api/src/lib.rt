@@ -1,4 +1,16 @@
-//! What a numeric domain offers, and its laws.
+//! The interface of numeric domains, and the ramps by which they widen.
+//!
+//! # The steps at which widening stops
+//!
+//! A ramp answers the least step that is not below a number. For example, the powers ramp answers 63 for
+//! 33 and -32 for -33. There are finitely many steps, so whoever moves an end from step to step comes to
+//! an end. `specs/Told.antt` states what a ramp keeps (`Keeps`) and answers (`Answers`), and
+//! `specs/Powers.antt` the powers steps; `rise`, `fall` and `power_step` promise them.
+//!
+//! The steps are a list of whole numbers that only proofs see. It is a member of a type parameter
+//! `S: Steps`, since a ghost field cannot cite the contract of a closure.
+//!
+//! # What a numeric domain offers, and its laws
 //!
 //! A value domain describes sets of whole numbers, a numeric domain sets of valuations. Every law is
 //! a clause of the call that it speaks of. A law that ties two calls goes through a ghost member,
@@ -20,6 +32,7 @@ mod expr;
 mod fixpoint;
 mod lists;
 mod message;
+mod ramp;
 mod unknowing;
 mod value;
 
@@ -29,5 +42,6 @@ pub use ext_int::Live;
 pub use fixpoint::{settle, settle_value};
 pub use lists::{Messages, NumFacts};
 pub use message::{Message, Range, Residue};
+pub use ramp::{Powers, Ramp, Steps, power_step};
 pub use unknowing::Unknowing;
 pub use value::{ExactValue, ValueDomain};

@@ -1,7 +1,7 @@
 // Sets of whole numbers.
 
 ghost use Rattle.std.specs.Prelude.{◌≡◌, ℕ, ℤ, pos, List, ◌≤◌, ◌<◌, IsTrue, true, false, Bool, IfSome, IfNone, Some};
-ghost use Rattle.ramps.specs.Told.{Keeps};
+ghost use Rattle.num_api.specs.Told.{Keeps};
 ghost use Rattle.num_api.specs.Ranges.{InRange, IsPoint, NoWider, holds_some, hull};
 ghost use Rattle.num_api.specs.Residues.{InResidue, IsResidue, IsFoldResidue, IsMultiple};
 ghost use Rattle.num_api.specs.Value.{unary_value, binary_value};
@@ -13,8 +13,7 @@ ghost use Rattle.num_api.specs.declared.message.Residue.{Residue};
 ghost use Rattle.num_api.specs.declared.expr.NOp.TheVariants.{Add, Mul};
 ghost use mir.Syntax.{w128};
 
-use crate::{NOp, Range, Residue};
-use ramps::{Ramp, Steps};
+use crate::{NOp, Ramp, Range, Residue, Steps};
 
 /// A set of whole numbers.
 pub trait ValueDomain: Copy {

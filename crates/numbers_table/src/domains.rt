@@ -2,13 +2,12 @@
 
 ghost use Rattle.std.specs.Prelude.{◌≡◌, IfSome};
 ghost use Rattle.num_api.specs.Residues.{IsResidue};
-ghost use Rattle.ramps.specs.Steps.{least};
-ghost use Rattle.ramps.specs.Powers.{power_steps};
+ghost use Rattle.num_api.specs.Steps.{least};
+ghost use Rattle.num_api.specs.Powers.{power_steps};
 
 use crate::words::{Between, class, range};
 use intervals::Interval;
-use num_api::{NOp, Range, Residue, ValueDomain, settle_value};
-use ramps::{Powers, Ramp, power_step};
+use num_api::{NOp, Powers, Ramp, Range, Residue, ValueDomain, power_step, settle_value};
 use residues::{Class, Pair};
 use std::alloc::{AllocError, Global};
 

@@ -1,8 +1,8 @@
 // Maps from variables to numbers.
 
+use env_eval::VarMap;
 use num_api::Var;
 use std::alloc::{AllocError, Global};
-use var_map::VarMap;
 
 /// The line of what one map or two are asked: `count`, `get` and `without` a variable, `greatest` of what both have, `equal`
 /// and `has`.

@@ -1,10 +1,10 @@
 // The steps of powers, and their ramp.
 
 ghost use Rattle.std.specs.Prelude.{◌≡◌};
-ghost use Rattle.ramps.specs.Steps.{IsSmall, least};
-ghost use Rattle.ramps.specs.Powers.{power_steps};
+ghost use Rattle.num_api.specs.Steps.{IsSmall, least};
+ghost use Rattle.num_api.specs.Powers.{power_steps};
 
-use ramps::{Powers, Ramp, power_step};
+use num_api::{Powers, Ramp, power_step};
 use std::alloc::{AllocError, Global};
 
 /// The greatest number that a ramp is asked for.

@@ -11,8 +11,8 @@ use Rattle.num_api.specs.declared.message.Range.{Range}
 use Rattle.num_api.specs.declared.expr.NOp.TheVariants.{Not}
 use Rattle.num_api.specs.Spans.{Span, span}
 use Rattle.num_api.specs.Plain.{Standing, standing, excludes}
-use Rattle.machine_exprs.specs.MExprs.{MExprTree, Const, Read, Convert, Unary, Binary}
-use Rattle.machine_exprs.specs.Rule.{type_span, converted, value_span, side_variable, tested}
+use Rattle.machine_nums.specs.MExprs.{MExprTree, Const, Read, Convert, Unary, Binary}
+use Rattle.machine_nums.specs.Rule.{type_span, converted, value_span, side_variable, tested}
 use Rattle.csharp.specs.Trees.{CsExprTree}
 use Rattle.csharp.specs.Trees as code
 use Rattle.plain_runs.specs.SameExprs.{is_same_type, is_same_expr}

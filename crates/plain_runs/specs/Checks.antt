@@ -11,7 +11,7 @@ use Rattle.c_syntax.specs.declared.operator.TBinaryOp.TheVariants as binaries
 use Rattle.block_mem.specs.declared.types.Scalar.{Scalar}
 use Rattle.num_api.specs.Spans.{Span, span, point, may_equal}
 use Rattle.num_api.specs.Plain.{without}
-use Rattle.machine_exprs.specs.Rule.{exact_span}
+use Rattle.machine_nums.specs.Rule.{exact_span}
 use Rattle.csharp.specs.Trees.{CsExprTree, Temp, Address, Binary, CsCheckTree}
 use Rattle.plain_runs.specs.Numbers.{number_expr}
 use Rattle.plain_runs.specs.States.{Cell, Plain, given, span_of}

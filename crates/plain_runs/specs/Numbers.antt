@@ -16,8 +16,8 @@ use Rattle.block_mem.specs.declared.types.Scalar.{Scalar}
 use Rattle.block_mem.specs.declared.types.Scalar.TheVariants as scalars
 use Rattle.num_api.specs.declared.expr.NOp.{NOp}
 use Rattle.num_api.specs.declared.expr.NOp.TheVariants as ops
-use Rattle.machine_exprs.specs.MExprs.{MExprTree}
-use Rattle.machine_exprs.specs.MExprs as numbers
+use Rattle.machine_nums.specs.MExprs.{MExprTree}
+use Rattle.machine_nums.specs.MExprs as numbers
 use Rattle.csharp.specs.Trees.{CsExprTree, Const, Null, Temp, Address, Unary, Binary, Convert}
 
 -- the operators on whole numbers whose wrapped results are those of C (C11 6.5.5 to 6.5.7, 6.5.10 to 6.5.12)

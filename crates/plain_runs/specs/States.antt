@@ -9,7 +9,7 @@ use Rattle.block_mem.specs.declared.types.Value.{Value}
 use Rattle.block_mem.specs.declared.types.Value.TheVariants as values
 use Rattle.num_api.specs.declared.message.Range.{Range}
 use Rattle.num_api.specs.Spans.{Span, span, point, range_of}
-use Rattle.machine_exprs.specs.Rule.{value_span}
+use Rattle.machine_nums.specs.Rule.{value_span}
 use Rattle.c_values.specs.Accesses.{loaded_value}
 use Rattle.c_objects.specs.Opening.{address}
 use Rattle.csharp.specs.Trees.{CsExprTree, CsProgramTree}

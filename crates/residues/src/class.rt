@@ -1,7 +1,7 @@
 // Congruence classes.
 
 ghost use Rattle.std.specs.Prelude.{◌≡◌, ℤ, pos, ◌^◌, ◌≤◌, ◌<◌, ◌≤ℤ◌, true, false};
-ghost use Rattle.ramps.specs.Told.{Keeps};
+ghost use Rattle.num_api.specs.Told.{Keeps};
 ghost use Rattle.num_api.specs.Residues.{IsResidue};
 
 mod arithmetic;
@@ -15,9 +15,8 @@ mod ranges;
 use crate::numbers::remainder;
 use lattice::{holds_all, joined};
 use meeting::met;
-use num_api::{NOp, Range, Residue, ValueDomain};
+use num_api::{NOp, Ramp, Range, Residue, Steps, ValueDomain};
 use operators::{binary, unary};
-use ramps::{Ramp, Steps};
 use ranges::{range, within};
 
 /// A congruence class: the whole numbers that are one remainder up to a multiple of a modulus. A

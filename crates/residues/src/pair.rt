@@ -11,8 +11,7 @@ ghost use Rattle.residues.specs.Inward.{moved_range, HasSome, IsReduced};
 use crate::Class;
 use crate::ends::{inward, is_same, meets, number};
 use intervals::Interval;
-use num_api::{ExactValue, NOp, Range, Residue, ValueDomain};
-use ramps::{Ramp, Steps};
+use num_api::{ExactValue, NOp, Ramp, Range, Residue, Steps, ValueDomain};
 
 /// A value of two domains at once: it has the numbers that are in both. The first gives the bounds
 /// and the second the class; each bound is moved inward to the nearest number of the class, and

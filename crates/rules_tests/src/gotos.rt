@@ -1,7 +1,7 @@
 // Each call once.
 #![tactic(auto, using(c_syntax::proofs::Trees::the_trees))]
 
-use c_gotos::stray_goto;
+use c_calls::stray_goto;
 use c_syntax::{BlockKind, Numbers, Pos, TStmt, TStmts};
 use std::alloc::{AllocError, Global};
 use std::test::Fail;

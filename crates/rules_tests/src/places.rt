@@ -1,7 +1,7 @@
 // Each call once.
 #![tactic(auto, using(c_syntax::proofs::Trees::the_trees))]
 
-use c_places::{Part, Path, Touch, meet, place_of};
+use c_effects::{Part, Path, Touch, meet, place_of};
 use c_syntax::{CType, IntType, Pos, TLvalue};
 use std::test::Fail;
 

@@ -2,14 +2,14 @@
 
 ghost use Rattle.std.specs.Prelude.{◌≡◌, IfOk, IfSome, option_map, string_bytes};
 ghost use Rattle.c_syntax.specs.Types.{ctype_tree};
-ghost use Rattle.c_type_errors.specs.Views.{refusal_of};
+ghost use Rattle.c_type_names.specs.Views.{refusal_of};
 ghost use Rattle.type_text.specs.RefusalText as told;
 ghost use Rattle.type_text.specs.RefusalText.{no_rule_text, operands_text, redeclared_text};
 
 use crate::types::type_text;
 use crate::words::{construct_name, op_name};
 use c_syntax::{CType, Construct, Names, Op, Pos};
-use c_type_errors::TypeError;
+use c_type_names::TypeError;
 use std::alloc::{AllocError, Global};
 
 /// What is told of a refusal. Want of memory, which is no refusal, is answered as itself.

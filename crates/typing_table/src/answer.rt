@@ -4,9 +4,8 @@
 use crate::rows::Fault;
 use crate::spelled;
 use c_syntax::{CType, IntType, Pos};
-use c_type_conversions::Operand;
-use c_type_errors::TypeError;
-use c_type_names::Form;
+use c_type_names::{Form, TypeError};
+use c_type_operators::Operand;
 use std::alloc::{AllocError, Global};
 
 /// The letters of what an operand is: `@` and the type of a place, or the type of a value.

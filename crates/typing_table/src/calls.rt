@@ -5,8 +5,8 @@ use crate::letters::{form_of, structs};
 use crate::rows::{AT, Fault, Stack};
 use c_syntax::{CType, Name, Numbers, Object, TFunction};
 use c_type_calls::called;
-use c_type_conversions::Operand;
 use c_type_names::{Form, Meaning, World};
+use c_type_operators::Operand;
 use std::alloc::Global;
 
 /// The call of a word, as `f(i,pc)v/2`: a name, what it stands for, and the number of arguments.

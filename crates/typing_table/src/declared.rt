@@ -4,12 +4,10 @@
 use crate::answer;
 use crate::rows::Fault;
 use c_syntax::{CType, Numbers, Object, Pos, Specs, StorageWord, TFunction};
-use c_type_declarators::{DeclaredName, Shape, laid, size_or_refused};
-use c_type_errors::TypeError;
+use c_type_calls::refused_by;
+use c_type_declarators::{DeclaredName, Shape, SpecPlace, laid, size_or_refused, type_told};
 use c_type_exprs::{first_of, specs};
-use c_type_forms::{SpecPlace, type_told};
-use c_type_names::{Form, Linked, Meaning, World};
-use c_type_words::refused_by;
+use c_type_names::{Form, Linked, Meaning, TypeError, World};
 
 /// What specs tell.
 #[derive(Drop)]

@@ -6,13 +6,13 @@ use crate::letters::form_of;
 use crate::rows::{AT, Fault, Stack};
 use crate::spelled;
 use c_syntax::{CType, IntType, StepTime, StepWay};
-use c_type_changes::{assigned, compound, stepped};
-use c_type_conversions::{Operand, operand_type};
-use c_type_leaves::object_named;
-use c_type_members::{arrow, member};
+use c_type_calls::{input_read, told};
 use c_type_names::World;
-use c_type_nodes::{binary, cast, conditional, indexed, sequenced, size_of, tested, unary};
-use c_type_words::{input_read, told};
+use c_type_nodes::{
+    arrow, assigned, binary, cast, compound, conditional, indexed, member, object_named, sequenced,
+    size_of, stepped, tested, unary,
+};
+use c_type_operators::{Operand, operand_type};
 
 /// The node of a word.
 pub fn node(stack: &mut Stack, word: &str) -> Result<Operand, Fault> {

@@ -5,14 +5,12 @@ use crate::answer;
 use crate::letters::{form_of, structs};
 use crate::rows::{AT, Fault};
 use c_syntax::{CType, Name};
-use c_type_conversions::{
+use c_type_declarators::{DeclaredName, Shape, SpecPart, type_name, typedef_named};
+use c_type_names::{Form, Meaning, World};
+use c_type_operators::{
     complete_size, extent_of, is_pointer, is_same, is_same_but_const, is_scalar, is_unsized,
     is_void, keeps_const,
 };
-use c_type_declarators::{DeclaredName, Shape};
-use c_type_forms::SpecPart;
-use c_type_names::{Form, Meaning, World};
-use c_type_parts::{type_name, typedef_named};
 use std::alloc::Global;
 
 /// What a question is answered: its word, and the types that it is about.

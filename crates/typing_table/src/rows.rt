@@ -5,8 +5,8 @@ use crate::answer;
 use crate::letters::{form_of, structs};
 use crate::nodes::node;
 use c_syntax::{CType, IntType, Pos, StructDefs, TExpr, TExprs, TLvalue};
-use c_type_conversions::{Operand, value_of};
-use c_type_errors::TypeError;
+use c_type_names::TypeError;
+use c_type_operators::{Operand, value_of};
 use std::alloc::{AllocError, AllocFailed, Global};
 
 /// Why a row has no operand at its end.

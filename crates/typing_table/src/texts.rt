@@ -7,12 +7,11 @@ use crate::rows::Fault;
 use c_lexer::{LexError, lex};
 use c_parser::{ParseError, parse};
 use c_syntax::{BlockItem, BlockItems, Decl, Expr, File, Outer, Stmt};
-use c_type_addresses::{Address, static_address, static_place};
-use c_type_constants::constant_value;
-use c_type_conversions::Operand;
+use c_type_declarators::copy_form;
 use c_type_exprs::{declarator, operand};
-use c_type_forms::copy_form;
 use c_type_names::World;
+use c_type_nodes::{Address, static_address, static_place};
+use c_type_operators::{Operand, constant_value};
 use std::alloc::{AllocError, Global};
 
 /// The most bytes of a text that is cut into tokens.

@@ -4,9 +4,9 @@ use Rattle.std.specs.Prelude.{IfSome, IsSomeAnd}
 use Rattle.c_written.specs.WrittenFile.{FileTree}
 use Rattle.c_syntax.specs.Program.{TProgramTree}
 use Rattle.c_typing.specs.File.{TypesFile, NoProgram}
-use Rattle.c_type_errors.specs.Views.{refusal_of}
-use Rattle.c_type_errors.specs.declared.error.TypeError.{TypeError}
-use Rattle.c_type_errors.specs.declared.error.TypeError.TheVariants as errors
+use Rattle.c_type_names.specs.Views.{refusal_of}
+use Rattle.c_type_names.specs.declared.type_error.TypeError.{TypeError}
+use Rattle.c_type_names.specs.declared.type_error.TypeError.TheVariants as errors
 use Rattle.constant_form.specs.Tree.{ProgramTree}
 use Rattle.constant_form.specs.Form.{IsForm}
 use Rattle.verac.specs.declared.refusal.Refusal.TheVariants as refusals

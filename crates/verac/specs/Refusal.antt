@@ -4,7 +4,7 @@ use Rattle.c_written.specs.declared.place.Pos.{Pos}
 use Rattle.c_written.specs.declared.construct.Construct.{Construct}
 use Rattle.c_lexer.specs.declared.reason.Reason.{Reason}
 use Rattle.c_typing.specs.World as typing
-use Rattle.c_type_errors.specs.Views.{refusal_of}
+use Rattle.c_type_names.specs.Views.{refusal_of}
 use Rattle.verac.specs.declared.refusal.Refusal.{Refusal}
 use Rattle.verac.specs.declared.refusal.Refusal.TheVariants as refusals
 

@@ -12,7 +12,7 @@ use c_check::check;
 use c_lexer::{LexError, Reason, lex};
 use c_parser::{ParseError, parse};
 use c_syntax::{File, TProgram, Tokens};
-use c_type_errors::TypeError;
+use c_type_names::TypeError;
 use constant_form::{Expr, form_of};
 use std::alloc::{AllocError, Global};
 

@@ -1,6 +1,6 @@
 // Refusals, and the line that tells of one.
 ghost use Rattle.std.specs.Prelude.{◌≡◌, ◌++◌, codes, IfOk, IfSome, string_bytes};
-ghost use Rattle.c_type_errors.specs.Views.{refusal_of};
+ghost use Rattle.c_type_names.specs.Views.{refusal_of};
 ghost use Rattle.type_text.specs.Words.{construct_text};
 ghost use Rattle.type_text.specs.RefusalText as told;
 ghost use Rattle.verac.specs.Refusal.{refusal_tree};
@@ -8,7 +8,7 @@ ghost use Rattle.verac.specs.RefusalText.{reason_text, file_line, place_front, p
 
 use c_lexer::Reason;
 use c_syntax::{Construct, Pos};
-use c_type_errors::TypeError;
+use c_type_names::TypeError;
 use std::alloc::{AllocError, Global};
 use type_text::{construct_name, refusal_pos, refusal_text};
 

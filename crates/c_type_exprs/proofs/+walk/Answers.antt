@@ -25,10 +25,10 @@ use Rattle.c_typing.specs.Specifiers.{ConstPart, OfPlainType, StoragePart, WordP
 use Rattle.c_typing.specs.Specifiers as places
 use Rattle.c_typing.specs.Typing.{OfParameter, OfTypeName, Types, TypesArgs, TypesDeclarator, TypesEnumerators, TypesMemberNames, TypesMembers, TypesParams, TypesSpec, TypesSpecs, Valued, array_sized, enumerated, enumerator, first_of, member_made, parameter_made, struct_made, type_name, typedef_named, with_function, with_step}
 use Rattle.c_typing.specs.World.{Typed, Refused, Undeclared, goes_on, stops}
-use Rattle.c_type_conversions.specs.Views.{operand_tree}
+use Rattle.c_type_operators.specs.OperandViews.{operand_tree}
 use Rattle.c_type_declarators.specs.Views.{parameter_tree, shape_tree, step_tree}
-use Rattle.c_type_errors.specs.Views.{Answers, refusal_of}
-use Rattle.c_type_forms.specs.Views.{made_tree, part_tree}
+use Rattle.c_type_names.specs.Views.{Answers, refusal_of}
+use Rattle.c_type_declarators.specs.FormViews.{made_tree, part_tree}
 use Rattle.c_type_names.specs.Trees.{form_tree}
 use Rattle.c_type_names.specs.Worlds.{world_of}
 use Rattle.c_type_exprs.specs.Views.{ArrayStep, ConstantForm, EnumBody, FunctionStep, MemberLine, ParamForm, StepForm, StructBody, ValuedConstant, inside, members_of}

@@ -8,7 +8,7 @@ use Rattle.c_typing.specs.Specifiers.{SpecsTree, no_specs_yet}
 use Rattle.c_typing.specs.Typing.{MemberMade, TypesArgs, TypesEnumerators, TypesMemberNames, TypesMembers, TypesParams, TypesSpecs}
 use Rattle.c_typing.specs.World.{Outcome}
 use Rattle.c_type_declarators.specs.Views.{parameter_tree, shape_tree}
-use Rattle.c_type_forms.specs.Views.{made_tree}
+use Rattle.c_type_declarators.specs.FormViews.{made_tree}
 use Rattle.c_type_names.specs.Trees.{form_tree}
 use Rattle.c_type_names.specs.Worlds.{world_of}
 use Rattle.c_type_exprs.specs.Views.{members_of}

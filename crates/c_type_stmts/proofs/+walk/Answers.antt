@@ -18,10 +18,10 @@ use Rattle.c_typing.specs.Context.{inside_block, inside_loop, inside_switch}
 use Rattle.c_typing.specs.Names.{closed}
 use Rattle.c_typing.specs.Stmts.{TypesItems, no_else, one, with_cases_of, without_cases}
 use Rattle.c_typing.specs.World.{World, Typed, Refused, goes_on, stops}
-use Rattle.c_type_contexts.specs.Views.{context_tree}
-use Rattle.c_type_errors.specs.Views.{Answers, refusal_of}
+use Rattle.c_type_jumps.specs.ContextViews.{context_tree}
+use Rattle.c_type_names.specs.Views.{Answers, refusal_of}
 use Rattle.c_type_jumps.specs.Views.{switched_tree}
-use Rattle.c_type_made.specs.Views.{made_tree}
+use Rattle.c_type_decls.specs.MadeViews.{made_tree}
 use Rattle.c_type_names.specs.Worlds.{world_of}
 use Rattle.c_type_stmts.specs.Forms.{Behind, BehindPrefix, ItemForm, Substatement, SwitchBody, SwitchBodyForm}
 use Rattle.c_type_stmts.specs.Views.{body_tree}

@@ -4,8 +4,8 @@ use Rattle.c_written.specs.Sizes.{blockitem_size, blockitems_size, stmt_size}
 use Rattle.c_typing.specs.Decls.{Made, nothing_made}
 use Rattle.c_typing.specs.Stmts.{TypesItems}
 use Rattle.c_typing.specs.World.{Outcome}
-use Rattle.c_type_contexts.specs.Views.{context_tree}
-use Rattle.c_type_made.specs.Views.{made_tree}
+use Rattle.c_type_jumps.specs.ContextViews.{context_tree}
+use Rattle.c_type_decls.specs.MadeViews.{made_tree}
 use Rattle.c_type_names.specs.Worlds.{world_of}
 use Rattle.c_type_stmts.proofs.+walk.Given as goal
 

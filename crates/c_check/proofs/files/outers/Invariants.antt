@@ -3,7 +3,7 @@ use Rattle.std.specs.Prelude.{⊤}
 use Rattle.c_written.specs.WrittenFile.{outer_tree}
 use Rattle.c_typing.specs.World.{Outcome}
 use Rattle.c_typing.specs.File.{TypesOuters}
-use Rattle.c_type_contexts.specs.Views.{context_tree}
+use Rattle.c_type_jumps.specs.ContextViews.{context_tree}
 use Rattle.c_type_names.specs.Worlds.{world_of}
 use Rattle.c_check.proofs.Lines.{TypesFrom}
 use Rattle.c_check.proofs.files.outers.Given as goal

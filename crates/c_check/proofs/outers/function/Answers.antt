@@ -8,10 +8,10 @@ use Rattle.c_typing.specs.Decls.{nothing_made}
 use Rattle.c_typing.specs.File.{definition}
 use Rattle.c_typing.specs.Stmts.{TypesItems}
 use Rattle.c_typing.specs.World.{Typed, Refused, goes_on, stops}
-use Rattle.c_type_contexts.specs.Views.{context_tree}
+use Rattle.c_type_jumps.specs.ContextViews.{context_tree}
 use Rattle.c_type_declarators.specs.Views.{shape_tree}
-use Rattle.c_type_errors.specs.Views.{refusal_of}
-use Rattle.c_type_made.specs.Views.{made_tree}
+use Rattle.c_type_names.specs.Views.{refusal_of}
+use Rattle.c_type_decls.specs.MadeViews.{made_tree}
 use Rattle.c_type_names.specs.Trees.{form_tree}
 use Rattle.c_type_names.specs.Worlds.{world_of}
 use Rattle.c_check.proofs.Lines.{function_line}

@@ -14,13 +14,13 @@ use Rattle.c_written.specs.WrittenFile.{stmt_tree, blockitems_from}
 use Rattle.c_grammar.proofs.Sweep.{and_right}
 use Rattle.c_parse_steps.specs.Views.{boxed_expr, scene_of}
 use Rattle.c_written.proofs.WrittenFileTrees.{blockitem_declaration, blockitem_statement, blockitems_nil, stmt_block, stmt_default, stmt_label}
-use Rattle.c_parse_heads.specs.Kinds.{boxed_tree}
-use Rattle.c_parse_simple.specs.declared.stmt_kind.StatementKind.TheVariants as statements
+use Rattle.c_parse_stmts.specs.HeadKinds.{boxed_tree}
+use Rattle.c_parse_stmts.specs.declared.stmt_kind.StatementKind.TheVariants as statements
 use Rattle.c_parse_steps.proofs.Steps.{answer, halt, halts, if_false, if_true, stopped, passed_on, carried, stall}
-use Rattle.c_parse_simple.proofs.Starts.{statement_begins}
+use Rattle.c_parse_stmts.proofs.SimpleStarts.{statement_begins}
 use Rattle.c_parse_stmts.proofs.Starts.{label_rule}
 use Rattle.c_parse_steps.proofs.Paths.{after, begin, behind, ends, goes_so, inside, lasts, not_after, not_behind, not_inside, where_so}
-use Rattle.c_parse_simple.proofs.Steps.{not_tried, tried}
+use Rattle.c_parse_stmts.proofs.SimpleSteps.{not_tried, tried}
 use Rattle.c_parse_stmts.proofs.Steps.{for_led, held, in_scene, not_held, same_items, same_statement}
 use Rattle.c_parse_steps.proofs.Last.{same, last_part}
 use Rattle.c_parse_stmts.proofs.stmt.+statements.Goals as goal

@@ -1,6 +1,6 @@
 use Rattle.std.proofs.Common.{List, ◌++◌, take}
-use Rattle.c_places.specs.declared.touch.Touch.{Touch}
-use Rattle.c_touch_sets.specs.Held.{Holds}
+use Rattle.c_effects.specs.declared.touch.Touch.{Touch}
+use Rattle.c_effects.specs.Held.{Holds}
 use Rattle.c_sides.proofs.clash.insert_all.Given as goal
 
 abbrev pub invariant-loop-touch : goal.invariant-loop-touch

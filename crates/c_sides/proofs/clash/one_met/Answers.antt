@@ -2,8 +2,8 @@ use Rattle.std.proofs.Common.{◌||◌, sym, ap, ◌∙◌, get_or}
 use Rattle.std.specs.List.{list_any}
 use Rattle.std.proofs.lemmas.List.{take_all}
 use Rattle.std.proofs.lemmas.List.Folds.{list_any_at, list_any_more}
-use Rattle.c_places.specs.declared.touch.Touch.{Touch}
-use Rattle.c_touch_sets.specs.Met.{met}
+use Rattle.c_effects.specs.declared.touch.Touch.{Touch}
+use Rattle.c_effects.specs.Met.{met}
 use Rattle.c_sides.proofs.clash.one_met.Goals as goal
 
 pub loop-write-preserved : goal.loop-write-preserved

@@ -1,8 +1,8 @@
 use Rattle.std.proofs.Common.{◌≡◌, false, List, take}
 use Rattle.std.specs.List.{list_any}
-use Rattle.c_places.specs.declared.touch.Touch.{Touch}
-use Rattle.c_touch_sets.specs.Held.{Holds}
-use Rattle.c_touch_sets.specs.Met.{met}
+use Rattle.c_effects.specs.declared.touch.Touch.{Touch}
+use Rattle.c_effects.specs.Held.{Holds}
+use Rattle.c_effects.specs.Met.{met}
 use Rattle.c_sides.proofs.clash.one_met.Given as goal
 
 abbrev pub invariant-loop-write : goal.invariant-loop-write

@@ -5,7 +5,7 @@ use Rattle.c_syntax.specs.Types.{ctype_tree, object_tree}
 use Rattle.c_typing.specs.Decls.{numbers_from}
 use Rattle.c_typing.specs.File.{body_begins, in_body, with_counted}
 use Rattle.c_type_declarators.specs.Views.{name_tree, parameter_tree}
-use Rattle.c_type_errors.specs.Views.{refusal_of}
+use Rattle.c_type_names.specs.Views.{refusal_of}
 use Rattle.c_type_names.specs.Worlds.{world_of}
 use Rattle.c_type_bodies.specs.Views.{list_tree}
 use Rattle.c_type_bodies.proofs.Forms.{begun_by}

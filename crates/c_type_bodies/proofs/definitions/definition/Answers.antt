@@ -1,7 +1,7 @@
 use Rattle.std.proofs.Common.{ap, sym, map, Some}
 use Rattle.std.specs.Option.{option_map}
 use Rattle.c_typing.specs.File as files
-use Rattle.c_type_contexts.specs.Views.{context_tree}
+use Rattle.c_type_jumps.specs.ContextViews.{context_tree}
 use Rattle.c_type_declarators.specs.Views.{name_tree, shape_tree, step_tree}
 use Rattle.c_type_names.specs.Trees.{form_tree}
 use Rattle.c_type_names.specs.Worlds.{world_of}

@@ -5,9 +5,9 @@ use Rattle.c_syntax.specs.Types.{CTypeTree, ctype_tree}
 use Rattle.c_typing.specs.Decls.{function_declared}
 use Rattle.c_typing.specs.File.{definition_begins, body_begins, with_counted}
 use Rattle.c_typing.specs.World.{Typed}
-use Rattle.c_type_contexts.specs.Views.{context_tree}
+use Rattle.c_type_jumps.specs.ContextViews.{context_tree}
 use Rattle.c_type_declarators.specs.Views.{name_tree, parameter_tree}
-use Rattle.c_type_errors.specs.Views.{refusal_of}
+use Rattle.c_type_names.specs.Views.{refusal_of}
 use Rattle.c_type_names.specs.Worlds.{world_of}
 use Rattle.c_type_bodies.specs.Views.{by_list, list_tree}
 use Rattle.c_type_bodies.proofs.Forms.{comes}

@@ -4,10 +4,10 @@ use Rattle.c_syntax.specs.declared.op.Op.TheVariants as ops
 use Rattle.c_typing.specs.Declarators.{laid, shown}
 use Rattle.c_typing.specs.File as files
 use Rattle.c_typing.specs.World.{no_rule}
-use Rattle.c_type_contexts.specs.Views.{context_tree}
+use Rattle.c_type_jumps.specs.ContextViews.{context_tree}
 use Rattle.c_type_declarators.specs.Views.{name_tree, step_tree}
-use Rattle.c_type_errors.proofs.Steps.{refused}
-use Rattle.c_type_errors.specs.Views.{refusal_of}
+use Rattle.c_type_names.proofs.Steps.{refused}
+use Rattle.c_type_names.specs.Views.{refusal_of}
 use Rattle.c_type_names.specs.Trees.{form_tree}
 use Rattle.c_type_names.specs.Worlds.{world_of}
 use Rattle.c_type_bodies.proofs.Forms.{comes, goes_to, typedef_refused}

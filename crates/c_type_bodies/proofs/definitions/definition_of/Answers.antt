@@ -4,9 +4,9 @@ use Rattle.c_syntax.specs.Types.{ctype_tree}
 use Rattle.c_typing.specs.Declarators.{shown}
 use Rattle.c_typing.specs.File.{definition_of}
 use Rattle.c_typing.specs.World.{Plain, Unsized, no_rule}
-use Rattle.c_type_contexts.specs.Views.{context_tree}
+use Rattle.c_type_jumps.specs.ContextViews.{context_tree}
 use Rattle.c_type_declarators.specs.Views.{name_tree, step_tree}
-use Rattle.c_type_errors.proofs.Steps.{refused}
+use Rattle.c_type_names.proofs.Steps.{refused}
 use Rattle.c_type_names.specs.Trees.{form_tree}
 use Rattle.c_type_names.specs.Worlds.{world_of}
 use Rattle.c_type_bodies.specs.Views.{by_list, list_tree}

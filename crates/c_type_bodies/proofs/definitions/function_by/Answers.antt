@@ -4,9 +4,9 @@ use Rattle.c_syntax.specs.declared.op.Op.TheVariants as ops
 use Rattle.c_syntax.specs.Types.{CTypeTree, ctype_tree}
 use Rattle.c_typing.specs.Declarators.{unknown_function}
 use Rattle.c_typing.specs.World.{no_rule}
-use Rattle.c_type_contexts.specs.Views.{context_tree}
+use Rattle.c_type_jumps.specs.ContextViews.{context_tree}
 use Rattle.c_type_declarators.specs.Views.{name_tree}
-use Rattle.c_type_errors.proofs.Steps.{refused, told_as}
+use Rattle.c_type_names.proofs.Steps.{refused, told_as}
 use Rattle.c_type_names.specs.Worlds.{world_of}
 use Rattle.c_type_bodies.specs.Views.{by_list, list_tree}
 use Rattle.c_type_bodies.proofs.Forms.{comes}

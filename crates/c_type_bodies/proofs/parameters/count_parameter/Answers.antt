@@ -5,7 +5,7 @@ use Rattle.c_syntax.specs.Types.{ObjectTree, object_tree}
 use Rattle.c_typing.specs.Decls.{parameter_object, with_object, with_total}
 use Rattle.c_typing.specs.World.{World}
 use Rattle.c_type_declarators.specs.Views.{parameter_tree}
-use Rattle.c_type_errors.specs.Views.{refusal_of}
+use Rattle.c_type_names.specs.Views.{refusal_of}
 use Rattle.c_type_names.specs.Worlds.{world_of}
 use Rattle.c_type_bodies.proofs.Counting.{limit_halts, limit_passes}
 use Rattle.c_type_bodies.proofs.parameters.count_parameter.Goals as goal

@@ -2,9 +2,9 @@ use Rattle.std.proofs.Common.{◌≡◌, ◌+◌, ◌<◌, ◌≤◌, refl, ap, 
 use Rattle.std.proofs.lemmas.Option.{IfSome_then}
 use Rattle.std.proofs.lemmas.List.{length-map}
 use Rattle.c_typing.specs.Decls.{numbers_from}
-use Rattle.c_type_declared.proofs.ParameterForms.{numbers_none}
+use Rattle.c_type_decls.proofs.ParameterForms.{numbers_none}
 use Rattle.c_type_declarators.specs.Views.{parameter_tree}
-use Rattle.c_type_errors.specs.Views.{refusal_of}
+use Rattle.c_type_names.specs.Views.{refusal_of}
 use Rattle.c_type_names.specs.Worlds.{world_of}
 use Rattle.c_type_bodies.proofs.Counting.{next_counted, next_halts, none_left, next_number}
 use Rattle.c_type_bodies.proofs.parameters.count_parameters.Goals as goal

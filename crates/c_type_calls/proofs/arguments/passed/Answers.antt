@@ -9,7 +9,7 @@ use Rattle.c_syntax.specs.Types.{ctype_tree}
 use Rattle.c_syntax.specs.TypedExpr.{texpr_tree, texprs_from}
 use Rattle.c_syntax.proofs.TypedExprTrees.{texprs_nil, texprs_cons, texprs_push}
 use Rattle.c_typing.specs.Nodes.{Passes, passed}
-use Rattle.c_type_errors.specs.Views.{refusal_of}
+use Rattle.c_type_names.specs.Views.{refusal_of}
 use Rattle.c_type_calls.proofs.Passing.{behind, behind_none, behind_then, behind_passes, behind_fails, passed_more, passed_short, passed_none}
 use Rattle.c_type_calls.proofs.arguments.passed.Goals as goal
 

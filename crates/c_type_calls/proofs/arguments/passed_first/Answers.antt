@@ -8,7 +8,7 @@ use Rattle.c_syntax.specs.TypedParts.{texpr_type}
 use Rattle.c_typing.specs.World.{no_rule}
 use Rattle.c_typing.specs.Rows.{store_row}
 use Rattle.c_typing.specs.Nodes.{Fails, passed_one}
-use Rattle.c_type_errors.specs.Views.{refusal_of}
+use Rattle.c_type_names.specs.Views.{refusal_of}
 use Rattle.c_type_calls.proofs.arguments.passed_first.Goals as goal
 
 pub returns-in_ok-left-in-None : goal.returns-in_ok-left-in-None

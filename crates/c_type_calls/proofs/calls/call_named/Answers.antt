@@ -8,7 +8,7 @@ use Rattle.c_syntax.specs.declared.types.CType.TheVariants as types
 use Rattle.c_syntax.proofs.TypeTrees.{ctype_int}
 use Rattle.c_typing.specs.World.{Refused, no_rule}
 use Rattle.c_typing.specs.Nodes.{call_named}
-use Rattle.c_type_errors.proofs.Steps.{refused}
+use Rattle.c_type_names.proofs.Steps.{refused}
 use Rattle.c_type_names.specs.declared.types.Meaning.{Meaning}
 use Rattle.c_type_names.specs.Trees.{meaning_tree}
 use Rattle.c_type_names.specs.Worlds.{world_of}

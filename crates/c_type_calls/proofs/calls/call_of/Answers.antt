@@ -10,8 +10,8 @@ use Rattle.c_syntax.proofs.TypeTrees.{ctype_function}
 use Rattle.c_typing.specs.World.{Refused, Typed, no_rule}
 use Rattle.c_typing.specs.Operands.{Value}
 use Rattle.c_typing.specs.Nodes.{call_node, result_of, params_of, passed}
-use Rattle.c_type_errors.specs.Views.{refusal_of}
-use Rattle.c_type_errors.proofs.Steps.{refused, when_true, when_false}
+use Rattle.c_type_names.specs.Views.{refusal_of}
+use Rattle.c_type_names.proofs.Steps.{refused, when_true, when_false}
 use Rattle.c_type_names.specs.Worlds.{world_of}
 use Rattle.c_type_calls.proofs.Passing.{counted}
 use Rattle.c_type_calls.proofs.calls.call_of.Goals as goal

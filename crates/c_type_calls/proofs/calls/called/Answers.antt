@@ -3,8 +3,8 @@ use Rattle.std.specs.Prelude.{None}
 use Rattle.c_syntax.specs.TypedExpr.{texprs_tree}
 use Rattle.c_typing.specs.Names.{input_type}
 use Rattle.c_typing.specs.Nodes.{call_named}
-use Rattle.c_type_conversions.specs.Views.{operand_tree}
-use Rattle.c_type_errors.proofs.Steps.{so}
+use Rattle.c_type_operators.specs.OperandViews.{operand_tree}
+use Rattle.c_type_names.proofs.Steps.{so}
 use Rattle.c_type_names.specs.Worlds.{world_of}
 use Rattle.c_type_calls.proofs.Passing.{called_by_name}
 use Rattle.c_type_calls.proofs.calls.called.Goals as goal

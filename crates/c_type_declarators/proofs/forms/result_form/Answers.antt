@@ -7,7 +7,7 @@ use Rattle.c_written.specs.declared.construct.Construct.TheVariants as construct
 use Rattle.c_typing.specs.World.{no_rule, Callable, Typed, Refused, Unsupported}
 use Rattle.c_typing.specs.Declarators.{result_form, types_of_params}
 use Rattle.c_type_names.specs.Worlds.{world_of}
-use Rattle.c_type_errors.proofs.Steps.{refused}
+use Rattle.c_type_names.proofs.Steps.{refused}
 use Rattle.c_type_declarators.specs.Views.{parameter_tree}
 use Rattle.c_type_declarators.proofs.Steps.{other_result}
 use Rattle.c_type_declarators.proofs.forms.result_form.Goals as goal

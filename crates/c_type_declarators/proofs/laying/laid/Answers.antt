@@ -3,7 +3,7 @@ use Rattle.std.proofs.lemmas.Grind.{common_steps}
 use Rattle.std.proofs.lemmas.List.{map-append}
 use Rattle.std.proofs.lemmas.Option.{IfSome_then}
 use Rattle.c_typing.specs.Declarators as declarators
-use Rattle.c_type_errors.specs.Views.{refusal_of}
+use Rattle.c_type_names.specs.Views.{refusal_of}
 use Rattle.c_type_names.specs.Trees.{form_tree}
 use Rattle.c_type_names.specs.Worlds.{world_of}
 use Rattle.c_type_declarators.specs.Views.{step_tree}

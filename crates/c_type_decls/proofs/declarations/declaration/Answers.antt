@@ -7,11 +7,11 @@ use Rattle.c_typing.specs.Decls.{TypesDecl, TypesInitDeclarators, is_struct_alon
 use Rattle.c_typing.specs.Specifiers.{OfDeclaration, no_specs_yet, type_told}
 use Rattle.c_typing.specs.Typing.{TypesSpecs, first_of}
 use Rattle.c_typing.specs.World.{Typed, Refused, goes_on, stops}
-use Rattle.c_type_contexts.specs.Views.{context_tree}
-use Rattle.c_type_errors.specs.Views.{refusal_of}
+use Rattle.c_type_jumps.specs.ContextViews.{context_tree}
+use Rattle.c_type_names.specs.Views.{refusal_of}
 use Rattle.c_type_exprs.proofs.Results.{by}
-use Rattle.c_type_forms.specs.Views as forms
-use Rattle.c_type_made.specs.Views.{made_tree}
+use Rattle.c_type_declarators.specs.FormViews as forms
+use Rattle.c_type_decls.specs.MadeViews.{made_tree}
 use Rattle.c_type_names.specs.Trees.{form_tree}
 use Rattle.c_type_names.specs.Worlds.{world_of}
 use Rattle.c_type_decls.proofs.declarations.declaration.Goals as goal

@@ -3,8 +3,8 @@ use Rattle.std.specs.Prelude.{map}
 use Rattle.c_written.specs.WrittenDecl.{initdeclarator_tree}
 use Rattle.c_typing.specs.Decls.{Made, nothing_made, TypesInitDeclarators}
 use Rattle.c_typing.specs.World.{Outcome}
-use Rattle.c_type_contexts.specs.Views.{context_tree}
-use Rattle.c_type_made.specs.Views.{made_tree}
+use Rattle.c_type_jumps.specs.ContextViews.{context_tree}
+use Rattle.c_type_decls.specs.MadeViews.{made_tree}
 use Rattle.c_type_names.specs.Trees.{form_tree}
 use Rattle.c_type_names.specs.Worlds.{world_of}
 use Rattle.c_type_decls.proofs.declarations.declarators.Given as goal

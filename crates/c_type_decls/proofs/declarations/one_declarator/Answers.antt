@@ -3,12 +3,12 @@ use Rattle.std.proofs.lemmas.Option.{IfSome_then}
 use Rattle.c_written.specs.WrittenDecl.{init_tree, initdeclarator_tree}
 use Rattle.c_typing.specs.Decls.{declared, TypesInitOf}
 use Rattle.c_typing.specs.World.{goes_on, stops}
-use Rattle.c_type_contexts.specs.Views.{context_tree}
+use Rattle.c_type_jumps.specs.ContextViews.{context_tree}
 use Rattle.c_type_declarators.specs.Views.{shape_tree}
-use Rattle.c_type_declared.specs.Views.{declares_tree}
-use Rattle.c_type_errors.specs.Views.{refusal_of}
+use Rattle.c_type_decls.specs.DeclaredViews.{declares_tree}
+use Rattle.c_type_names.specs.Views.{refusal_of}
 use Rattle.c_type_exprs.proofs.Results.{by}
-use Rattle.c_type_made.specs.Views.{made_tree}
+use Rattle.c_type_decls.specs.MadeViews.{made_tree}
 use Rattle.c_type_names.specs.Trees.{form_tree}
 use Rattle.c_type_names.specs.Worlds.{world_of}
 use Rattle.c_type_decls.specs.Forms.{OneDeclarator}

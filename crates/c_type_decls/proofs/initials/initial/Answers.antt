@@ -5,9 +5,9 @@ use Rattle.std.specs.declared.alloc.Global.{Global}
 use Rattle.c_written.specs.declared.declaration.Init.{Init}
 use Rattle.c_written.specs.WrittenDecl.{init_tree}
 use Rattle.c_typing.specs.Decls as decls
-use Rattle.c_type_declared.specs.Views.{declares_tree, now_tree}
-use Rattle.c_type_errors.specs.Views.{Answers}
-use Rattle.c_type_made.specs.Views.{made_tree}
+use Rattle.c_type_decls.specs.DeclaredViews.{declares_tree, now_tree}
+use Rattle.c_type_names.specs.Views.{Answers}
+use Rattle.c_type_decls.specs.MadeViews.{made_tree}
 use Rattle.c_type_names.specs.Worlds.{world_of}
 use Rattle.c_type_decls.proofs.initials.initial.Goals as goal
 

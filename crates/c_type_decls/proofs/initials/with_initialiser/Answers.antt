@@ -4,11 +4,11 @@ use Rattle.c_written.specs.WrittenDecl.{init_tree}
 use Rattle.c_typing.specs.Decls as decls
 use Rattle.c_typing.specs.Inits.{TypesInit}
 use Rattle.c_typing.specs.World.{Typed, Refused, goes_on, stops}
-use Rattle.c_type_declared.specs.Views.{now_tree}
-use Rattle.c_type_errors.specs.Views.{refusal_of}
+use Rattle.c_type_decls.specs.DeclaredViews.{now_tree}
+use Rattle.c_type_names.specs.Views.{refusal_of}
 use Rattle.c_type_exprs.proofs.Results.{by}
 use Rattle.c_type_fills.specs.Views.{by_tree}
-use Rattle.c_type_made.specs.Views.{made_tree}
+use Rattle.c_type_decls.specs.MadeViews.{made_tree}
 use Rattle.c_type_names.specs.Worlds.{world_of}
 use Rattle.c_type_decls.specs.Forms.{WithInitialiser}
 use Rattle.c_type_decls.proofs.initials.with_initialiser.Goals as goal

@@ -2,8 +2,8 @@ use Rattle.std.proofs.Common.{ap, sym, if◌then◌else◌}
 use Rattle.std.proofs.lemmas.Bool.{le-leb}
 use Rattle.c_typing.specs.Nodes.{number}
 use Rattle.c_typing.specs.World.{Refused, Undeclared}
-use Rattle.c_type_conversions.specs.Views.{operand_tree}
-use Rattle.c_type_errors.proofs.Steps.{so}
+use Rattle.c_type_operators.specs.OperandViews.{operand_tree}
+use Rattle.c_type_names.proofs.Steps.{so}
 use Rattle.c_type_exprs.proofs.leaves.integer_constant.Goals as goal
 
 pub returns-then-constant-le2 : goal.returns-then-constant-le2

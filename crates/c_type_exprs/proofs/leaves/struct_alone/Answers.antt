@@ -1,8 +1,8 @@
 use Rattle.std.proofs.Common.{ap}
 use Rattle.std.proofs.lemmas.Option.{IfSome_then}
 use Rattle.c_typing.specs.World.{Typed, Refused, goes_on, stops}
-use Rattle.c_type_errors.specs.Views.{refusal_of}
-use Rattle.c_type_forms.specs.Views.{part_tree}
+use Rattle.c_type_names.specs.Views.{refusal_of}
+use Rattle.c_type_declarators.specs.FormViews.{part_tree}
 use Rattle.c_type_names.specs.Worlds.{world_of}
 use Rattle.c_type_exprs.proofs.Lines.{struct_line}
 use Rattle.c_type_exprs.proofs.leaves.struct_alone.Goals as goal

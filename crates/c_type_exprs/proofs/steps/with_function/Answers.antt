@@ -4,7 +4,7 @@ use Rattle.c_typing.specs.Names.{closed}
 use Rattle.c_typing.specs.Typing.{with_step}
 use Rattle.c_typing.specs.World.{Typed}
 use Rattle.c_type_declarators.specs.Views.{parameter_tree, shape_tree}
-use Rattle.c_type_errors.proofs.Steps.{so}
+use Rattle.c_type_names.proofs.Steps.{so}
 use Rattle.c_type_names.specs.Trees.{binding_tree, tag_tree}
 use Rattle.c_type_names.specs.Worlds.{world_of}
 use Rattle.c_type_exprs.proofs.steps.with_function.Goals as goal

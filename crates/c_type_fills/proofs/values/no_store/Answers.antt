@@ -3,7 +3,7 @@ use Rattle.std.specs.Prelude.{Option, Some, None}
 use Rattle.c_syntax.specs.declared.op.Op.TheVariants as ops
 use Rattle.c_syntax.specs.Types.{CTypeTree, ctype_tree}
 use Rattle.c_typing.specs.World.{no_rule}
-use Rattle.c_type_errors.proofs.Steps.{told_as, when_true, when_false}
+use Rattle.c_type_names.proofs.Steps.{told_as, when_true, when_false}
 use Rattle.c_type_names.specs.Worlds.{world_of}
 use Rattle.c_type_fills.proofs.values.no_store.Goals as goal
 

@@ -8,7 +8,7 @@ use Rattle.c_written.specs.Sizes.{inits_size}
 use Rattle.c_written.proofs.WrittenDeclTrees.{init_braces, init_value, inits_cons, inits_nil}
 use Rattle.c_syntax.specs.Types.{ctype_tree}
 use Rattle.c_typing.specs.World.{NotConstant, Refused}
-use Rattle.c_type_errors.specs.Views.{refusal_of}
+use Rattle.c_type_names.specs.Views.{refusal_of}
 use Rattle.c_type_names.specs.Worlds.{world_of}
 use Rattle.c_type_inits.specs.Forms.{ListInBraces}
 use Rattle.c_type_inits.proofs.Lines.{expression_line, inner_list_line, no_list_line}

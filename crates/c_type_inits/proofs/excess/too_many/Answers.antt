@@ -5,7 +5,7 @@ use Rattle.c_syntax.specs.TypedExpr.{texpr_tree}
 use Rattle.c_typing.specs.Inits as inits
 use Rattle.c_typing.specs.Typing.{Types, Valued}
 use Rattle.c_typing.specs.World.{Refused, goes_on, stops}
-use Rattle.c_type_errors.specs.Views.{refusal_of}
+use Rattle.c_type_names.specs.Views.{refusal_of}
 use Rattle.c_type_names.specs.Worlds.{world_of}
 use Rattle.c_type_inits.proofs.Results.{typed_in, refused_in}
 use Rattle.c_type_inits.proofs.excess.too_many.Goals as goal

@@ -4,7 +4,7 @@ use Rattle.c_syntax.specs.Types.{ctype_tree}
 use Rattle.c_typing.specs.CurrentObject.{is_text}
 use Rattle.c_typing.specs.Inits.{ByText, ByValue, whole_part}
 use Rattle.c_type_fills.specs.Views.{by_tree}
-use Rattle.c_type_init_places.specs.Views.{frame_tree}
+use Rattle.c_type_fills.specs.RoomViews.{frame_tree}
 use Rattle.c_type_names.specs.Worlds.{world_of}
 use Rattle.c_type_inits.specs.Forms.{ByLiteral}
 use Rattle.c_type_inits.proofs.Results.{by, if_so, if_not}

@@ -5,8 +5,8 @@ use Rattle.std.proofs.Common.{sym, ap, ◌∙◌, subst}
 use Rattle.c_written.specs.Written.{expr_tree}
 use Rattle.c_syntax.specs.Types.{ctype_tree}
 use Rattle.c_typing.specs.Inits as inits
-use Rattle.c_type_errors.specs.Views.{Answers}
-use Rattle.c_type_init_places.specs.Views.{frame_tree}
+use Rattle.c_type_names.specs.Views.{Answers}
+use Rattle.c_type_fills.specs.RoomViews.{frame_tree}
 use Rattle.c_type_names.specs.Worlds.{world_of}
 use Rattle.c_type_fills.specs.Views.{by_tree}
 use Rattle.c_type_inits.specs.Forms as forms

@@ -12,8 +12,8 @@ use Rattle.c_typing.specs.CurrentObject as objects
 use Rattle.c_typing.specs.Inits as inits
 use Rattle.c_typing.specs.Inits.{TypesItems}
 use Rattle.c_typing.specs.World.{Typed, Refused, Outcome, Is, goes_on, stops}
-use Rattle.c_type_errors.specs.Views.{Answers, refusal_of}
-use Rattle.c_type_init_places.specs.Views.{aggregates_tree, part_tree}
+use Rattle.c_type_names.specs.Views.{Answers, refusal_of}
+use Rattle.c_type_fills.specs.RoomViews.{aggregates_tree, part_tree}
 use Rattle.c_type_names.specs.Worlds.{world_of}
 use Rattle.c_type_inits.specs.Forms.{ItemForm, ListInBraces, ListInPart, ListItem}
 use Rattle.c_type_inits.specs.Views.{filled_tree}

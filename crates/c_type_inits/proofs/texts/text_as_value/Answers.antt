@@ -2,7 +2,7 @@ use Rattle.std.proofs.Common.{ap, ◌∙◌, [], ◌∷◌, ◌++◌, map}
 use Rattle.std.proofs.lemmas.Option.{IfSome_then}
 use Rattle.c_syntax.specs.TypedStmt.{tinit_tree}
 use Rattle.c_typing.specs.World.{Typed, goes_on, stops}
-use Rattle.c_type_errors.specs.Views.{refusal_of}
+use Rattle.c_type_names.specs.Views.{refusal_of}
 use Rattle.c_type_names.specs.Worlds.{world_of}
 use Rattle.c_type_inits.proofs.texts.text_as_value.Goals as goal
 

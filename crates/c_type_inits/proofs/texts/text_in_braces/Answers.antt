@@ -5,7 +5,7 @@ use Rattle.c_syntax.specs.TypedStmt.{tinit_tree}
 use Rattle.c_typing.specs.CurrentObject.{Frame}
 use Rattle.c_typing.specs.Inits as inits
 use Rattle.c_typing.specs.World.{Typed, goes_on, stops}
-use Rattle.c_type_errors.specs.Views.{refusal_of}
+use Rattle.c_type_names.specs.Views.{refusal_of}
 use Rattle.c_type_names.specs.Worlds.{world_of}
 use Rattle.c_type_inits.proofs.texts.text_in_braces.Goals as goal
 

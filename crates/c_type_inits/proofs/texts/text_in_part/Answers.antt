@@ -1,8 +1,8 @@
 use Rattle.std.proofs.Common.{ap}
 use Rattle.std.proofs.lemmas.Option.{IfSome_then}
 use Rattle.c_typing.specs.World.{Typed, goes_on, stops}
-use Rattle.c_type_errors.specs.Views.{refusal_of}
-use Rattle.c_type_init_places.specs.Views.{aggregates_tree, part_tree}
+use Rattle.c_type_names.specs.Views.{refusal_of}
+use Rattle.c_type_fills.specs.RoomViews.{aggregates_tree, part_tree}
 use Rattle.c_type_names.specs.Worlds.{world_of}
 use Rattle.c_type_inits.proofs.texts.text_in_part.Goals as goal
 

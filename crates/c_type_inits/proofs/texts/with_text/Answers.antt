@@ -3,7 +3,7 @@ use Rattle.c_syntax.specs.TypedStmt.{tinit_tree}
 use Rattle.c_typing.specs.CurrentObject as objects
 use Rattle.c_typing.specs.Inits as inits
 use Rattle.c_typing.specs.World.{Is}
-use Rattle.c_type_init_places.specs.Views.{part_tree}
+use Rattle.c_type_fills.specs.RoomViews.{part_tree}
 use Rattle.c_type_names.specs.Worlds.{world_of}
 use Rattle.c_type_inits.specs.Forms.{TextAsValue}
 use Rattle.c_type_inits.proofs.Results.{by, if_so, if_not}

@@ -5,8 +5,8 @@ use Rattle.c_typing.specs.CurrentObject as objects
 use Rattle.c_typing.specs.CurrentObject.{Fills}
 use Rattle.c_typing.specs.Inits as inits
 use Rattle.c_typing.specs.World.{Typed, goes_on, stops}
-use Rattle.c_type_errors.specs.Views.{refusal_of}
-use Rattle.c_type_init_places.specs.Views.{aggregates_tree, part_tree}
+use Rattle.c_type_names.specs.Views.{refusal_of}
+use Rattle.c_type_fills.specs.RoomViews.{aggregates_tree, part_tree}
 use Rattle.c_type_names.specs.Worlds.{world_of}
 use Rattle.c_type_inits.proofs.values.value_in_part.Goals as goal
 

@@ -5,8 +5,8 @@ use Rattle.c_written.specs.Written.{expr_tree}
 use Rattle.c_syntax.specs.Types.{ctype_tree}
 use Rattle.c_typing.specs.CurrentObject as objects
 use Rattle.c_typing.specs.World.{Refused}
-use Rattle.c_type_errors.specs.Views.{refusal_of}
-use Rattle.c_type_init_places.specs.Views.{aggregates_tree, part_tree}
+use Rattle.c_type_names.specs.Views.{refusal_of}
+use Rattle.c_type_fills.specs.RoomViews.{aggregates_tree, part_tree}
 use Rattle.c_type_names.specs.Worlds.{world_of}
 use Rattle.c_type_inits.specs.Forms.{ValueInPart, ValueItem, OneTooMany}
 use Rattle.c_type_inits.specs.Views.{filled_tree}

@@ -3,7 +3,7 @@ use Rattle.std.specs.Prelude.{option_map}
 use Rattle.c_syntax.specs.declared.op.Op.TheVariants as ops
 use Rattle.c_syntax.specs.Types.{CTypeTree, ctype_tree}
 use Rattle.c_typing.specs.World.{no_rule}
-use Rattle.c_type_errors.proofs.Steps.{told_as}
+use Rattle.c_type_names.proofs.Steps.{told_as}
 use Rattle.c_type_names.specs.Worlds.{world_of}
 use Rattle.c_type_jumps.proofs.returns.no_value.Goals as goal
 

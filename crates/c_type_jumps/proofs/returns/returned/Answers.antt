@@ -8,7 +8,7 @@ use Rattle.c_syntax.specs.TypedStmt.{TStmtTrees}
 use Rattle.c_typing.specs.World.{Outcome, Refused, no_rule}
 use Rattle.c_typing.specs.Rows.{store_row}
 use Rattle.c_typing.specs.Stmts.{returned, returned_as}
-use Rattle.c_type_errors.proofs.Steps.{refused}
+use Rattle.c_type_names.proofs.Steps.{refused}
 use Rattle.c_type_names.specs.Worlds.{world_of}
 use Rattle.c_type_jumps.proofs.returns.returned.Goals as goal
 

@@ -6,7 +6,7 @@ use Rattle.c_syntax.specs.TypedStmt.{TStmtTree}
 use Rattle.c_syntax.proofs.TypeTrees.{ctype_void, not_void}
 use Rattle.c_typing.specs.World.{Typed, no_rule}
 use Rattle.c_typing.specs.Stmts.{one, returned_bare}
-use Rattle.c_type_errors.proofs.Steps.{refused}
+use Rattle.c_type_names.proofs.Steps.{refused}
 use Rattle.c_type_names.specs.Worlds.{world_of}
 use Rattle.c_type_jumps.proofs.Bare.{bare_refused}
 use Rattle.c_type_jumps.proofs.returns.returned_bare.Goals as goal

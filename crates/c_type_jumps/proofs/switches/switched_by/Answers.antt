@@ -6,7 +6,7 @@ use Rattle.c_syntax.specs.TypedExpr.{texpr_tree}
 use Rattle.c_syntax.specs.TypedParts.{texpr_type}
 use Rattle.c_typing.specs.World.{no_rule}
 use Rattle.c_typing.specs.Stmts.{switched_by}
-use Rattle.c_type_errors.proofs.Steps.{refused}
+use Rattle.c_type_names.proofs.Steps.{refused}
 use Rattle.c_type_names.specs.Worlds.{world_of}
 use Rattle.c_type_jumps.proofs.switches.switched_by.Goals as goal
 

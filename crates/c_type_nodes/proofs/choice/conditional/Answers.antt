@@ -4,8 +4,8 @@ use Rattle.c_syntax.specs.Types.{ctype_tree}
 use Rattle.c_syntax.specs.declared.op.Op.TheVariants as ops
 use Rattle.c_typing.specs.Rows as rows
 use Rattle.c_typing.specs.World.{no_rule, Refused}
-use Rattle.c_type_conversions.specs.Views.{operand_tree}
-use Rattle.c_type_errors.proofs.Steps.{so, refused, when_true, when_false}
+use Rattle.c_type_operators.specs.OperandViews.{operand_tree}
+use Rattle.c_type_names.proofs.Steps.{so, refused, when_true, when_false}
 use Rattle.c_type_nodes.proofs.choice.conditional.Goals as goal
 
 pub returns-then-is_scalar : goal.returns-then-is_scalar

@@ -4,7 +4,7 @@ use Rattle.c_syntax.specs.Types.{ctype_tree}
 use Rattle.c_syntax.specs.declared.op.Op.TheVariants as ops
 use Rattle.c_typing.specs.Rows as rows
 use Rattle.c_typing.specs.World.{no_rule, Refused}
-use Rattle.c_type_errors.proofs.Steps.{refused, when_false}
+use Rattle.c_type_names.proofs.Steps.{refused, when_false}
 use Rattle.c_type_nodes.proofs.choice.tested.Goals as goal
 
 pub returns-else-is_scalar : goal.returns-else-is_scalar

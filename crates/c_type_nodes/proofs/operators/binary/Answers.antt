@@ -5,8 +5,8 @@ use Rattle.c_syntax.specs.TypedExpr.{texpr_tree}
 use Rattle.c_typing.specs.Nodes as nodes
 use Rattle.c_typing.specs.Rows as rows
 use Rattle.c_typing.specs.World.{no_rule}
-use Rattle.c_type_conversions.specs.Views.{operand_tree}
-use Rattle.c_type_errors.proofs.Steps.{so, for_types}
+use Rattle.c_type_operators.specs.OperandViews.{operand_tree}
+use Rattle.c_type_names.proofs.Steps.{so, for_types}
 use Rattle.c_type_nodes.proofs.operators.binary.Goals as goal
 
 pub returns : goal.returns

@@ -4,8 +4,8 @@ use Rattle.c_syntax.specs.declared.op.Op.TheVariants as ops
 use Rattle.c_typing.specs.Nodes as nodes
 use Rattle.c_typing.specs.Rows as rows
 use Rattle.c_typing.specs.World.{no_rule}
-use Rattle.c_type_conversions.specs.Views.{operand_tree}
-use Rattle.c_type_errors.proofs.Steps.{for_types}
+use Rattle.c_type_operators.specs.OperandViews.{operand_tree}
+use Rattle.c_type_names.proofs.Steps.{for_types}
 use Rattle.c_type_nodes.proofs.operators.indexed.Goals as goal
 
 pub returns : goal.returns

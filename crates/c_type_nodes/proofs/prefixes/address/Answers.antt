@@ -1,7 +1,7 @@
 use Rattle.std.proofs.Common.{ap, sym}
 use Rattle.c_typing.specs.Nodes as nodes
-use Rattle.c_type_conversions.specs.Views.{operand_tree}
-use Rattle.c_type_errors.proofs.Steps.{so}
+use Rattle.c_type_operators.specs.OperandViews.{operand_tree}
+use Rattle.c_type_names.proofs.Steps.{so}
 use Rattle.c_type_nodes.proofs.prefixes.address.Goals as goal
 
 pub returns : goal.returns

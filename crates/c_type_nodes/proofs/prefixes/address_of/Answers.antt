@@ -4,7 +4,7 @@ use Rattle.c_syntax.specs.Types.{ctype_tree}
 use Rattle.c_syntax.specs.declared.op.Op.TheVariants as ops
 use Rattle.c_typing.specs.Operands as operands
 use Rattle.c_typing.specs.World.{no_rule, Refused}
-use Rattle.c_type_errors.proofs.Steps.{refused, when_true}
+use Rattle.c_type_names.proofs.Steps.{refused, when_true}
 use Rattle.c_type_nodes.proofs.prefixes.address_of.Goals as goal
 
 pub returns-then-is_unsized : goal.returns-then-is_unsized

@@ -3,9 +3,9 @@ use Rattle.c_syntax.specs.TypedExpr.{texpr_tree}
 use Rattle.c_typing.specs.Nodes as nodes
 use Rattle.c_typing.specs.Rows as rows
 use Rattle.c_typing.specs.World.{no_rule}
-use Rattle.c_type_arithmetic.specs.Views.{sign_at}
-use Rattle.c_type_conversions.specs.Views.{operand_tree}
-use Rattle.c_type_errors.proofs.Steps.{for_type}
+use Rattle.c_type_operators.specs.ArithmeticViews.{sign_at}
+use Rattle.c_type_operators.specs.OperandViews.{operand_tree}
+use Rattle.c_type_names.proofs.Steps.{for_type}
 use Rattle.c_type_nodes.proofs.prefixes.signed.Goals as goal
 
 pub returns : goal.returns

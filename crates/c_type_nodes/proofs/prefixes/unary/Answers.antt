@@ -5,8 +5,8 @@ use Rattle.c_syntax.specs.declared.operator.TUnaryOp.TheVariants as unaries
 use Rattle.c_syntax.specs.declared.operator.DerefKind.TheVariants as derefs
 use Rattle.c_typing.specs.Nodes as nodes
 use Rattle.c_typing.specs.Rows as rows
-use Rattle.c_type_conversions.specs.Views.{operand_tree}
-use Rattle.c_type_errors.proofs.Steps.{so}
+use Rattle.c_type_operators.specs.OperandViews.{operand_tree}
+use Rattle.c_type_names.proofs.Steps.{so}
 use Rattle.c_type_nodes.proofs.prefixes.unary.Goals as goal
 
 pub returns-in-AddressOf : goal.returns-in-AddressOf

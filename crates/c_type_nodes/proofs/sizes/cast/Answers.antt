@@ -4,7 +4,7 @@ use Rattle.c_syntax.specs.Types.{ctype_tree}
 use Rattle.c_syntax.specs.TypedExpr.{texpr_tree}
 use Rattle.c_typing.specs.Nodes as nodes
 use Rattle.c_typing.specs.Rows as rows
-use Rattle.c_type_errors.proofs.Steps.{refused}
+use Rattle.c_type_names.proofs.Steps.{refused}
 use Rattle.c_type_nodes.proofs.sizes.cast.Goals as goal
 
 pub returns-in-None : goal.returns-in-None

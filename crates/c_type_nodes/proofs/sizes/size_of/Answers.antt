@@ -8,8 +8,8 @@ use Rattle.c_syntax.specs.declared.op.Op.TheVariants as ops
 use Rattle.c_typing.specs.Nodes as nodes
 use Rattle.c_typing.specs.Operands as operands
 use Rattle.c_typing.specs.World.{no_rule}
-use Rattle.c_type_conversions.specs.Views.{operand_tree}
-use Rattle.c_type_errors.proofs.Steps.{so}
+use Rattle.c_type_operators.specs.OperandViews.{operand_tree}
+use Rattle.c_type_names.proofs.Steps.{so}
 use Rattle.c_type_nodes.proofs.sizes.size_of.Goals as goal
 
 pub returns : goal.returns

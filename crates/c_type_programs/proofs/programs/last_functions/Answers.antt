@@ -4,7 +4,7 @@ use Rattle.std.proofs.lemmas.Grind.{common_steps}
 use Rattle.c_syntax.specs.Program.{tfunction_tree}
 use Rattle.c_syntax.specs.Types.{object_tree}
 use Rattle.c_typing.specs.Settled.{settled_function}
-use Rattle.c_type_settled.proofs.Lists.{list_begun, list_ended, list_one_more, onto}
+use Rattle.c_type_programs.proofs.Lists.{list_begun, list_ended, list_one_more, onto}
 use Rattle.c_type_programs.proofs.programs.last_functions.Goals as goal
 
 pub each-init : goal.each-init

@@ -3,7 +3,7 @@ use Rattle.std.specs.Prelude.{reverse}
 use Rattle.c_syntax.specs.Program.{tfunction_tree}
 use Rattle.c_syntax.specs.Types.{object_tree}
 use Rattle.c_typing.specs.Settled.{settled_function}
-use Rattle.c_type_settled.proofs.Lists.{onto}
+use Rattle.c_type_programs.proofs.Lists.{onto}
 use Rattle.c_type_programs.proofs.programs.last_functions.Given as goal
 
 -- what is done, and what is left settled, are all

@@ -5,7 +5,7 @@ use Rattle.c_syntax.specs.TypedExpr.{texpr_tree}
 use Rattle.c_typing.specs.Nodes as nodes
 use Rattle.c_typing.specs.Stmts.{Condition}
 use Rattle.c_typing.specs.World.{goes_on, stops}
-use Rattle.c_type_errors.specs.Views.{refusal_of}
+use Rattle.c_type_names.specs.Views.{refusal_of}
 use Rattle.c_type_names.specs.Worlds.{world_of}
 use Rattle.c_type_stmt_parts.proofs.Results.{by}
 use Rattle.c_type_stmt_parts.proofs.conditions.condition.Goals as goal

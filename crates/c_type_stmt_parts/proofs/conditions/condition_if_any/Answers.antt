@@ -6,7 +6,7 @@ use Rattle.c_written.specs.WrittenFile.{optional_tree}
 use Rattle.c_syntax.specs.TypedExpr.{TExprTree, texpr_tree}
 use Rattle.c_typing.specs.Stmts.{Condition, Perhaps}
 use Rattle.c_typing.specs.World.{World, Outcome, Typed, Refused, goes_on, stops}
-use Rattle.c_type_errors.specs.Views.{refusal_of}
+use Rattle.c_type_names.specs.Views.{refusal_of}
 use Rattle.c_type_names.specs.Worlds.{world_of}
 use Rattle.c_type_stmt_parts.proofs.conditions.condition_if_any.Goals as goal
 

@@ -5,7 +5,7 @@ use Rattle.c_syntax.specs.TypedExpr.{texpr_tree}
 use Rattle.c_syntax.specs.TypedParts.{texpr_type}
 use Rattle.c_typing.specs.Stmts.{SwitchValue, switched_by}
 use Rattle.c_typing.specs.World.{goes_on, stops}
-use Rattle.c_type_errors.specs.Views.{refusal_of}
+use Rattle.c_type_names.specs.Views.{refusal_of}
 use Rattle.c_type_jumps.specs.Views.{switched_tree}
 use Rattle.c_type_names.specs.Worlds.{world_of}
 use Rattle.c_type_stmt_parts.proofs.Results.{by}

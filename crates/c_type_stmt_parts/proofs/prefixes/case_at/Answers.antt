@@ -9,7 +9,7 @@ use Rattle.c_written.specs.WrittenParts.{expr_pos}
 use Rattle.c_syntax.specs.TypedStmt.{TStmtTree, Case}
 use Rattle.c_typing.specs.Stmts.{case_of}
 use Rattle.c_typing.specs.World.{Outcome, Typed, goes_on, stops}
-use Rattle.c_type_errors.specs.Views.{refusal_of}
+use Rattle.c_type_names.specs.Views.{refusal_of}
 use Rattle.c_type_names.specs.Worlds.{world_of}
 use Rattle.c_type_stmt_parts.proofs.prefixes.case_at.Goals as goal
 

@@ -3,8 +3,8 @@ use Rattle.c_syntax.specs.Types.{CTypeTree}
 use Rattle.c_syntax.specs.TypedStmt.{tstmt_tree}
 use Rattle.c_syntax.proofs.TypeTrees.{ctype_void}
 use Rattle.c_typing.specs.Stmts.{one, returned_bare}
-use Rattle.c_type_contexts.specs.Views.{result_in}
-use Rattle.c_type_errors.proofs.Steps.{so}
+use Rattle.c_type_jumps.specs.ContextViews.{result_in}
+use Rattle.c_type_names.proofs.Steps.{so}
 use Rattle.c_type_names.specs.Worlds.{world_of}
 use Rattle.c_type_stmt_parts.proofs.returns.bare_return.Goals as goal
 

@@ -4,8 +4,8 @@ use Rattle.c_written.specs.Written.{ExprTree, expr_tree}
 use Rattle.c_written.specs.WrittenFile.{optional_tree}
 use Rattle.c_syntax.specs.TypedStmt.{tstmt_tree}
 use Rattle.c_typing.specs.Stmts.{one}
-use Rattle.c_type_contexts.specs.Views.{context_tree}
-use Rattle.c_type_errors.specs.Views.{Answers}
+use Rattle.c_type_jumps.specs.ContextViews.{context_tree}
+use Rattle.c_type_names.specs.Views.{Answers}
 use Rattle.c_type_names.specs.Worlds.{world_of}
 use Rattle.c_type_stmt_parts.specs.Forms.{Returns}
 use Rattle.c_type_stmt_parts.proofs.returns.return_of.Goals as goal

@@ -5,8 +5,8 @@ use Rattle.c_syntax.specs.TypedExpr.{texpr_tree}
 use Rattle.c_syntax.specs.TypedStmt.{tstmt_tree}
 use Rattle.c_typing.specs.Stmts.{one, returned}
 use Rattle.c_typing.specs.World.{goes_on, stops}
-use Rattle.c_type_contexts.specs.Views.{context_tree}
-use Rattle.c_type_errors.specs.Views.{refusal_of}
+use Rattle.c_type_jumps.specs.ContextViews.{context_tree}
+use Rattle.c_type_names.specs.Views.{refusal_of}
 use Rattle.c_type_names.specs.Worlds.{world_of}
 use Rattle.c_type_stmt_parts.specs.Forms.{ReturnsValue}
 use Rattle.c_type_stmt_parts.proofs.Results.{by}

@@ -2,7 +2,7 @@ use Rattle.std.proofs.Common.{◌≡◌, ap, ◌∙◌}
 use Rattle.c_written.specs.WrittenFile as files
 use Rattle.c_syntax.specs.TypedStmt.{tstmt_tree}
 use Rattle.c_typing.specs.Stmts.{TypesStmt, allowed, one}
-use Rattle.c_type_contexts.specs.Views.{context_tree}
+use Rattle.c_type_jumps.specs.ContextViews.{context_tree}
 use Rattle.c_type_stmts.proofs.Lines.{continue_line}
 use Rattle.c_type_stmts.proofs.Results.{by}
 use Rattle.c_type_stmts.proofs.simple.continue_form.Goals as goal

@@ -2,7 +2,7 @@ use Rattle.std.proofs.Common.{ap}
 use Rattle.std.proofs.lemmas.Option.{IfSome_then}
 use Rattle.c_typing.specs.Decls.{Made}
 use Rattle.c_typing.specs.World.{Typed, goes_on, stops}
-use Rattle.c_type_errors.specs.Views.{refusal_of}
+use Rattle.c_type_names.specs.Views.{refusal_of}
 use Rattle.c_type_names.specs.Worlds.{world_of}
 use Rattle.c_type_stmts.proofs.simple.declaration_behind.Goals as goal
 

@@ -4,7 +4,7 @@ use Rattle.c_written.specs.Written.{expr_tree}
 use Rattle.c_syntax.specs.TypedStmt.{TStmtTree, tstmt_tree}
 use Rattle.c_typing.specs.Stmts.{one}
 use Rattle.c_typing.specs.World.{Typed, Refused, goes_on, stops}
-use Rattle.c_type_errors.specs.Views.{refusal_of}
+use Rattle.c_type_names.specs.Views.{refusal_of}
 use Rattle.c_type_names.specs.Worlds.{world_of}
 use Rattle.c_type_stmts.proofs.Lines.{expression_line}
 use Rattle.c_type_stmts.proofs.simple.expression_form.Goals as goal

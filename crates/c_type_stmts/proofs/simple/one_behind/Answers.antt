@@ -4,7 +4,7 @@ use Rattle.c_syntax.specs.TypedStmt.{tstmt_tree}
 use Rattle.c_typing.specs.Decls.{Made}
 use Rattle.c_typing.specs.Stmts.{TypesStmt, one}
 use Rattle.c_typing.specs.World.{Typed, goes_on, stops}
-use Rattle.c_type_errors.specs.Views.{refusal_of}
+use Rattle.c_type_names.specs.Views.{refusal_of}
 use Rattle.c_type_stmts.proofs.Results.{typed_in, refused_in}
 use Rattle.c_type_stmts.proofs.simple.one_behind.Goals as goal
 

@@ -2,7 +2,7 @@ use Rattle.c_written.specs.WrittenFile as files
 use Rattle.c_written.specs.WrittenFile.{optional_tree}
 use Rattle.c_syntax.specs.TypedStmt.{tstmt_tree}
 use Rattle.c_typing.specs.Stmts.{TypesStmt, one}
-use Rattle.c_type_contexts.specs.Views.{context_tree}
+use Rattle.c_type_jumps.specs.ContextViews.{context_tree}
 use Rattle.c_type_names.specs.Worlds.{world_of}
 use Rattle.c_type_stmt_parts.specs.Forms.{Returns}
 use Rattle.c_type_stmts.proofs.Lines.{return_line}

@@ -7,9 +7,9 @@ use Rattle.c_written.proofs.WrittenFileTrees.{forstart_nothing, forstart_value, 
 use Rattle.c_typing.specs.Decls.{Made}
 use Rattle.c_typing.specs.Stmts.{TypesStart}
 use Rattle.c_typing.specs.World.{Typed}
-use Rattle.c_type_contexts.specs.Views.{context_tree}
-use Rattle.c_type_errors.specs.Views.{Answers}
-use Rattle.c_type_made.specs.Views.{made_tree}
+use Rattle.c_type_jumps.specs.ContextViews.{context_tree}
+use Rattle.c_type_names.specs.Views.{Answers}
+use Rattle.c_type_decls.specs.MadeViews.{made_tree}
 use Rattle.c_type_names.specs.Worlds.{world_of}
 use Rattle.c_type_stmts.proofs.simple.start.Goals as goal
 

@@ -6,7 +6,7 @@ use Rattle.c_syntax.specs.TypedStmt.{TStmtTree, Expr, tstmt_tree}
 use Rattle.c_typing.specs.Decls.{Made}
 use Rattle.c_typing.specs.Stmts.{one, with_items}
 use Rattle.c_typing.specs.World.{Typed, goes_on, stops}
-use Rattle.c_type_errors.specs.Views.{refusal_of}
+use Rattle.c_type_names.specs.Views.{refusal_of}
 use Rattle.c_type_names.specs.Worlds.{world_of}
 use Rattle.c_type_stmts.specs.Forms.{bare}
 use Rattle.c_type_stmts.proofs.Lines.{bare_made}

@@ -5,7 +5,7 @@ use Rattle.num_api.specs.Plain.{plain, cut, turned}
 use Rattle.num_api.specs.Spans.{range_of}
 use Rattle.env_eval.specs.States.{known_in}
 use Rattle.env_eval.proofs.Parts.{wider}
-use Rattle.range_cuts.specs.Standings.{standing_of}
+use Rattle.env_eval.specs.Standings.{standing_of}
 use Rattle.env_lift.specs.Changes.{LiesIn, Compare}
 use Rattle.env_lift.proofs.Changing.{ok_map, ok_both, cut_twice}
 use Rattle.env_lift.proofs.Cutting.{left_plain, sides_under}

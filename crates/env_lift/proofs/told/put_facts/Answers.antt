@@ -1,8 +1,8 @@
 use Rattle.std.proofs.Common.{sym, subst, ◌≡◌, Some}
-use Rattle.var_map.specs.declared.entries.Entry.{Entry}
+use Rattle.env_eval.specs.declared.entries.Entry.{Entry}
 use Rattle.num_api.proofs.PutOut.{adds_twice, tells_twice}
-use Rattle.var_map.specs.Entries.{value_in}
-use Rattle.var_map.proofs.Rising.{rising_found}
+use Rattle.env_eval.specs.Entries.{value_in}
+use Rattle.env_eval.proofs.Rising.{rising_found}
 use Rattle.env_lift.proofs.told.put_facts.Goals as goal
 
 pub loop-entry-preserved : goal.loop-entry-preserved

@@ -1,4 +1,4 @@
-use Rattle.ramps.proofs.PowersRamp.{powers_answer}
+use Rattle.num_api.proofs.PowersRamp.{powers_answer}
 use Rattle.env_table.proofs.steps.settled.Goals as goal
 
 pub new-ramp-requires : goal.new-ramp-requires

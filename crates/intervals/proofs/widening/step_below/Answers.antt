@@ -2,7 +2,7 @@ use Rattle.std.proofs.Common.{ap, ◌∙◌, sym, arith, FitsSigned}
 use Rattle.std.proofs.lemmas.Int.{ints, to_z-of_z}
 use mir.Syntax.{w128}
 use Rattle.ext_int.specs.declared.Ext.TheVariants.{Low, Fin}
-use Rattle.ramps.specs.Steps.{greatest}
+use Rattle.num_api.specs.Steps.{greatest}
 use Rattle.intervals.specs.Widening.{step_or}
 use Rattle.intervals.proofs.Widenings.{small-fits, no_step_below, same_below}
 use Rattle.intervals.proofs.widening.step_below.Goals as goal

@@ -1,4 +1,4 @@
-use Rattle.ramps.proofs.PowersRamp.{powers_answer}
+use Rattle.num_api.proofs.PowersRamp.{powers_answer}
 use Rattle.std.proofs.Common.{◌≡◌, refl, sym, ap, ◌∙◌, []}
 use Rattle.csharp.specs.Trees.{CsProgramTree}
 use Rattle.mem_api.specs.declared.tests.Everything.{Everything}

@@ -1,4 +1,4 @@
-use Rattle.ramps.proofs.PowersRamp.{powers_answer}
+use Rattle.num_api.proofs.PowersRamp.{powers_answer}
 use Rattle.numbers_table.proofs.domains.settled.Goals as goal
 
 pub new-ramp-requires : goal.new-ramp-requires

@@ -1,4 +1,4 @@
-use Rattle.ramps.proofs.PowersRamp.{powers_answer}
+use Rattle.num_api.proofs.PowersRamp.{powers_answer}
 use Rattle.numbers_table.proofs.ramp_steps.up_and_down.Goals as goal
 
 pub new-ramp-requires : goal.new-ramp-requires

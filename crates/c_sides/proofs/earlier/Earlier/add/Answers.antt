@@ -1,5 +1,5 @@
 use Rattle.std.proofs.Common.{subst, append_assoc, ◌++◌}
-use Rattle.c_touch_sets.specs.Held.{Holds}
+use Rattle.c_effects.specs.Held.{Holds}
 use Rattle.c_sides.proofs.earlier.Earlier.add.Goals as goal
 
 pub returns : goal.returns

@@ -1,6 +1,6 @@
 use Rattle.std.proofs.Common.{sym, subst, List}
 use Rattle.num_api.specs.Ranges.{IsUnder}
-use Rattle.var_map.specs.declared.entries.Entry.{Entry}
+use Rattle.env_eval.specs.declared.entries.Entry.{Entry}
 use Rattle.env_eval.specs.States.{known_in}
 use Rattle.env_eval.proofs.Parts.{wider}
 use Rattle.env_lift.specs.Laws.{first_flag}

@@ -3,7 +3,7 @@ use Rattle.num_api.specs.declared.message.Range.{Range}
 use Rattle.num_api.specs.Exprs.{nexpr_tree}
 use Rattle.num_api.specs.Ranges.{IsPoint, IsUnder}
 use Rattle.num_api.specs.Spans.{range_of}
-use Rattle.var_map.specs.declared.entries.Entry.{Entry}
+use Rattle.env_eval.specs.declared.entries.Entry.{Entry}
 use Rattle.env_eval.specs.States.{AllAdmit, known_in}
 use Rattle.env_eval.specs.Evaluation.{IsValue}
 use Rattle.env_eval.proofs.Parts.{wider, still_point}

@@ -1,7 +1,7 @@
 use Rattle.std.proofs.Common.{subst, ◌∙◌, List, ℤ}
 use Rattle.std.specs.Prelude.{OnOk}
 use Rattle.num_api.specs.Messages.{TellsOf}
-use Rattle.var_map.specs.declared.entries.Entry.{Entry}
+use Rattle.env_eval.specs.declared.entries.Entry.{Entry}
 use Rattle.env_eval.specs.States.{AllAdmit}
 use Rattle.env_lift.proofs.state.EnvNumDomain.facts.Goals as goal
 

@@ -1,5 +1,0 @@
-pub mod Words
-pub mod Entries
-pub mod Waiting
-pub mod Done
-pub mod FileArrays

@@ -1,9 +1,0 @@
-pub mod Plain
-pub mod Jumps
-pub mod Autos
-pub mod Grows
-pub mod Settling
-pub mod Linking
-pub mod FileLists
-pub mod Covers
-pub mod Programs

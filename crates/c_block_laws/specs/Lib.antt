@@ -1,2 +1,0 @@
-pub mod JumpLaws
-pub mod ListLaws

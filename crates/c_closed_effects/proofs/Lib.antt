@@ -1,3 +1,0 @@
-mod Closing
-mod Gathering
-pub mod GraphCalls

@@ -1,4 +1,0 @@
-pub mod Forms
-mod Known
-mod Lists
-pub mod Stays

@@ -1,6 +1,0 @@
-pub mod Frames
-pub mod Chains
-pub mod Steady
-pub mod Items
-pub mod Lists
-pub mod Whole

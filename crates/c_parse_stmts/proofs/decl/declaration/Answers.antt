@@ -1,0 +1,10 @@
+use Rattle.std.proofs.Common.{refl}
+use Rattle.c_grammar.specs.Parts.{ADecl, Declaration}
+use Rattle.c_parse_steps.proofs.Paths.{begin, behind, lasts, not_behind}
+use Rattle.c_parse_stmts.proofs.decl.declaration.Goals as goal
+
+pub returns-in_err-words-clause-goes : goal.returns-in_err-words-clause-goes
+returns-in_err-words-clause-goes c = not_behind c.from_residual.ensures.1 (begin {p = ADecl Declaration} (λ o g. g) refl refl) c.in_err-words.ensures.goes
+
+pub returns-clause-goes : goal.returns-clause-goes
+returns-clause-goes c = lasts (behind (begin {p = ADecl Declaration} (λ o g. g) refl refl) c.in_ok-words.ensures.goes) c.declared.ensures.goes (λ d. refl)

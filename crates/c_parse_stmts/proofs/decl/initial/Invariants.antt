@@ -1,0 +1,16 @@
+use Rattle.std.proofs.Common.{◌≤◌, [], length}
+use Rattle.std.specs.Prelude.{map}
+use Rattle.c_written.specs.Written.{specs_tree}
+use Rattle.c_written.specs.WrittenDecl.{DeclTree, initdeclarator_tree}
+use Rattle.c_grammar.specs.Parts.{ADecl, Ending, Initial}
+use Rattle.c_grammar.specs.Descent.{Outcome, Goes}
+use Rattle.c_parse_steps.specs.Views.{boxed_declarator, scene_of}
+use Rattle.c_parse_stmts.proofs.decl.initial.Given as goal
+
+-- what is left of the tokens decides for all
+abbrev pub invariant-loop-comma : goal.invariant-loop-comma
+invariant-loop-comma l =
+    ((o : Outcome DeclTree) → Goes l.count (scene_of l.context) (ADecl (Ending (specs_tree l.specs) (map initdeclarator_tree l.inits.items))) l.rest o → Goes l.count (scene_of l.context) (ADecl (Initial (specs_tree l.specs) [] (boxed_declarator l.fn.first))) l.fn.tokens o) × (length l.rest ≤ length l.fn.tokens)
+
+abbrev pub decreases-loop-comma : goal.decreases-loop-comma
+decreases-loop-comma l = length l.rest

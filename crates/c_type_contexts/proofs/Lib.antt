@@ -1,3 +1,0 @@
-pub mod LabelForms
-pub mod Finding
-pub mod Words

@@ -1,3 +1,0 @@
-pub mod FunctionForms
-pub mod FileForms
-pub mod ParameterForms

@@ -1,3 +1,0 @@
-pub mod Changing
-pub mod Agreement
-pub mod Finds

@@ -1,0 +1,146 @@
+// The places of members.
+#![tactic(auto, using(c_syntax::proofs::Trees::the_trees))]
+
+ghost use Rattle.std.specs.Prelude.{◌≡◌, ◌<◌, IfOk, IfSome, length, map, option_and_then, option_map, position};
+ghost use Rattle.std.specs.Str.{bytes_eq};
+ghost use Rattle.c_syntax.specs.Types.{ctype_tree};
+ghost use Rattle.c_syntax.specs.TypedExpr.{texpr_tree, tlvalue_tree};
+ghost use Rattle.c_syntax.specs.Program.{member_tree, structdef_tree};
+ghost use Rattle.c_layout.specs.Layout as layout;
+ghost use Rattle.c_typing.specs.Rows as typing;
+
+use c_syntax::{CType, DerefKind, Member, Pos, StructDefs, TExpr, TLvalue};
+use c_type_operators::star_row;
+use std::alloc::{AllocError as NoMemory, Global};
+
+/// `.`: the member of this name of a struct in a place (C11 6.5.2.3p1 and p3).
+pub fn member_row(
+    alloc: Global,
+    structs: &StructDefs,
+    pos: Pos,
+    name: &[u8],
+    ty: &CType,
+    place: TLvalue,
+) -> Result<Option<TLvalue>, NoMemory>
+    ensures { IfOk result (λ row. option_map tlvalue_tree row
+        ≡ typing.member_row (map structdef_tree structs.now) pos name.now (ctype_tree ty.now) (tlvalue_tree place)) }
+{
+    match ty {
+        CType::Struct(n) => {
+            let row = member_named(alloc, members_of(structs, *n), pos, name, place)?;
+            Ok(row)
+        }
+        CType::Void | CType::Int(_) | CType::Pointer(_) | CType::Array(_, _) | CType::Function(_) =>
+            Ok(None),
+    }
+}
+
+/// `->`, as `.` behind `*` (C11 6.5.2.3p2 and p4).
+pub fn arrow_row(
+    alloc: Global,
+    structs: &StructDefs,
+    pos: Pos,
+    name: &[u8],
+    ty: &CType,
+    e: TExpr,
+) -> Result<Option<TLvalue>, NoMemory>
+    ensures { IfOk result (λ row. option_map tlvalue_tree row
+        ≡ typing.arrow_row (map structdef_tree structs.now) pos name.now (ctype_tree ty.now) (texpr_tree e)) }
+{
+    match star_row(alloc, DerefKind::Arrow, pos, ty, e)? {
+        None => Ok(None),
+        Some(place) => {
+            let ty = place.ty().copy()?;
+            let row = member_row(alloc, structs, pos, name, &ty, place)?;
+            Ok(row)
+        }
+    }
+}
+
+// The members of a struct, which are none where there is no such struct.
+fn members_of(structs: &StructDefs, n: u64) -> &[Member]
+    ensures { map member_tree result.now ≡ layout.members_of (map structdef_tree structs.now) n }
+{
+    match structs.as_slice().get(n as usize) {
+        None => &[],
+        Some(def) => def.members.as_slice(),
+    }
+}
+
+// The member of this name of a struct that has these members.
+fn member_named(
+    alloc: Global,
+    members: &[Member],
+    pos: Pos,
+    name: &[u8],
+    place: TLvalue,
+) -> Result<Option<TLvalue>, NoMemory>
+    ensures { IfOk result (λ row. option_map tlvalue_tree row
+        ≡ option_and_then (typing.member_at (map member_tree members.now) pos (tlvalue_tree place))
+        (position (λ member. bytes_eq member.name name.now) (map member_tree members.now))) }
+{
+    match position_of(members, name) {
+        None => Ok(None),
+        Some(k) => {
+            let row = member_at(alloc, members, pos, k, place)?;
+            Ok(row)
+        }
+    }
+}
+
+// Member number `k`.
+fn member_at(
+    alloc: Global,
+    members: &[Member],
+    pos: Pos,
+    k: usize,
+    place: TLvalue,
+) -> Result<Option<TLvalue>, NoMemory>
+    ensures { IfOk result (λ row. option_map tlvalue_tree row ≡ typing.member_at (map member_tree members.now) pos (tlvalue_tree place) k) }
+{
+    match members.get(k) {
+        None => Ok(None),
+        Some(member) => {
+            let node = member_node(alloc, pos, k as u64, member, place)?;
+            Ok(Some(node))
+        }
+    }
+}
+
+fn member_node(
+    alloc: Global,
+    pos: Pos,
+    k: u64,
+    member: &Member,
+    place: TLvalue,
+) -> Result<TLvalue, NoMemory>
+    ensures { IfOk result (λ node. tlvalue_tree node ≡ typing.member_node pos (tlvalue_tree place) k (member_tree member.now)) }
+{
+    let is_const = place.is_const();
+    let ty = member.ty.copy()?;
+    let place = Box::new(alloc, place)?;
+    Ok(TLvalue::Member {
+        pos,
+        member: k,
+        offset: member.offset,
+        ty,
+        is_const,
+        place,
+    })
+}
+
+// The place of this name among the members.
+fn position_of(members: &[Member], name: &[u8]) -> Option<usize>
+    ensures { result ≡ position (λ member. bytes_eq member.name name.now) (map member_tree members.now) }
+{
+    first_named(members, name)
+}
+
+// The same, among the members as the code has them.
+fn first_named(members: &[Member], name: &[u8]) -> Option<usize>
+    ensures { result ≡ position (λ member. bytes_eq member.name name.now) members.now }
+{
+    members
+        .iter()
+        .position(|member| member.name.as_slice() == name)
+}

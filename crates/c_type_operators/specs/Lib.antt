@@ -1,0 +1,3 @@
+pub mod ArithmeticViews
+pub mod OperandViews
+pub mod StoreViews

@@ -1,4 +1,0 @@
-pub mod Lines
-pub mod StmtLines
-pub mod Lists
-pub mod Shapes

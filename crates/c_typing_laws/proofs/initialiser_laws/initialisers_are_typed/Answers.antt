@@ -1,0 +1,5 @@
+use Rattle.c_typing_laws.proofs.Whole as lemmas
+use Rattle.c_typing_laws.proofs.initialiser_laws.initialisers_are_typed.Goals as goal
+
+pub returns : goal.returns
+returns c = lemmas.initialisers_are_typed

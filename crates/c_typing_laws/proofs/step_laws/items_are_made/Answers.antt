@@ -1,0 +1,5 @@
+use Rattle.c_typing_laws.proofs.AllMade as lemmas
+use Rattle.c_typing_laws.proofs.step_laws.items_are_made.Goals as goal
+
+pub returns : goal.returns
+returns c = lemmas.items_are_made

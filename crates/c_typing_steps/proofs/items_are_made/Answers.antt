@@ -1,5 +1,0 @@
-use Rattle.c_typing_steps.proofs.AllMade as lemmas
-use Rattle.c_typing_steps.proofs.items_are_made.Goals as goal
-
-pub returns : goal.returns
-returns c = lemmas.items_are_made

@@ -1,5 +1,0 @@
-pub mod NameSteps
-pub mod DeclSteps
-pub mod StmtSteps
-pub mod FileSteps
-pub mod StepLaws

@@ -1,4 +1,0 @@
-pub mod MExprs
-pub mod Machine
-pub mod Rule
-pub mod Fold

@@ -1,3 +1,0 @@
-pub mod Congruences
-pub mod Operators
-pub mod Nodes

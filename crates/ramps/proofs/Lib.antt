@@ -1,4 +1,0 @@
-pub mod StepLemmas
-pub mod PowerLemmas
-pub mod PowersRamp
-pub mod WeightLemmas

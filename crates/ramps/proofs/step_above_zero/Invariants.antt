@@ -1,7 +1,0 @@
-use Rattle.std.proofs.Common.{◌≡◌, ◌-◌}
-use Rattle.ramps.specs.Steps.{least}
-use Rattle.ramps.specs.Powers.{powers_from}
-use Rattle.ramps.proofs.step_above_zero.Given as goal
-
-abbrev pub invariant-loop-k : goal.invariant-loop-k
-invariant-loop-k l = least (powers_from 1 64) l.n ≡ least (powers_from l.k (65 - l.k)) l.n

@@ -1,2 +1,0 @@
-pub mod RangeCuts
-pub mod Truths

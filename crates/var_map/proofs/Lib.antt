@@ -1,5 +1,0 @@
-pub mod Lookups
-pub mod Rising
-pub mod Merges
-pub mod Found
-pub mod Placing
