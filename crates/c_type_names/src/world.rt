@@ -2,10 +2,12 @@
 
 ghost use Rattle.std.specs.Prelude.{◌≡◌, ◌≤◌};
 
+use crate::cases::Cases;
+use crate::given_initials::GivenInitials;
 use crate::reserved::is_reserved;
 use crate::table::Table;
-use crate::types::{Binding, CaseAt, Labelled, Linked, Meaning, TagBinding};
-use c_syntax::{CType, Initial, Object, StructDefs, TFunction};
+use crate::types::{Binding, Labelled, Linked, Meaning, TagBinding};
+use c_syntax::{CType, Object, StructDefs, TFunction};
 use c_written::{Name, Pos};
 use std::alloc::{AllocError as NoMemory, Global};
 
@@ -18,7 +20,7 @@ pub struct World {
     pub functions: Vec<TFunction>,
     /// The types of each function's parameters.
     pub signatures: Vec<Vec<CType>>,
-    pub initial: Vec<Initial>,
+    pub initial: GivenInitials,
     /// The sum of the sizes of all objects, in bytes.
     pub total: u64,
     pub linked: Table<Linked>,
@@ -29,7 +31,7 @@ pub struct World {
     /// Where the tags of the innermost scope begin.
     pub first_tag: usize,
     pub labels: Table<Labelled>,
-    pub cases: Vec<CaseAt>,
+    pub cases: Cases,
     pub default: Option<Pos>,
     ghost small: { total ≤ 65536 },
 }
@@ -62,7 +64,7 @@ impl World {
             objects: Vec::new(alloc),
             functions: Vec::new(alloc),
             signatures: Vec::new(alloc),
-            initial: Vec::new(alloc),
+            initial: GivenInitials::new(alloc),
             total: 0,
             linked: Table::new(alloc),
             names: Table::new(alloc),
@@ -70,7 +72,7 @@ impl World {
             tags: Table::new(alloc),
             first_tag: 0,
             labels: Table::new(alloc),
-            cases: Vec::new(alloc),
+            cases: Cases::new(alloc),
             default: None,
         }
     }
