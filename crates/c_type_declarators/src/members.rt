@@ -143,6 +143,6 @@ fn is_const_member(is_const: bool, ty: &CType) -> bool
 fn next_offset(world: &World, done: &[MemberMade], ty: &CType) -> Result<u64, NoMemory>
     ensures { IfOk result (λ offset. offset ≡ typing.next_offset (world_of world.now) (map made_tree done.now) (ctype_tree ty.now)) }
 {
-    let end = members_end(&world.structs, done)?;
-    padded(end, align_of(ty, &world.structs))
+    let end = members_end(&world.structs.defs, done)?;
+    padded(end, align_of(ty, &world.structs.defs))
 }

@@ -3,9 +3,10 @@
 ghost use Rattle.std.specs.Prelude.{◌≡◌, ◌≤◌};
 
 use crate::reserved::is_reserved;
+use crate::structs::Structs;
 use crate::table::Table;
 use crate::types::{Binding, CaseAt, Labelled, Linked, Meaning, TagBinding};
-use c_syntax::{CType, Initial, Object, StructDefs, TFunction};
+use c_syntax::{CType, Initial, Object, TFunction};
 use c_written::{Name, Pos};
 use std::alloc::{AllocError as NoMemory, Global};
 
@@ -13,7 +14,7 @@ use std::alloc::{AllocError as NoMemory, Global};
 #[derive(Drop)]
 pub struct World {
     pub(crate) alloc: Global,
-    pub structs: StructDefs,
+    pub structs: Structs,
     pub objects: Vec<Object>,
     pub functions: Vec<TFunction>,
     /// The types of each function's parameters.
@@ -58,7 +59,7 @@ impl World {
     {
         World {
             alloc,
-            structs: StructDefs::new(alloc),
+            structs: Structs::new(alloc),
             objects: Vec::new(alloc),
             functions: Vec::new(alloc),
             signatures: Vec::new(alloc),
