@@ -84,7 +84,7 @@ fn call_named(
 fn no_call(world: &World, pos: Pos, ty: CType) -> TypeError
     ensures { Tells result (worlds.no_rule (world_of world.now) pos Op.Call (ctype_tree ty) None) }
 {
-    no_rule(world.alloc(), &world.structs, pos, Op::Call, ty, None)
+    no_rule(world.alloc(), &world.structs.defs, pos, Op::Call, ty, None)
 }
 
 // A call of function number `n`.
@@ -97,7 +97,7 @@ fn call_of(world: &World, pos: Pos, n: u64, args: TExprs) -> Result<Operand, Typ
         return Err(no_call(world, pos, CType::Function(n)));
     }
     let ty = result_of(world, n)?;
-    match passed(world.alloc(), &world.structs, pos, params, args) {
+    match passed(world.alloc(), &world.structs.defs, pos, params, args) {
         Err(error) => Err(error),
         Ok(args) => Ok(Operand::Value(call_node(pos, n, ty, args))),
     }

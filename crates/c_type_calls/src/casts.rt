@@ -23,7 +23,7 @@ pub fn size_of_form(world: &World, pos: Pos, form: Form) -> Result<Operand, Type
     ensures { Answers (λ out. out ≡ nodes.size_of_form (world_of world.now) pos (form_tree form)) operand_tree (world_of world.now) result }
 {
     match form {
-        Form::Plain(ty, _is_const) => size_of(world.alloc(), &world.structs, pos, ty),
+        Form::Plain(ty, _is_const) => size_of(world.alloc(), &world.structs.defs, pos, ty),
         Form::Unsized(_of, _is_const) => Err(no_function(world, pos, Op::Sizeof)),
         Form::Callable(_params, _ret) => Err(no_function(world, pos, Op::Sizeof)),
     }
@@ -36,7 +36,7 @@ pub fn cast_to(world: &World, pos: Pos, form: Form, e: TExpr) -> Result<Operand,
     ensures { Answers (λ out. out ≡ nodes.cast (world_of world.now) pos (form_tree form) (texpr_tree e)) operand_tree (world_of world.now) result }
 {
     match form {
-        Form::Plain(ty, _is_const) => cast(world.alloc(), &world.structs, pos, ty, e),
+        Form::Plain(ty, _is_const) => cast(world.alloc(), &world.structs.defs, pos, ty, e),
         Form::Unsized(_of, _is_const) => no_cast(world, pos, e),
         Form::Callable(_params, _ret) => no_cast(world, pos, e),
     }
@@ -50,7 +50,7 @@ fn no_cast(world: &World, pos: Pos, e: TExpr) -> Result<Operand, TypeError>
     let target = unknown_function(world);
     Err(no_rule(
         world.alloc(),
-        &world.structs,
+        &world.structs.defs,
         pos,
         Op::Cast,
         target,

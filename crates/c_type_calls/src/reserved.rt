@@ -55,7 +55,7 @@ fn scalar_told(world: &World, pos: Pos, assumes: bool, e: TExpr) -> Result<Opera
         let node = told_node(alloc, pos, assumes, e)?;
         Ok(Operand::Value(node))
     } else {
-        Err(no_rule(alloc, &world.structs, pos, Op::Test, ty, None))
+        Err(no_rule(alloc, &world.structs.defs, pos, Op::Test, ty, None))
     }
 }
 
@@ -76,5 +76,5 @@ pub fn no_function(world: &World, pos: Pos, op: Op) -> TypeError
     ensures { Tells result (worlds.no_rule (world_of world.now) pos op (declarators.unknown_function (world_of world.now)) None) }
 {
     let function = unknown_function(world);
-    no_rule(world.alloc(), &world.structs, pos, op, function, None)
+    no_rule(world.alloc(), &world.structs.defs, pos, op, function, None)
 }

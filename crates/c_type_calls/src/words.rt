@@ -46,7 +46,14 @@ fn named(world: &World, pos: Pos, meaning: Option<&Meaning>) -> Result<Operand, 
             }
             Meaning::Function(n) => {
                 let function = CType::Function(*n);
-                Err(no_rule(world.alloc(), &world.structs, pos, Op::Call, function, None))
+                Err(no_rule(
+                    world.alloc(),
+                    &world.structs.defs,
+                    pos,
+                    Op::Call,
+                    function,
+                    None,
+                ))
             }
             Meaning::Enumeration(value) => Ok(Operand::Value(constant_node(pos, *value))),
             Meaning::Missing(_, _) => Err(TypeError::Undeclared(pos)),

@@ -222,7 +222,7 @@ pub fn size_or_refused(world: &World, pos: Pos, ty: &CType) -> Result<u64, TypeE
     ensures { IsComplete (operands.complete_size (world_of world.now).structs (ctype_tree ty.now))
         (worlds.no_rule (world_of world.now) pos ops.Init (ctype_tree ty.now) None) result }
 {
-    match complete_size(&world.structs, ty) {
+    match complete_size(&world.structs.defs, ty) {
         Some(size) => Ok(size),
         None => {
             let ty = ty.copy()?;

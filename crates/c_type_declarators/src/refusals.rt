@@ -19,7 +19,7 @@ use std::rc::Rc;
 pub fn no_init(world: &World, pos: Pos, ty: CType) -> TypeError
     ensures { Tells result (worlds.no_rule (world_of world.now) pos Op.Init (ctype_tree ty) None) }
 {
-    no_rule(world.alloc(), &world.structs, pos, Op::Init, ty, None)
+    no_rule(world.alloc(), &world.structs.defs, pos, Op::Init, ty, None)
 }
 
 /// The type of a function that the program does not have.

@@ -18,10 +18,9 @@ ghost use Rattle.c_type_declarators.specs.PartViews.{made_tree};
 use crate::SpecPart;
 use crate::layouts::{members_end, padded, strictest};
 use crate::members::MemberMade;
-use c_syntax::{CType, Members, StructDef, StructDefs};
+use c_syntax::{CType, Members, StructDefs};
 use c_type_names::{Form, Table, TypeError, World};
 use std::alloc::{AllocError as NoMemory, Global};
-use std::mem;
 
 /// The type of struct number `n`, which has these members from its `}` on. It has no refusal. After want of memory the
 /// program is only dropped.
@@ -33,7 +32,7 @@ pub fn struct_made(
     ensures { Answers (λ out. out ≡ typing.struct_made (world_of world.old) n (map made_tree made)) part_tree (world_of world.new) result }
 {
     let made = made.into_vec();
-    let (size, align) = struct_space(&world.structs, made.as_slice())?;
+    let (size, align) = struct_space(&world.structs.defs, made.as_slice())?;
     let members = members_of(world.alloc(), made)?;
     complete(world, n, members, size, align)?;
     Ok(SpecPart::Type(struct_form(n)))
@@ -84,41 +83,7 @@ fn complete(
       });
     }) }
 {
-    let none = StructDefs::new(world.alloc());
-    let defs = mem::replace(&mut world.structs, none).into_vec();
-    let defs = with_struct(defs, n, members, size, align)?;
-    world.structs = StructDefs::from_vec(defs);
-    Ok(())
-}
-
-// The structs, of which number `n` has these members, this size and this alignment.
-fn with_struct(
-    defs: Vec<StructDef>,
-    n: u64,
-    members: Members,
-    size: u64,
-    align: u64,
-) -> Result<Vec<StructDef>, NoMemory>
-    ensures { IfOk result (λ after. map structdef_tree after.items ≡ set (map structdef_tree defs.items) n (record {
-      tag = names.tag_of (map structdef_tree defs.items) n;
-      members = map member_tree members;
-      size = size;
-      align = align;
-    })) }
-{
-    let mut defs = defs;
-    let k = n as usize;
-    if k >= defs.len() {
-        return Ok(defs);
-    }
-    let tag = defs[k].tag.copy()?;
-    defs[k] = StructDef {
-        tag,
-        members,
-        size,
-        align,
-    };
-    Ok(defs)
+    world.structs.complete(n, members, size, align)
 }
 
 #[tactic(auto, using(c_syntax::proofs::Trees::the_trees))]

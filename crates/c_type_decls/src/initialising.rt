@@ -29,7 +29,7 @@ pub fn frame_for(world: &World, object: &ObjectNow) -> Result<Frame, NoMemory>
     if object.measured {
         Ok(Frame::open(ty))
     } else {
-        Ok(Frame::of(&world.structs, Part { ty, offset: 0 }))
+        Ok(Frame::of(&world.structs.defs, Part { ty, offset: 0 }))
     }
 }
 

@@ -40,7 +40,7 @@ pub fn count(world: &mut World, size: u64)
 pub fn size_or_zero(world: &World, ty: &CType) -> Result<u64, NoMemory>
     ensures { IfOk result (λ size. size ≡ decls.size_or_zero (world_of world.now) (ctype_tree ty.now)) }
 {
-    match size_of(ty, &world.structs) {
+    match size_of(ty, &world.structs.defs) {
         Sized::Fits(size) => Ok(size),
         Sized::Incomplete => Ok(0),
         Sized::Oversize => Err(NoMemory),

@@ -35,7 +35,7 @@ pub(crate) fn measured(
         return Err(TypeError::NotConstant(object.pos));
     }
     let ty = measured_type(&object.ty, by.count)?;
-    match size_of(&ty, &world.structs) {
+    match size_of(&ty, &world.structs.defs) {
         Sized::Fits(size) => sized_now(world, object, ty, size),
         Sized::Incomplete => sized_now(world, object, ty, 0),
         Sized::Oversize => Err(TypeError::ObjectTooLarge(object.pos, TYPE_LIMIT)),

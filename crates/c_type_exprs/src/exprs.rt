@@ -112,7 +112,7 @@ fn index_form(world: &mut World, pos: Pos, base: &Expr, index: &Expr) -> Result<
 {
     let a = typed!(value(world, base));
     let b = typed!(value(world, index));
-    indexed(world.alloc(), &world.structs, pos, a, b)
+    indexed(world.alloc(), &world.structs.defs, pos, a, b)
 }
 
 #[cycle(walk)]
@@ -151,7 +151,7 @@ fn step_form(
     ensures { Answers (StepForm (world_of world.old) pos time way (expr_tree e.now)) operand_tree (world_of world.new) result }
 {
     let x = typed!(operand(world, e));
-    stepped(world.alloc(), &world.structs, pos, time, way, x)
+    stepped(world.alloc(), &world.structs.defs, pos, time, way, x)
 }
 
 #[cycle(walk)]
@@ -159,7 +159,7 @@ fn unary_form(world: &mut World, pos: Pos, op: UnaryOp, e: &Expr) -> Result<Oper
     ensures { Answers (Types (world_of world.old) (written.Unary pos op (expr_tree e.now))) operand_tree (world_of world.new) result }
 {
     let x = typed!(operand(world, e));
-    unary(world.alloc(), &world.structs, pos, op, x)
+    unary(world.alloc(), &world.structs.defs, pos, op, x)
 }
 
 #[cycle(walk)]
@@ -168,7 +168,7 @@ fn size_form(world: &mut World, pos: Pos, e: &Expr) -> Result<Operand, TypeError
 {
     let x = typed!(operand(world, e));
     let ty = operand_type(&x)?;
-    size_of(world.alloc(), &world.structs, pos, ty)
+    size_of(world.alloc(), &world.structs.defs, pos, ty)
 }
 
 #[cycle(walk)]
@@ -213,7 +213,7 @@ fn binary_form(
 {
     let a = typed!(value(world, left));
     let b = typed!(value(world, right));
-    binary(world.alloc(), &world.structs, pos, op, a, b)
+    binary(world.alloc(), &world.structs.defs, pos, op, a, b)
 }
 
 #[cycle(walk)]
@@ -230,7 +230,7 @@ fn cond_form(
     let test = typed!(value(world, condition));
     let a = typed!(value(world, first));
     let b = typed!(value(world, second));
-    conditional(world.alloc(), &world.structs, pos, test, a, b)
+    conditional(world.alloc(), &world.structs.defs, pos, test, a, b)
 }
 
 #[cycle(walk)]
@@ -239,7 +239,7 @@ fn assign_form(world: &mut World, pos: Pos, left: &Expr, right: &Expr) -> Result
 {
     let x = typed!(operand(world, left));
     let b = typed!(value(world, right));
-    assigned(world.alloc(), &world.structs, pos, x, b)
+    assigned(world.alloc(), &world.structs.defs, pos, x, b)
 }
 
 #[cycle(walk)]
@@ -255,7 +255,7 @@ fn compound_form(
 {
     let x = typed!(operand(world, left));
     let b = typed!(value(world, right));
-    compound(world.alloc(), &world.structs, pos, op, x, b)
+    compound(world.alloc(), &world.structs.defs, pos, op, x, b)
 }
 
 #[cycle(walk)]

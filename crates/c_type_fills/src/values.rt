@@ -34,7 +34,7 @@ pub fn fill(
 {
     let Part { ty, offset } = part;
     let from = e.ty()?;
-    match stored_row(world.alloc(), &world.structs, &ty, &from, e)? {
+    match stored_row(world.alloc(), &world.structs.defs, &ty, &from, e)? {
         None => Err(no_store(world, at, ty, from)),
         Some(stored) => {
             if is_static && !is_static_item(world.objects.as_slice(), &stored)? {
@@ -51,7 +51,14 @@ fn no_store(world: &World, at: Pos, ty: CType, from: CType) -> TypeError
         (if rows.is_scalar (ctype_tree ty) then Some (ctype_tree from) else None)) }
 {
     if is_scalar(&ty) {
-        no_rule(world.alloc(), &world.structs, at, Op::Init, ty, Some(from))
+        no_rule(
+            world.alloc(),
+            &world.structs.defs,
+            at,
+            Op::Init,
+            ty,
+            Some(from),
+        )
     } else {
         no_init(world, at, ty)
     }

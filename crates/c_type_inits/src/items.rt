@@ -79,7 +79,7 @@ fn list_item(
         mut aggregates,
     } = done;
     let is_scalar = aggregates.is_scalar_in_braces();
-    let next = aggregates.next_part(&world.structs)?;
+    let next = aggregates.next_part(&world.structs.defs)?;
     match next {
         None => Err(excess(world, whole, at)),
         Some(part) => {
@@ -106,7 +106,7 @@ fn list_in_part(
         (inits_tree list.now)) filled_tree (world_of world.new) result }
 {
     let whole = part.ty.copy()?;
-    let frame = Frame::of(&world.structs, part);
+    let frame = Frame::of(&world.structs.defs, part);
     let nothing = nothing_filled(world.alloc(), frame);
     let inner = typed!(list_items(world, is_static, &whole, nothing, list));
     let filled = with_items(items, inner.items, aggregates)?;

@@ -60,7 +60,7 @@ pub(crate) fn text_item(
     if aggregates.is_text_in_braces() {
         return text_in_braces(world, whole, aggregates, at, text);
     }
-    let next = aggregates.next_part(&world.structs)?;
+    let next = aggregates.next_part(&world.structs.defs)?;
     match next {
         None => {
             let typed = text_value(world, at, text);
@@ -108,7 +108,7 @@ fn text_in_part(
         filled_tree (world_of world.new) result }
 {
     let mut aggregates = aggregates;
-    let inner = aggregates.filled_in(&world.structs, &Item::Text, part)?;
+    let inner = aggregates.filled_in(&world.structs.defs, &Item::Text, part)?;
     let more = typed!(with_text(world, is_static, inner, at, text));
     let filled = with_items(items, more, aggregates)?;
     Ok(filled)

@@ -35,7 +35,7 @@ pub(crate) fn value_item(
         items,
         mut aggregates,
     } = done;
-    let next = aggregates.next_part(&world.structs)?;
+    let next = aggregates.next_part(&world.structs.defs)?;
     match next {
         None => {
             let typed = value(world, e);
@@ -61,7 +61,7 @@ fn value_in_part(
     let x = typed!(value(world, e));
     let ty = x.ty()?;
     let item = Item::Value(ty);
-    let inner = aggregates.filled_in(&world.structs, &item, part)?;
+    let inner = aggregates.filled_in(&world.structs.defs, &item, part)?;
     let stored = typed!(fill(world, is_static, inner, e.pos(), x));
     let filled = with_item(items, stored, aggregates)?;
     Ok(filled)

@@ -47,7 +47,14 @@ fn no_value(world: &World, at: Pos, target: &CType, from: Option<CType>) -> Type
 {
     match target.copy() {
         Err(_) => TypeError::NoMemory,
-        Ok(target) => no_rule(world.alloc(), &world.structs, at, Op::Return, target, from),
+        Ok(target) => no_rule(
+            world.alloc(),
+            &world.structs.defs,
+            at,
+            Op::Return,
+            target,
+            from,
+        ),
     }
 }
 

@@ -110,7 +110,14 @@ pub fn switched_by(world: &World, at: Pos, e: TExpr) -> Result<Switched, TypeErr
             let value = as_int(world.alloc(), ty, t, e)?;
             Ok(Switched { value, ty })
         }
-        None => Err(no_rule(world.alloc(), &world.structs, at, Op::Switch, from, None)),
+        None => Err(no_rule(
+            world.alloc(),
+            &world.structs.defs,
+            at,
+            Op::Switch,
+            from,
+            None,
+        )),
     }
 }
 

@@ -11,7 +11,7 @@ use Rattle.c_type_names.specs.Trees.{binding_tree, tag_tree, linked_tree, labell
 
 abbrev pub world_of : World → typing.World
 world_of w = record {
-  structs = map structdef_tree w.structs;
+  structs = map structdef_tree w.structs.defs;
   objects = map object_tree w.objects.items;
   functions = map tfunction_tree w.functions.items;
   signatures = map (λ params. map ctype_tree params.items) w.signatures.items;

@@ -31,6 +31,7 @@
 //! | names in scope | `Names` of `c_typing` | `meaning_of`, `declared_here`, `first_here`, `declare`, `linked_as`, `link` |
 //! | scopes | `Names` of `c_typing` | `open`, `close` |
 //! | tags | `Names` of `c_typing` | `tag_in_scope`, `tag_here`, `add_tag`, `redefine` |
+//! | structs, and their members by name | `Names` of `c_typing` | `push`, `complete`, `place_of` |
 //! | structs and enumerations by their tags | `Names` of `c_typing` | `struct_named`, `struct_opened`, `enum_named`, `enum_opened`, `enum_closed` |
 //! | objects, limits, literals | `Names` of `c_typing` | `check_size`, `add_object`, `add_initial`, `add_literal` |
 //! | names that need no declaration | `Names` of `c_typing` | `input_type`, `is_reserved` |
@@ -45,6 +46,7 @@ mod objects;
 mod refusals;
 mod reserved;
 mod struct_tags;
+mod structs;
 mod table;
 mod type_error;
 mod types;
@@ -56,6 +58,7 @@ pub use given_initials::GivenInitials;
 pub use objects::literal_type;
 pub use refusals::no_rule;
 pub use reserved::{input_type, is_reserved};
+pub use structs::Structs;
 pub use table::{Named, Table};
 pub use type_error::TypeError;
 pub use types::{Binding, CaseAt, Form, Labelled, Linked, Meaning, TagBinding, TagMeaning};

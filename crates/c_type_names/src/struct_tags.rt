@@ -5,10 +5,8 @@ ghost use Rattle.std.specs.Prelude.{◌≡◌};
 use crate::error::NameError;
 use crate::types::{TagBinding, TagMeaning};
 use crate::world::World;
-use c_syntax::{Members, StructDef, StructDefs};
 use c_written::{Name, Pos, Tag};
 use std::alloc::AllocError as NoMemory;
-use std::mem;
 
 impl World {
     ghost use Rattle.std.specs.Prelude.{◌≡◌, ◌<◌, length, map, Some, None, OnOk};
@@ -21,17 +19,7 @@ impl World {
     fn add_struct(&mut self, tag: Name) -> Result<(), NoMemory>
         ensures { OnOk result (world_of self.new ≡ names.with_struct (world_of self.old) tag) }
     {
-        let members = Members::new(self.alloc);
-        let none = StructDefs::new(self.alloc);
-        let mut structs = mem::replace(&mut self.structs, none).into_vec();
-        structs.push(StructDef {
-            tag,
-            members,
-            size: 0,
-            align: 1,
-        })?;
-        self.structs = StructDefs::from_vec(structs);
-        Ok(())
+        self.structs.push(tag)
     }
 
     /// Puts a tag into the innermost scope. After want of memory the program is only dropped.
@@ -56,7 +44,7 @@ impl World {
     fn new_struct(&mut self, tag: &Tag, defined: Option<Pos>) -> Result<u64, NameError>
         ensures { ComesTo (names.new_struct (world_of self.old) tag.now defined) (world_of self.new) result }
     {
-        let number = self.structs.as_slice().len() as u64;
+        let number = self.structs.defs.as_slice().len() as u64;
         self.add_struct(tag.name.copy()?)?;
         self.add_tag(tag, defined, TagMeaning::Struct(number))?;
         Ok(number)
@@ -111,7 +99,7 @@ impl World {
     fn nameless_struct(&mut self) -> Result<u64, NameError>
         ensures { ComesTo (names.struct_opened (world_of self.old) None) (world_of self.new) result }
     {
-        let number = self.structs.as_slice().len() as u64;
+        let number = self.structs.defs.as_slice().len() as u64;
         let nameless = Name::new(self.alloc);
         self.add_struct(nameless)?;
         Ok(number)

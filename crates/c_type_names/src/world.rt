@@ -5,9 +5,10 @@ ghost use Rattle.std.specs.Prelude.{◌≡◌, ◌≤◌};
 use crate::cases::Cases;
 use crate::given_initials::GivenInitials;
 use crate::reserved::is_reserved;
+use crate::structs::Structs;
 use crate::table::Table;
 use crate::types::{Binding, Labelled, Linked, Meaning, TagBinding};
-use c_syntax::{CType, Object, StructDefs, TFunction};
+use c_syntax::{CType, Object, TFunction};
 use c_written::{Name, Pos};
 use std::alloc::{AllocError as NoMemory, Global};
 
@@ -15,7 +16,7 @@ use std::alloc::{AllocError as NoMemory, Global};
 #[derive(Drop)]
 pub struct World {
     pub(crate) alloc: Global,
-    pub structs: StructDefs,
+    pub structs: Structs,
     pub objects: Vec<Object>,
     pub functions: Vec<TFunction>,
     /// The types of each function's parameters.
@@ -60,7 +61,7 @@ impl World {
     {
         World {
             alloc,
-            structs: StructDefs::new(alloc),
+            structs: Structs::new(alloc),
             objects: Vec::new(alloc),
             functions: Vec::new(alloc),
             signatures: Vec::new(alloc),

@@ -10,8 +10,8 @@ ghost use Rattle.c_type_operators.specs.OperandViews.{operand_tree};
 ghost use Rattle.c_type_names.specs.Views.{Answers};
 
 use crate::rows::{arrow_row, member_row};
-use c_syntax::{Op, Pos, StructDefs, TExpr};
-use c_type_names::{TypeError, no_rule};
+use c_syntax::{Op, Pos, TExpr};
+use c_type_names::{Structs, TypeError, no_rule};
 use c_type_operators::{Operand, value_type};
 use std::alloc::Global;
 
@@ -19,21 +19,21 @@ use std::alloc::Global;
 /// left.
 pub fn member(
     alloc: Global,
-    structs: &StructDefs,
+    structs: &Structs,
     pos: Pos,
     name: &[u8],
     operand: Operand,
 ) -> Result<Operand, TypeError>
-    ensures { (w : World) → w.structs ≡ map structdef_tree structs.now
+    ensures { (w : World) → w.structs ≡ map structdef_tree structs.now.defs
         → Answers (λ out. out ≡ typing.member w pos name.now (operand_tree operand)) operand_tree w result }
 {
     let shown = value_type(alloc, &operand)?;
     match operand {
-        Operand::Value(_value) => Err(no_rule(alloc, structs, pos, Op::Dot, shown, None)),
+        Operand::Value(_value) => Err(no_rule(alloc, &structs.defs, pos, Op::Dot, shown, None)),
         Operand::Place(place) => {
             let ty = place.ty().copy()?;
             match member_row(alloc, structs, pos, name, &ty, place)? {
-                None => Err(no_rule(alloc, structs, pos, Op::Dot, shown, None)),
+                None => Err(no_rule(alloc, &structs.defs, pos, Op::Dot, shown, None)),
                 Some(member) => Ok(Operand::Place(member)),
             }
         }
@@ -43,17 +43,17 @@ pub fn member(
 /// `->` on a typed value. What is no pointer to a struct, or has no such member, is NoRule at the `->`.
 pub fn arrow(
     alloc: Global,
-    structs: &StructDefs,
+    structs: &Structs,
     pos: Pos,
     name: &[u8],
     e: TExpr,
 ) -> Result<Operand, TypeError>
-    ensures { (w : World) → w.structs ≡ map structdef_tree structs.now
+    ensures { (w : World) → w.structs ≡ map structdef_tree structs.now.defs
         → Answers (λ out. out ≡ typing.arrow w pos name.now (texpr_tree e)) operand_tree w result }
 {
     let ty = e.ty()?;
     match arrow_row(alloc, structs, pos, name, &ty, e)? {
-        None => Err(no_rule(alloc, structs, pos, Op::Arrow, ty, None)),
+        None => Err(no_rule(alloc, &structs.defs, pos, Op::Arrow, ty, None)),
         Some(member) => Ok(Operand::Place(member)),
     }
 }

@@ -10,24 +10,25 @@ ghost use Rattle.c_layout.specs.Layout as layout;
 ghost use Rattle.c_typing.specs.Rows as typing;
 
 use c_syntax::{CType, DerefKind, Member, Pos, StructDefs, TExpr, TLvalue};
+use c_type_names::Structs;
 use c_type_operators::star_row;
 use std::alloc::{AllocError as NoMemory, Global};
 
 /// `.`: the member of this name of a struct in a place (C11 6.5.2.3p1 and p3).
 pub fn member_row(
     alloc: Global,
-    structs: &StructDefs,
+    structs: &Structs,
     pos: Pos,
     name: &[u8],
     ty: &CType,
     place: TLvalue,
 ) -> Result<Option<TLvalue>, NoMemory>
     ensures { IfOk result (λ row. option_map tlvalue_tree row
-        ≡ typing.member_row (map structdef_tree structs.now) pos name.now (ctype_tree ty.now) (tlvalue_tree place)) }
+        ≡ typing.member_row (map structdef_tree structs.now.defs) pos name.now (ctype_tree ty.now) (tlvalue_tree place)) }
 {
     match ty {
         CType::Struct(n) => {
-            let row = member_named(alloc, members_of(structs, *n), pos, name, place)?;
+            let row = member_named(alloc, structs, *n, pos, name, place)?;
             Ok(row)
         }
         CType::Void | CType::Int(_) | CType::Pointer(_) | CType::Array(_, _) | CType::Function(_) =>
@@ -38,20 +39,42 @@ pub fn member_row(
 /// `->`, as `.` behind `*` (C11 6.5.2.3p2 and p4).
 pub fn arrow_row(
     alloc: Global,
-    structs: &StructDefs,
+    structs: &Structs,
     pos: Pos,
     name: &[u8],
     ty: &CType,
     e: TExpr,
 ) -> Result<Option<TLvalue>, NoMemory>
     ensures { IfOk result (λ row. option_map tlvalue_tree row
-        ≡ typing.arrow_row (map structdef_tree structs.now) pos name.now (ctype_tree ty.now) (texpr_tree e)) }
+        ≡ typing.arrow_row (map structdef_tree structs.now.defs) pos name.now (ctype_tree ty.now) (texpr_tree e)) }
 {
     match star_row(alloc, DerefKind::Arrow, pos, ty, e)? {
         None => Ok(None),
         Some(place) => {
             let ty = place.ty().copy()?;
             let row = member_row(alloc, structs, pos, name, &ty, place)?;
+            Ok(row)
+        }
+    }
+}
+
+// The member of this name of struct number `n`.
+fn member_named(
+    alloc: Global,
+    structs: &Structs,
+    n: u64,
+    pos: Pos,
+    name: &[u8],
+    place: TLvalue,
+) -> Result<Option<TLvalue>, NoMemory>
+    ensures { IfOk result (λ row. option_map tlvalue_tree row
+        ≡ option_and_then (typing.member_at (layout.members_of (map structdef_tree structs.now.defs) n) pos (tlvalue_tree place))
+        (position (λ member. bytes_eq member.name name.now) (layout.members_of (map structdef_tree structs.now.defs) n))) }
+{
+    match structs.place_of(n, name) {
+        None => Ok(None),
+        Some(k) => {
+            let row = member_at(alloc, members_of(&structs.defs, n), pos, k, place)?;
             Ok(row)
         }
     }
@@ -64,27 +87,6 @@ fn members_of(structs: &StructDefs, n: u64) -> &[Member]
     match structs.as_slice().get(n as usize) {
         None => &[],
         Some(def) => def.members.as_slice(),
-    }
-}
-
-// The member of this name of a struct that has these members.
-fn member_named(
-    alloc: Global,
-    members: &[Member],
-    pos: Pos,
-    name: &[u8],
-    place: TLvalue,
-) -> Result<Option<TLvalue>, NoMemory>
-    ensures { IfOk result (λ row. option_map tlvalue_tree row
-        ≡ option_and_then (typing.member_at (map member_tree members.now) pos (tlvalue_tree place))
-        (position (λ member. bytes_eq member.name name.now) (map member_tree members.now))) }
-{
-    match position_of(members, name) {
-        None => Ok(None),
-        Some(k) => {
-            let row = member_at(alloc, members, pos, k, place)?;
-            Ok(row)
-        }
     }
 }
 
@@ -127,20 +129,4 @@ fn member_node(
         is_const,
         place,
     })
-}
-
-// The place of this name among the members.
-fn position_of(members: &[Member], name: &[u8]) -> Option<usize>
-    ensures { result ≡ position (λ member. bytes_eq member.name name.now) (map member_tree members.now) }
-{
-    first_named(members, name)
-}
-
-// The same, among the members as the code has them.
-fn first_named(members: &[Member], name: &[u8]) -> Option<usize>
-    ensures { result ≡ position (λ member. bytes_eq member.name name.now) members.now }
-{
-    members
-        .iter()
-        .position(|member| member.name.as_slice() == name)
 }

@@ -11,7 +11,7 @@ ghost use Rattle.c_type_names.specs.Worlds.{world_of};
 use crate::initials::static_initials;
 use crate::settled_function;
 use c_syntax::{Initials, Object, Objects, TFunction, TFunctions, TProgram};
-use c_type_names::World;
+use c_type_names::{Structs, World};
 use std::alloc::{AllocError as NoMemory, Global};
 
 /// The program that a file leaves.
@@ -26,10 +26,11 @@ pub fn program_of(world: World) -> Result<TProgram, NoMemory>
         initial,
         ..
     } = world;
+    let Structs { defs, .. } = structs;
     let functions = last_functions(alloc, objects.as_slice(), functions)?;
     let initial = static_initials(alloc, initial.into_vec(), objects.as_slice())?;
     Ok(TProgram {
-        structs,
+        structs: defs,
         objects: Objects::from_vec(objects),
         functions: TFunctions::from_vec(functions),
         initial: Initials::from_vec(initial),

@@ -23,7 +23,7 @@ pub fn condition(world: &mut World, at: Pos, e: &Expr) -> Result<TExpr, TypeErro
     ensures { Answers (stmts.Condition (world_of world.old) at (expr_tree e.now)) texpr_tree (world_of world.new) result }
 {
     let x = typed!(value(world, e));
-    tested(world.alloc(), &world.structs, at, x)
+    tested(world.alloc(), &world.structs.defs, at, x)
 }
 
 /// A condition that may be missing.

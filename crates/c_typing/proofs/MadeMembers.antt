@@ -1,6 +1,7 @@
 -- Members that are typed one after the other.
 use Rattle.std.proofs.Common.{◌≡◌, ℕ, zero, suc, ◌*◌, ◌<◌, ◌≤◌, Bool, true, false, List, [], ◌∷◌, ◌++◌, length, map, refl, ap, sym, subst, ◌∙◌, inl, inr, arith}
-use Rattle.std.specs.Prelude.{◌⊎◌, if◌then◌else◌, ◌^◌, nat_le, Option, None, Some, option_map, IsTrue, slice_get}
+use Rattle.std.specs.Prelude.{◌⊎◌, ◌+◌, ◌-◌, if◌then◌else◌, ◌^◌, nat_le, Option, None, Some, option_map, unwrap_or, IsTrue, slice_get}
+use Rattle.std.proofs.lemmas.List.Sums.{fold-append}
 use Rattle.std.proofs.lemmas.Bool.{cases_order, leb-true}
 use Rattle.std.proofs.lemmas.List.{map-append, length-append, length-map, take_at, take-append-le}
 use Rattle.std.proofs.lemmas.List.Elements.{All-nil, All-push}
@@ -9,9 +10,11 @@ use Rattle.c_syntax.specs.Types.{CTypeTree, Void, Int, Pointer, Array, Struct, F
 use Rattle.c_syntax.specs.Program.{MemberTree, StructDefTree}
 use Rattle.c_layout.specs.declared.layout.Sized.TheVariants.{Fits, Oversize}
 use Rattle.c_layout.specs.ProperTypes.{IsTold}
-use Rattle.c_layout.specs.Layout.{sized, Space, space_by, spaces_by, struct_space, members_of, in_table, laid_out, size_in, align_in, padded, members_end, offset_at}
+use Rattle.c_layout.specs.Layout.{sized, Space, space_by, spaces_by, struct_space, members_of, in_table, laid_out, size_in, align_in, padded, member_end, members_end, offset_at}
 use Rattle.c_typing.specs.Operands.{told_size, is_unsized, complete_size}
 use Rattle.c_typing.specs.Later.{has_members}
+use Rattle.c_typing.specs.World.{World}
+use Rattle.c_typing.specs.Typing.{MemberMade, members_made, end_of, last_end}
 use Rattle.c_typing.proofs.MadeTables.{IsHeldComplete, IsMade, AreMade, get_last, space_held, any_held}
 
 pub nothing_made : (structs : List StructDefTree) → AreMade structs []
@@ -105,3 +108,64 @@ made_more structs made members m are h e = record {
   offsets = offsets_more members (λ member. space_by (in_table structs) member.ty) m are.offsets
       (e ∙ ap (λ space. padded (members_end (spaces_by (in_table structs) members)) space.align) (sym (space_held (in_table structs) (laid_out structs) m.ty (any_held m.ty made.laid_out.spaces))));
 }
+
+-- ---- where the last member ends
+
+last_apart : {A : Type 0} (x : A) (xs : List A) → (front : List A) × ((last : A) × (x ∷ xs ≡ front ++ last ∷ []))
+last_apart x [] = ([], (x, refl))
+last_apart x (y ∷ ys) = behind x (last_apart y ys)
+  where
+    behind : {A : Type 0} (x : A) {xs : List A} → (front : List A) × ((last : A) × (xs ≡ front ++ last ∷ [])) → (front : List A) × ((last : A) × (x ∷ xs ≡ front ++ last ∷ []))
+    behind x (front, (last, e)) = (x ∷ front, (last, ap (λ rest. x ∷ rest) e))
+
+ends_at :
+    (structs : List StructDefTree) (members : List MemberTree) (m : MemberTree) → AtOffsets (members ++ m ∷ []) (spaces_by (in_table structs) (members ++ m ∷ []))
+    → m.offset + unwrap_or (space_by (in_table structs) m.ty).size 0 ≡ members_end (spaces_by (in_table structs) (members ++ m ∷ []))
+ends_at structs members m at = ap (λ n. n + unwrap_or space.size 0) offset ∙ sym (ap members_end split ∙ fold-append member_end 0 spaces (space ∷ []))
+  where
+    space : Space
+    space = space_by (in_table structs) m.ty
+
+    spaces : List Space
+    spaces = spaces_by (in_table structs) members
+
+    split : spaces_by (in_table structs) (members ++ m ∷ []) ≡ spaces ++ space ∷ []
+    split = map-append (λ member. space_by (in_table structs) member.ty) members (m ∷ [])
+
+    long : length spaces ≡ length members
+    long = length-map members (λ member. space_by (in_table structs) member.ty)
+
+    there : Some m.offset ≡ Some (padded (members_end spaces) space.align)
+    there = sym (ap (option_map (λ member. member.offset)) (get_last members m)) ∙ at (length members)
+        ∙ ap (λ all. offset_at all (length members)) split ∙ ap (λ k. offset_at (spaces ++ space ∷ []) k) (sym long) ∙ offset_last spaces space
+
+    offset : m.offset ≡ padded (members_end spaces) space.align
+    offset = ap (λ o. unwrap_or o 0) there
+
+ends_there :
+    (w : World) (front : List MemberMade) (x : MemberMade) → AreMade w.structs (members_made (front ++ x ∷ []))
+    → last_end w (front ++ x ∷ []) ≡ members_end (spaces_by (in_table w.structs) (members_made (front ++ x ∷ [])))
+ends_there w front x are =
+    ap (λ o. unwrap_or (option_map (end_of w) o) 0) there
+    ∙ ends_at w.structs (members_made front) x.member (subst (λ members. AtOffsets members (spaces_by (in_table w.structs) members)) split are.offsets)
+    ∙ ap (λ members. members_end (spaces_by (in_table w.structs) members)) (sym split)
+  where
+    split : members_made (front ++ x ∷ []) ≡ members_made front ++ x.member ∷ []
+    split = map-append (λ made. made.member) front (x ∷ [])
+
+    counted : length (front ++ x ∷ []) - 1 ≡ length front
+    counted = rw length-append (omega arith)
+
+    there : slice_get (front ++ x ∷ []) (length (front ++ x ∷ []) - 1) ≡ Some x
+    there = ap (slice_get (front ++ x ∷ [])) counted ∙ get_last front x
+
+ends_apart :
+    (w : World) (done : List MemberMade) → (front : List MemberMade) × ((last : MemberMade) × (done ≡ front ++ last ∷ [])) → AreMade w.structs (members_made done)
+    → last_end w done ≡ members_end (spaces_by (in_table w.structs) (members_made done))
+ends_apart w done (front, (last, e)) =
+    subst (λ all. AreMade w.structs (members_made all) → last_end w all ≡ members_end (spaces_by (in_table w.structs) (members_made all))) (sym e) (ends_there w front last)
+
+-- of members that are made the last ends where they all end
+pub last_ends : (w : World) (done : List MemberMade) → AreMade w.structs (members_made done) → last_end w done ≡ members_end (spaces_by (in_table w.structs) (members_made done))
+last_ends w [] are = refl
+last_ends w (x ∷ xs) are = ends_apart w (x ∷ xs) (last_apart x xs) are

@@ -1,5 +1,5 @@
 -- Types of expressions, specs and declarators only make the changes of Reaches.
-use Rattle.std.proofs.Common.{◌≡◌, refl, sym, subst, ⊎_elim, arith}
+use Rattle.std.proofs.Common.{◌≡◌, refl, sym, ap, subst, ⊎_elim, arith}
 use Rattle.std.specs.Prelude.{ℕ, ◌≤◌, IsSomeAnd, ◌+◌, ◌^◌, ◌<◌, nat_lt, ◌||◌, ◌+ℤ◌, ℤ, pos, negsuc, Bool, true, false, if◌then◌else◌, Option, Some, None, option_map, List, [], ◌∷◌, ◌++◌, length, take, drop, reverse, find, All, bytes_eq}
 use Rattle.std.proofs.lemmas.Bool.{ltb-true, ltb-false}
 use Rattle.std.proofs.lemmas.List.Elements.{All-nil, All-push, All-drop, All-map, All-weaker}
@@ -26,8 +26,8 @@ use Rattle.c_typing.proofs.Reaches as reaches
 use Rattle.c_typing.proofs.Opens.{Opens, IsOpen, open_either, open_drop, open_apart, distinct_drop, found_open, found_closed}
 use Rattle.c_typing.proofs.MadeTables.{AreMade, IsIncomplete, get_last, complete_below, made_kept, empty_struct}
 use Rattle.c_layout.specs.ProperTypes.{IsTold}
-use Rattle.c_layout.specs.Layout.{size_in}
-use Rattle.c_typing.proofs.MadeMembers.{nothing_made, made_more, complete_held, complete_is_size, complete_is_told}
+use Rattle.c_layout.specs.Layout.{size_in, align_in, padded}
+use Rattle.c_typing.proofs.MadeMembers.{nothing_made, made_more, last_ends, complete_held, complete_is_size, complete_is_told}
 use Rattle.c_typing.proofs.SoundTables.{AreSound, sound_nothing_yet, sound_kept, sound_more, some_bytes, typed_table}
 use Rattle.c_typing.proofs.Good.{Good, Frame, IsBegun, IsAside, frame_then, frame_same, frame_closed, frame_keeps, aside_kept, is_later, good_closed}
 use Rattle.c_typing.proofs.Reaches.{Reaches, Kept, kept, Goes, typed, refused, goes_same, goes_if, goes_unless, goes_after, AllGo, then_goes, scope_goes, is_goes, enters, GoesWith, typed_so, refused_so, with_after, with_if, AllWith, all_forget, is_with, then_with, so_with, list_with}
@@ -399,9 +399,10 @@ member_typed :
     → typing.next_offset w done ty + size ≤ 2 ^ 40 → MadeIn (typing.with_member w named ty done) w
 member_typed w named ty done size good m f e h = record {
   made = subst (λ members. AreMade w.structs members) (sym (map-append (λ x. x.member) done _))
-      (made_more w.structs good.made (typing.members_made done) _ m.made (complete_held w.structs ty size e) refl);
+      (made_more w.structs good.made (typing.members_made done) _ m.made (complete_held w.structs ty size e) (ap (λ end. padded end (align_in w.structs ty)) (last_ends w done m.made)));
   sound = subst (λ members. AreSound w.structs members) (sym (map-append (λ x. x.member) done _))
-      (sound_more w.structs good.made (typing.members_made done) _ size m.sound (record { formed = f; size = subst (λ o. IsSomeAnd o (λ s. (0 < s) × IsTold s)) (sym is) (some, told) }) is h);
+      (sound_more w.structs good.made (typing.members_made done) _ size m.sound (record { formed = f; size = subst (λ o. IsSomeAnd o (λ s. (0 < s) × IsTold s)) (sym is) (some, told) }) is
+      (subst (λ end. padded end (align_in w.structs ty) + size ≤ 2 ^ 40) (last_ends w done m.made) h));
 }
   where
     is : size_in w.structs ty ≡ Some size

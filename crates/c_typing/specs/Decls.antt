@@ -442,7 +442,7 @@ initialised w object by (Refused r) = Refused r
 abbrev pub frame_for : World → ObjectNow → Frame
 frame_for w object = if object.measured then open_frame object.ty else frame_of w.structs (whole_part object.ty)
 
--- the initialiser of what was declared; an extern declaration in a block is no statement
+-- the initialiser of what was declared; what has no object here is no statement
 abbrev pub TypesInitOf : World → Declares → Option InitTree → Outcome Made → Type 0
 TypesInitOf w NoObject init o = Is (Typed nothing_made w) o
 TypesInitOf w (AnObject object) None o = Is (Typed (made_of object [] false) w) o

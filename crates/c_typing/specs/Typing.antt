@@ -1,6 +1,6 @@
 -- Which operand an expression is, and which type specs and declarators name. Each part is typed in the program that the part before it left,
 -- so the order of the text is that of the parts here.
-use Rattle.std.specs.Prelude.{ℕ, ◌+◌, nat_lt, nat_le, ◌^◌, ℤ, pos, ◌+ℤ◌, int_le, Bool, false, ◌&&◌, ◌||◌, if◌then◌else◌, Option, Some, None, option_map, unwrap_or, List, [], ◌∷◌, ◌++◌, map, length, drop, find, bytes_eq}
+use Rattle.std.specs.Prelude.{ℕ, ◌+◌, ◌-◌, nat_lt, nat_le, ◌^◌, ℤ, pos, ◌+ℤ◌, int_le, Bool, false, ◌&&◌, ◌||◌, if◌then◌else◌, Option, Some, None, option_map, unwrap_or, List, [], ◌∷◌, ◌++◌, map, length, slice_get, drop, find, bytes_eq}
 use Rattle.c_written.specs.declared.place.Pos.{Pos}
 use Rattle.c_written.specs.declared.construct.Construct.TheVariants as constructs
 use Rattle.c_written.specs.declared.int_type.IntType.TheVariants as ints
@@ -13,7 +13,7 @@ use Rattle.c_syntax.specs.declared.operator.StepTime.TheVariants as times
 use Rattle.c_syntax.specs.Types.{CTypeTree, Int, Struct}
 use Rattle.c_syntax.specs.TypedExpr.{TExprTree, TExprTrees, none, texprs_then}
 use Rattle.c_syntax.specs.Program.{MemberTree}
-use Rattle.c_layout.specs.Layout.{padded, members_end, spaces_by, in_table, align_in}
+use Rattle.c_layout.specs.Layout.{padded, space_by, in_table, align_in}
 use Rattle.c_layout.specs.RowTypes.{has_const_elements}
 use Rattle.c_typing.specs.World.{World, Form, Plain, Unsized, Callable, Meaning, Parameter, TypeName, Enumeration, no_rule, Undeclared, NotConstant, ObjectTooLarge, Unsupported, Outcome, Typed, Refused, Then, Is, unless}
 use Rattle.c_typing.specs.Names.{meaning_of, first_here, unless_declared, opened, closed, with_name, struct_named, struct_opened, with_members, enum_named, enum_opened, enum_closed}
@@ -87,9 +87,17 @@ struct_made w n done = Typed (TypePart (Plain (Struct n) false)) (with_members w
 abbrev pub member_named : List MemberMade → List ℕ → Option Pos
 member_named done name = option_map (λ m. m.pos) (find (λ m. bytes_eq m.member.name name) done)
 
--- where the next member stands (C11 6.7.2.1p15)
+-- where a member ends
+abbrev pub end_of : World → MemberMade → ℕ
+end_of w made = made.member.offset + unwrap_or (space_by (in_table w.structs) made.member.ty).size 0
+
+-- where the last of the members so far ends
+abbrev pub last_end : World → List MemberMade → ℕ
+last_end w done = unwrap_or (option_map (end_of w) (slice_get done (length done - 1))) 0
+
+-- where the next member stands: behind the last, at a multiple of its alignment (C11 6.7.2.1p14 and p15)
 abbrev pub next_offset : World → List MemberMade → CTypeTree → ℕ
-next_offset w done ty = padded (members_end (spaces_by (in_table w.structs) (members_made done))) (align_in w.structs ty)
+next_offset w done ty = padded (last_end w done) (align_in w.structs ty)
 
 abbrev pub with_member : World → DeclaredName → CTypeTree → List MemberMade → List MemberMade
 with_member w named ty done =

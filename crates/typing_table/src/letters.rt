@@ -2,7 +2,8 @@
 #![tactic(auto)]
 
 use crate::rows::Fault;
-use c_syntax::{CType, IntType, Member, Members, Name, StructDef, StructDefs, Target};
+use c_syntax::{CType, IntType, Member, Members, Name, Target};
+use c_type_names::Structs;
 use std::alloc::{AllocError, Global};
 use std::rc::Rc;
 
@@ -65,8 +66,9 @@ fn around(
 }
 
 /// `struct s { int m; char a[3]; }` and `struct t { int m; }`.
-pub fn structs(alloc: Global) -> Result<StructDefs, AllocError> {
-    let mut defs = Vec::new(alloc);
+pub fn structs(alloc: Global) -> Result<Structs, AllocError> {
+    let mut structs = Structs::new(alloc);
+    structs.push(name(alloc, b"s")?)?;
     let mut members = first_member(alloc)?;
     let element = Target {
         ty: CType::Int(IntType::Char),
@@ -77,10 +79,11 @@ pub fn structs(alloc: Global) -> Result<StructDefs, AllocError> {
         ty: CType::Array(Rc::new(alloc, element)?, 3),
         offset: 4,
     })?;
-    defs.push(def(alloc, b"s", members, 8)?)?;
+    structs.complete(0, Members::from_vec(members), 8, 4)?;
+    structs.push(name(alloc, b"t")?)?;
     let members = first_member(alloc)?;
-    defs.push(def(alloc, b"t", members, 4)?)?;
-    Ok(StructDefs::from_vec(defs))
+    structs.complete(1, Members::from_vec(members), 4, 4)?;
+    Ok(structs)
 }
 
 fn first_member(alloc: Global) -> Result<Vec<Member>, AllocError> {
@@ -91,20 +94,6 @@ fn first_member(alloc: Global) -> Result<Vec<Member>, AllocError> {
         offset: 0,
     })?;
     Ok(members)
-}
-
-fn def(
-    alloc: Global,
-    tag: &[u8],
-    members: Vec<Member>,
-    size: u64,
-) -> Result<StructDef, AllocError> {
-    Ok(StructDef {
-        tag: name(alloc, tag)?,
-        members: Members::from_vec(members),
-        size,
-        align: 4,
-    })
 }
 
 fn name(alloc: Global, bytes: &[u8]) -> Result<Name, AllocError> {

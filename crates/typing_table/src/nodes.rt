@@ -18,15 +18,15 @@ use c_type_operators::{Operand, operand_type};
 pub fn node(stack: &mut Stack, word: &str) -> Result<Operand, Fault> {
     if let Some(op) = spelled::unary(word) {
         let operand = stack.popped()?;
-        Ok(unary(stack.alloc, &stack.structs, AT, op, operand)?)
+        Ok(unary(stack.alloc, &stack.structs.defs, AT, op, operand)?)
     } else if let Some(op) = spelled::binary(word) {
         let right = stack.value()?;
         let left = stack.value()?;
-        Ok(binary(stack.alloc, &stack.structs, AT, op, left, right)?)
+        Ok(binary(stack.alloc, &stack.structs.defs, AT, op, left, right)?)
     } else if let Some(op) = spelled::compound(word) {
         let right = stack.value()?;
         let left = stack.popped()?;
-        Ok(compound(stack.alloc, &stack.structs, AT, op, left, right)?)
+        Ok(compound(stack.alloc, &stack.structs.defs, AT, op, left, right)?)
     } else {
         other(stack, word)
     }
@@ -43,12 +43,12 @@ fn other(stack: &mut Stack, word: &str) -> Result<Operand, Fault> {
         "[]" => {
             let index = stack.value()?;
             let base = stack.value()?;
-            Ok(indexed(stack.alloc, &stack.structs, AT, base, index)?)
+            Ok(indexed(stack.alloc, &stack.structs.defs, AT, base, index)?)
         }
         "=" => {
             let value = stack.value()?;
             let place = stack.popped()?;
-            Ok(assigned(stack.alloc, &stack.structs, AT, place, value)?)
+            Ok(assigned(stack.alloc, &stack.structs.defs, AT, place, value)?)
         }
         "?:" => choice(stack),
         "test" => condition(stack),
@@ -65,24 +65,24 @@ fn choice(stack: &mut Stack) -> Result<Operand, Fault> {
     let otherwise = stack.value()?;
     let then = stack.value()?;
     let test = stack.value()?;
-    Ok(conditional(stack.alloc, &stack.structs, AT, test, then, otherwise)?)
+    Ok(conditional(stack.alloc, &stack.structs.defs, AT, test, then, otherwise)?)
 }
 
 fn condition(stack: &mut Stack) -> Result<Operand, Fault> {
     let value = stack.value()?;
-    let test = tested(stack.alloc, &stack.structs, AT, value)?;
+    let test = tested(stack.alloc, &stack.structs.defs, AT, value)?;
     Ok(Operand::Value(test))
 }
 
 fn step(stack: &mut Stack, time: StepTime, way: StepWay) -> Result<Operand, Fault> {
     let operand = stack.popped()?;
-    Ok(stepped(stack.alloc, &stack.structs, AT, time, way, operand)?)
+    Ok(stepped(stack.alloc, &stack.structs.defs, AT, time, way, operand)?)
 }
 
 fn size(stack: &mut Stack) -> Result<Operand, Fault> {
     let operand = stack.popped()?;
     let ty = operand_type(&operand)?;
-    Ok(size_of(stack.alloc, &stack.structs, AT, ty)?)
+    Ok(size_of(stack.alloc, &stack.structs.defs, AT, ty)?)
 }
 
 // Words that have a name or a type in them.
@@ -126,7 +126,7 @@ fn converted(stack: &mut Stack, letters: &str) -> Result<Operand, Fault> {
 
 fn to_type(stack: &mut Stack, target: CType) -> Result<Operand, Fault> {
     let value = stack.value()?;
-    Ok(cast(stack.alloc, &stack.structs, AT, target, value)?)
+    Ok(cast(stack.alloc, &stack.structs.defs, AT, target, value)?)
 }
 
 fn assumption(stack: &mut Stack, count: &str) -> Result<Operand, Fault> {

@@ -39,7 +39,7 @@ fn of_type(alloc: Global, word: &str, ty: &CType) -> Result<String, Fault> {
         "scalar" => is_scalar(ty),
         "unsized" => is_unsized(ty),
         "void" => is_void(ty),
-        "extent" => extent_of(&structs(alloc)?, ty).is_some(),
+        "extent" => extent_of(&structs(alloc)?.defs, ty).is_some(),
         _ => return size_or_name(alloc, word, ty),
     };
     truth(alloc, holds)
@@ -47,7 +47,7 @@ fn of_type(alloc: Global, word: &str, ty: &CType) -> Result<String, Fault> {
 
 fn size_or_name(alloc: Global, word: &str, ty: &CType) -> Result<String, Fault> {
     match word {
-        "size" => match complete_size(&structs(alloc)?, ty) {
+        "size" => match complete_size(&structs(alloc)?.defs, ty) {
             Some(size) => Ok(format!(in alloc; "{size}")?),
             None => Ok(String::from_str(alloc, "none")?),
         },

@@ -4,8 +4,8 @@
 use crate::answer;
 use crate::letters::{form_of, structs};
 use crate::nodes::node;
-use c_syntax::{CType, IntType, Pos, StructDefs, TExpr, TExprs, TLvalue};
-use c_type_names::TypeError;
+use c_syntax::{CType, IntType, Pos, TExpr, TExprs, TLvalue};
+use c_type_names::{Structs, TypeError};
 use c_type_operators::{Operand, value_of};
 use std::alloc::{AllocError, AllocFailed, Global};
 
@@ -41,7 +41,7 @@ impl From<TypeError> for Fault {
 #[derive(Drop)]
 pub struct Stack {
     pub alloc: Global,
-    pub structs: StructDefs,
+    pub structs: Structs,
     operands: Vec<Operand>,
 }
 
