@@ -1,5 +1,8 @@
 // The cases of a switch, looked up by value.
 
+ghost use Rattle.std.specs.Prelude.{List, [], ◌∷◌, ◌++◌, IfOk};
+ghost use Rattle.c_type_names.specs.Firsts.{HasFirstCases};
+
 use crate::types::CaseAt;
 use c_written::Pos;
 use std::alloc::{AllocError as NoMemory, Global};
@@ -58,13 +61,11 @@ impl Cases {
     {
         let Cases {
             alloc,
-            mut places,
+            places,
             mut items,
         } = self;
         items.push(Snapshot::of(&case))?;
-        if !places.contains_key(&case.value) {
-            places.insert(case.value, case.pos)?;
-        }
+        let places = with_case(places, case)?;
         Ok(Cases {
             alloc,
             places,
@@ -81,4 +82,15 @@ impl Cases {
         *self = cases.with(case)?;
         Ok(())
     }
+}
+
+// The places with that of a case that stands behind all others, unless its value has one.
+fn with_case(mut places: HashMap<i128, Pos>, case: CaseAt) -> Result<HashMap<i128, Pos>, NoMemory>
+    ensures { IfOk result (λ after. (cases : List CaseAt) → HasFirstCases places cases → HasFirstCases after (cases ++ case ∷ [])) }
+{
+    if places.contains_key(&case.value) {
+        return Ok(places);
+    }
+    places.insert(case.value, case.pos)?;
+    Ok(places)
 }
