@@ -2,5 +2,6 @@ pub mod Become
 pub mod Cuts
 pub mod Found
 pub mod Indexes
+pub mod Members
 pub mod Places
 pub mod Steps
