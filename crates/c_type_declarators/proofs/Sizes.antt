@@ -1,10 +1,6 @@
--- Spaces of arrays of arrays, and tags of structs.
-use Rattle.std.proofs.Common.{◌≡◌, refl, ap, sym, ◌∙◌, ℕ, ◌*◌, List, [], map, Option, Some, None, arith, mul_assoc}
-use Rattle.std.specs.Prelude.{option_map, slice_get, unwrap_or}
-use Rattle.std.proofs.lemmas.Option.{slice_get-map}
-use Rattle.c_syntax.specs.declared.program.StructDef.{StructDef}
-use Rattle.c_syntax.specs.Program.{StructDefTree, structdef_tree}
-use Rattle.c_typing.specs.Names.{tag_of}
+-- Spaces of arrays of arrays.
+use Rattle.std.proofs.Common.{◌≡◌, refl, ap, ◌∙◌, ℕ, ◌*◌, Option, Some, None, arith, mul_assoc}
+use Rattle.std.specs.Prelude.{option_map}
 use Rattle.c_layout.specs.Layout.{Space, array_space}
 
 one_times : (o : Option ℕ) → option_map (λ n. 1 * n) o ≡ o
@@ -22,8 +18,3 @@ twice m n (Some s) = ap Some (mul_assoc m n s)
 -- so many arrays of so many elements
 pub array_twice : (m n : ℕ) (space : Space) → array_space (m * n) space ≡ array_space m (array_space n space)
 array_twice m n space = ap (λ (o : Option ℕ). let s : Space = record { size = o; align = space.align } in s) (twice m n space.size)
-
--- the tag of a struct that is there
-pub tag_told : (defs : List StructDef) (n : ℕ) (def : StructDef) → slice_get defs n ≡ Some def → def.tag ≡ tag_of (map structdef_tree defs) n
-tag_told defs n def e =
-    sym (ap (λ (o : Option StructDefTree). unwrap_or (option_map (λ d. d.tag) o) []) (slice_get-map structdef_tree defs n ∙ ap (option_map structdef_tree) e))

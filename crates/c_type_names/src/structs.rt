@@ -115,16 +115,20 @@ impl Structs {
         let Structs { defs, mut places } = self;
         let mut defs = defs.into_vec();
         let k = n as usize;
-        if k < defs.len() {
-            let tag = defs[k].tag.copy()?;
-            places[k] = names_of(*places.allocator(), members.as_slice())?;
-            defs[k] = StructDef {
-                tag,
-                members,
-                size,
-                align,
-            };
+        if k >= defs.len() {
+            return Ok(Structs {
+                defs: StructDefs::from_vec(defs),
+                places,
+            });
         }
+        let tag = defs[k].tag.copy()?;
+        places[k] = names_of(*places.allocator(), members.as_slice())?;
+        defs[k] = StructDef {
+            tag,
+            members,
+            size,
+            align,
+        };
         Ok(Structs {
             defs: StructDefs::from_vec(defs),
             places,
