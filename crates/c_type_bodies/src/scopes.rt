@@ -7,7 +7,7 @@ ghost use Rattle.c_type_names.specs.Trees.{binding_tree, meaning_tree, tag_tree}
 ghost use Rattle.c_type_names.specs.Worlds.{Encloses, world_of};
 ghost use Rattle.c_type_bodies.specs.Views as views;
 
-use c_type_names::{Binding, Meaning, Scope, Table, TagBinding, World};
+use c_type_names::{Binding, Cases, Meaning, Scope, Table, TagBinding, World};
 use std::alloc::AllocError as NoMemory;
 
 /// The scope of a body begins, with the names and tags of its parameter list (C11 6.2.1p4), where the objects of the
@@ -87,6 +87,6 @@ pub(crate) fn forget_jumps(world: &mut World)
 {
     let alloc = world.alloc();
     world.labels = Table::new(alloc);
-    world.cases = Vec::new(alloc);
+    world.cases = Cases::new(alloc);
     world.default = None;
 }

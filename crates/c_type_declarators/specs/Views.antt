@@ -1,8 +1,10 @@
 -- Declarators of the code as typing speaks of them.
-use Rattle.std.specs.Prelude.{◌≡◌, ℕ, map, Option, Some, None, option_map, IfSome, Result, Ok, Err}
+use Rattle.std.specs.Prelude.{◌≡◌, ℕ, List, map, Option, Some, None, option_map, IfSome, Result, Ok, Err}
 use Rattle.c_syntax.specs.Types.{ctype_tree}
+use Rattle.c_syntax.specs.Program.{StructDefTree}
 use Rattle.c_typing.specs.Declarators as declarators
-use Rattle.c_typing.specs.World.{Refusal}
+use Rattle.c_typing.specs.Operands.{complete_size}
+use Rattle.c_typing.specs.World.{Form, Plain, Refusal}
 use Rattle.c_type_names.specs.declared.type_error.TypeError.{TypeError}
 use Rattle.c_type_names.specs.Views.{refusal_of}
 use Rattle.c_type_names.specs.Trees.{binding_tree, tag_tree}
@@ -27,6 +29,15 @@ step_tree (steps.FunctionOf params names tags) =
 
 abbrev pub shape_tree : Shape → declarators.Shape
 shape_tree shape = record { name = option_map name_tree shape.name; steps = map step_tree shape.steps.items }
+
+-- the size of a complete type that a declaration gives
+abbrev pub form_size : List StructDefTree → Form → Option ℕ
+form_size structs (Plain ty is_const) = complete_size structs ty
+form_size structs form = None
+
+-- a size that is told is that of the type
+abbrev pub IsSizeTold : List StructDefTree → Form → Option ℕ → Type 0
+IsSizeTold structs form told = IfSome told (λ size. form_size structs form ≡ Some size)
 
 -- memory aside, the type has this size, or it has none and is refused so
 abbrev pub IsComplete : Option ℕ → Refusal → Result ℕ TypeError → Type 0

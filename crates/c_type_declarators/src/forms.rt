@@ -1,7 +1,7 @@
 // One step of a declarator, round what the steps further out make.
 #![tactic(auto)]
 
-ghost use Rattle.std.specs.Prelude.{◌≡◌, IfOk, map};
+ghost use Rattle.std.specs.Prelude.{◌≡◌, ◌==◌, if◌then◌else◌, IfOk, IfSome, None, Some, map};
 ghost use Rattle.c_syntax.specs.declared.op.Op.TheVariants as ops;
 ghost use Rattle.c_syntax.specs.Types.{ctype_tree};
 ghost use Rattle.c_typing.specs.Declarators as declarators;
@@ -9,7 +9,7 @@ ghost use Rattle.c_typing.specs.World as worlds;
 ghost use Rattle.c_type_names.specs.Views.{Answers};
 ghost use Rattle.c_type_names.specs.Trees.{form_tree};
 ghost use Rattle.c_type_names.specs.Worlds.{world_of};
-ghost use Rattle.c_type_declarators.specs.Views.{IsComplete, parameter_tree, step_tree};
+ghost use Rattle.c_type_declarators.specs.Views.{IsComplete, IsSizeTold, parameter_tree, step_tree};
 ghost use Rattle.c_typing.specs.Operands as operands;
 
 use crate::refusals::{array_of, no_init, shown};
@@ -22,16 +22,45 @@ use std::alloc::{AllocError as NoMemory, Global};
 /// The most bytes that a type may take.
 const TYPE_LIMIT: u64 = 1 << 40;
 
-/// One step round what the steps further out make.
-pub(crate) fn step_form(world: &World, pos: Pos, step: &Step, form: Form) -> Result<Form, TypeError>
-    ensures { Answers (λ out. out ≡ declarators.step_form (world_of world.now) pos (step_tree step.now) (form_tree form))
-        form_tree (world_of world.now) result }
+/// What steps make, and its size in bytes where that is told with it.
+#[derive(Debug, Drop)]
+pub(crate) struct Laying {
+    pub(crate) form: Form,
+    pub(crate) size: Option<u64>,
+}
+
+/// One step round what the steps further out make. An array is told with its size, so that an array of it need not go down
+/// its type for that.
+pub(crate) fn step_form(
+    world: &World,
+    pos: Pos,
+    step: &Step,
+    laying: Laying,
+) -> Result<Laying, TypeError>
+    requires { IsSizeTold (world_of world.now).structs (form_tree laying.form) laying.size }
+    ensures made { Answers (λ out. out ≡ declarators.step_form (world_of world.now) pos (step_tree step.now) (form_tree laying.form))
+        (λ made. form_tree made.form) (world_of world.now) result }
+    ensures told { IfOk result (λ made. IsSizeTold (world_of world.now).structs (form_tree made.form) made.size) }
 {
+    let Laying { form, size } = laying;
     match step {
-        Step::PointerTo(is_const) => pointer_form(world, pos, *is_const, form),
-        Step::ArrayOf(size_pos, n) => array_form(world, pos, *size_pos, *n, form),
-        Step::OpenArray => open_form(world, pos, form),
-        Step::FunctionOf(params, _, _) => function_form(world, pos, params.as_slice(), form),
+        Step::PointerTo(is_const) => untold(pointer_form(world, pos, *is_const, form)),
+        Step::ArrayOf(size_pos, n) => array_form(world, pos, *size_pos, *n, form, size),
+        Step::OpenArray => untold(open_form(world, pos, form)),
+        Step::FunctionOf(params, _, _) => {
+            untold(function_form(world, pos, params.as_slice(), form))
+        }
+    }
+}
+
+// The same without a size.
+fn untold(made: Result<Form, TypeError>) -> Result<Laying, TypeError>
+    ensures made { (types : worlds.Outcome worlds.Form → Type 0) (w : worlds.World) → Answers types form_tree w made → Answers types (λ made. form_tree made.form) w result }
+    ensures told { IfOk result (λ made. made.size ≡ None) }
+{
+    match made {
+        Ok(form) => Ok(Laying { form, size: None }),
+        Err(error) => Err(error),
     }
 }
 
@@ -51,12 +80,22 @@ fn pointer_form(world: &World, pos: Pos, is_const: bool, form: Form) -> Result<F
     }
 }
 
-// An array of what the rest says.
-fn array_form(world: &World, pos: Pos, size_pos: Pos, n: u64, form: Form) -> Result<Form, TypeError>
-    ensures { Answers (λ out. out ≡ declarators.array_form (world_of world.now) pos size_pos n (form_tree form)) form_tree (world_of world.now) result }
+// An array of what the rest says, whose size may be told.
+fn array_form(
+    world: &World,
+    pos: Pos,
+    size_pos: Pos,
+    n: u64,
+    form: Form,
+    told: Option<u64>,
+) -> Result<Laying, TypeError>
+    requires { IsSizeTold (world_of world.now).structs (form_tree form) told }
+    ensures made { Answers (λ out. out ≡ declarators.array_form (world_of world.now) pos size_pos n (form_tree form))
+        (λ made. form_tree made.form) (world_of world.now) result }
+    ensures told { IfOk result (λ made. IsSizeTold (world_of world.now).structs (form_tree made.form) made.size) }
 {
     match form {
-        Form::Plain(ty, is_const) => match size_or_refused(world, pos, &ty) {
+        Form::Plain(ty, is_const) => match size_told(world, pos, &ty, told) {
             Err(error) => Err(error),
             Ok(size) => sized_array(world, size_pos, n, ty, is_const, size),
         },
@@ -64,6 +103,18 @@ fn array_form(world: &World, pos: Pos, size_pos: Pos, n: u64, form: Form) -> Res
         Form::Callable(_params, _ret) => {
             Err(TypeError::Unsupported(pos, Construct::FunctionPointer))
         }
+    }
+}
+
+// The size of a type, which may be told.
+fn size_told(world: &World, pos: Pos, ty: &CType, told: Option<u64>) -> Result<u64, TypeError>
+    requires { IfSome told (λ size. operands.complete_size (world_of world.now).structs (ctype_tree ty.now) ≡ Some size) }
+    ensures { IsComplete (operands.complete_size (world_of world.now).structs (ctype_tree ty.now))
+        (worlds.no_rule (world_of world.now) pos ops.Init (ctype_tree ty.now) None) result }
+{
+    match told {
+        Some(size) => Ok(size),
+        None => size_or_refused(world, pos, ty),
     }
 }
 
@@ -75,17 +126,29 @@ fn sized_array(
     ty: CType,
     is_const: bool,
     size: u64,
-) -> Result<Form, TypeError>
-    ensures { Answers (λ out. out ≡ declarators.sized_array (world_of world.now) size_pos n (ctype_tree ty) is_const size)
-        form_tree (world_of world.now) result }
+) -> Result<Laying, TypeError>
+    requires { operands.complete_size (world_of world.now).structs (ctype_tree ty) ≡ Some size }
+    ensures made { Answers (λ out. out ≡ declarators.sized_array (world_of world.now) size_pos n (ctype_tree ty) is_const size)
+        (λ made. form_tree made.form) (world_of world.now) result }
+    ensures told { IfOk result (λ made. IsSizeTold (world_of world.now).structs (form_tree made.form) made.size) }
 {
     match n.checked_mul(size) {
         Some(bytes) if bytes <= TYPE_LIMIT => {
             let array = array_of(world.alloc(), ty, is_const, n)?;
-            Ok(Form::Plain(array, false))
+            Ok(Laying {
+                form: Form::Plain(array, false),
+                size: array_size(n, bytes),
+            })
         }
         _ => Err(TypeError::ObjectTooLarge(size_pos, TYPE_LIMIT)),
     }
+}
+
+// The size of an array of so many elements, which take so many bytes. One of none has no size yet.
+fn array_size(n: u64, bytes: u64) -> Option<u64>
+    ensures { result ≡ (if n == 0 then None else Some bytes) }
+{
+    if n == 0 { None } else { Some(bytes) }
 }
 
 // An array without size.

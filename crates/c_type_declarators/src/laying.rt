@@ -8,7 +8,7 @@ ghost use Rattle.c_type_names.specs.Trees.{form_tree};
 ghost use Rattle.c_type_names.specs.Worlds.{world_of};
 ghost use Rattle.c_type_declarators.specs.Views.{step_tree};
 
-use crate::forms::step_form;
+use crate::forms::{Laying, step_form};
 use crate::shape::Step;
 use c_syntax::Pos;
 use c_type_names::{Form, TypeError, World};
@@ -22,13 +22,16 @@ pub fn laid(world: &World, pos: Pos, steps: &[Step], base: Form) -> Result<Form,
         form_tree (world_of world.now) result }
 {
     let mut left = steps;
-    let mut form = base;
+    let mut laying = Laying {
+        form: base,
+        size: None,
+    };
     'inward: while let Some((step, inner)) = left.split_last() {
-        form = match step_form(world, pos, step, form) {
+        laying = match step_form(world, pos, step, laying) {
             Err(error) => return Err(error),
-            Ok(form) => form,
+            Ok(laying) => laying,
         };
         left = inner;
     }
-    Ok(form)
+    Ok(laying.form)
 }

@@ -2,7 +2,7 @@
 // want of memory.
 #![tactic(auto)]
 
-ghost use Rattle.std.specs.Prelude.{◌≡◌, ◌+◌, false, IfOk, Some, map};
+ghost use Rattle.std.specs.Prelude.{◌≡◌, ◌+◌, false, IfOk, Some, map, unwrap_or};
 ghost use Rattle.c_syntax.specs.Types.{ctype_tree};
 ghost use Rattle.c_syntax.specs.Program.{member_tree, structdef_tree};
 ghost use Rattle.c_layout.specs.Layout as layout;
@@ -20,6 +20,15 @@ use std::alloc::AllocError as NoMemory;
 pub(crate) struct Space {
     pub(crate) size: Option<u64>,
     pub(crate) align: u64,
+}
+
+/// Where a member ends.
+pub(crate) fn end_of(structs: &StructDefs, made: &MemberMade) -> Result<u64, NoMemory>
+    ensures { IfOk result (λ end. end ≡ made.now.member.offset
+        + unwrap_or (layout.space_by (layout.in_table (map structdef_tree structs.now)) (ctype_tree made.now.member.ty)).size 0) }
+{
+    let space = space_of(structs, &made.member.ty)?;
+    sum(made.member.offset, space.size.unwrap_or(0))
 }
 
 /// Where the last of these members ends.

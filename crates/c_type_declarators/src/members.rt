@@ -11,7 +11,7 @@ ghost use Rattle.c_type_names.specs.Trees.{form_tree};
 ghost use Rattle.c_type_names.specs.Worlds.{world_of};
 ghost use Rattle.c_type_declarators.specs.PartViews.{made_tree};
 
-use crate::layouts::{members_end, padded};
+use crate::layouts::{end_of, padded};
 use crate::{DeclaredName, Shape, laid, no_init, size_or_refused, unknown_function};
 use c_layout::{align_of, has_const_elements};
 use c_syntax::{CType, Construct, Member, Pos};
@@ -143,6 +143,16 @@ fn is_const_member(is_const: bool, ty: &CType) -> bool
 fn next_offset(world: &World, done: &[MemberMade], ty: &CType) -> Result<u64, NoMemory>
     ensures { IfOk result (λ offset. offset ≡ typing.next_offset (world_of world.now) (map made_tree done.now) (ctype_tree ty.now)) }
 {
-    let end = members_end(&world.structs.defs, done)?;
+    let end = last_end(world, done)?;
     padded(end, align_of(ty, &world.structs.defs))
+}
+
+// Where the last of the members so far ends.
+fn last_end(world: &World, done: &[MemberMade]) -> Result<u64, NoMemory>
+    ensures { IfOk result (λ end. end ≡ typing.last_end (world_of world.now) (map made_tree done.now)) }
+{
+    match done.last() {
+        None => Ok(0),
+        Some(made) => end_of(&world.structs.defs, made),
+    }
 }

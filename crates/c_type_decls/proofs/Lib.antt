@@ -3,7 +3,6 @@ pub mod Alone
 pub mod Behind
 pub mod Changing
 pub mod FileForms
-pub mod Finds
 pub mod FunctionForms
 pub mod Lists
 pub mod ParameterForms

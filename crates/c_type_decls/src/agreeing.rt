@@ -1,7 +1,7 @@
 // Which declarations are of one entity.
 #![tactic(auto)]
 
-ghost use Rattle.std.specs.Prelude.{◌≡◌, ◌&&◌, ◌==◌, [], find, IfOk, is_some, map, option_map, slice_get, unwrap_or};
+ghost use Rattle.std.specs.Prelude.{◌≡◌, ◌&&◌, ◌==◌, [], IfOk, map, option_map, slice_get, unwrap_or};
 ghost use Rattle.c_syntax.specs.Types as types;
 ghost use Rattle.c_syntax.specs.Types.{ctype_tree, object_tree};
 ghost use Rattle.c_typing.specs.Decls as decls;
@@ -10,7 +10,7 @@ ghost use Rattle.c_type_names.specs.Trees.{linked_tree, meaning_tree};
 ghost use Rattle.c_type_names.specs.Worlds.{world_of};
 
 use crate::linked_objects::is_read_only;
-use c_syntax::{CType, Initial, IntType, Object};
+use c_syntax::{CType, IntType, Object};
 use c_type_names::{Linked, Meaning, World};
 use c_type_operators::{is_same, is_unsized};
 use std::alloc::AllocError as NoMemory;
@@ -196,33 +196,13 @@ fn has_initial(world: &World, meaning: &Meaning) -> bool
     ensures { result ≡ decls.has_initial (world_of world.now) (meaning_tree meaning.now) }
 {
     match meaning {
-        Meaning::Object(n) => is_initialised(world.initial.as_slice(), *n),
+        Meaning::Object(n) => world.initial.has(*n),
         Meaning::Missing(_, _)
         | Meaning::Parameter(_, _, _)
         | Meaning::Function(_)
         | Meaning::TypeName(_)
         | Meaning::Enumeration(_) => false,
     }
-}
-
-// Whether object number `n` is one of these.
-fn is_initialised(initial: &[Initial], n: u64) -> bool
-    ensures { result ≡ is_some (find (λ one. one.object == n) initial.now) }
-{
-    let mut left = initial;
-    'each: while let Some((first, rest)) = left.split_first() {
-        if is_of(first, n) {
-            return true;
-        }
-        left = rest;
-    }
-    false
-}
-
-fn is_of(initial: &Initial, n: u64) -> bool
-    ensures { result ≡ (initial.now.object == n) }
-{
-    initial.object == n
 }
 
 /// The type of an object by all its declarations, of which this is the last (C11 6.2.7p4).

@@ -12,5 +12,5 @@ switched_tree s = record { value = texpr_tree s.value; ty = s.ty }
 
 -- the cases and the default of the switch around, which were kept
 pub record Keeps (outer : OuterCases) (before : World) : Type 0 where
-  pub cases : map case_tree outer.cases.items ≡ before.cases
+  pub cases : map case_tree outer.cases ≡ before.cases
   pub default : outer.default ≡ before.default

@@ -1,8 +1,7 @@
 // Switches, and the cases in them.
 #![tactic(auto)]
 
-ghost use Rattle.std.specs.Prelude.{◌≡◌, find, MatchOption, None};
-ghost use Rattle.std.specs.Ordering.{int_eq};
+ghost use Rattle.std.specs.Prelude.{◌≡◌, MatchOption, None};
 ghost use Rattle.c_syntax.specs.Types as types;
 ghost use Rattle.c_syntax.specs.Types.{ctype_tree};
 ghost use Rattle.c_syntax.specs.TypedExpr.{TExprTree, texpr_tree};
@@ -17,7 +16,7 @@ ghost use Rattle.c_type_jumps.specs.Views.{Keeps, switched_tree};
 
 use c_layout::{promote, wrap};
 use c_syntax::{CType, IntType, Op, Pos, TExpr, TStmt};
-use c_type_names::{CaseAt, TypeError, World, no_rule};
+use c_type_names::{CaseAt, Cases, TypeError, World, no_rule};
 use c_type_operators::as_int;
 use std::mem;
 
@@ -31,7 +30,7 @@ pub struct Switched {
 /// The cases and the default of the switch around, kept while those of another are told.
 #[derive(Drop)]
 pub struct OuterCases {
-    cases: Vec<CaseAt>,
+    cases: Cases,
     default: Option<Pos>,
 }
 
@@ -73,17 +72,7 @@ fn cased(world: &mut World, at: Pos, n: i128) -> Result<i128, TypeError>
 fn case_before(world: &World, n: i128) -> Option<Pos>
     ensures { result ≡ stmts.case_before (world_of world.now) n }
 {
-    match first_case(world.cases.as_slice(), n) {
-        None => None,
-        Some(case) => Some(case.pos),
-    }
-}
-
-// The first case of this value.
-fn first_case(cases: &[CaseAt], n: i128) -> Option<CaseAt>
-    ensures { result ≡ find (λ case. int_eq case.value n) cases.now }
-{
-    cases.iter().copied().find(|case| case.value == n)
+    world.cases.first(n)
 }
 
 /// A default, which a switch has once, else it is Redeclared. Outside of a switch it is Undeclared.
@@ -154,7 +143,7 @@ pub fn begin_cases(world: &mut World) -> OuterCases
     ensures begun { world_of world.new ≡ stmts.without_cases (world_of world.old) }
     ensures kept { Keeps result (world_of world.old) }
 {
-    let none = Vec::new(world.alloc());
+    let none = Cases::new(world.alloc());
     let cases = mem::replace(&mut world.cases, none);
     let default = world.default;
     world.default = None;

@@ -1,5 +1,6 @@
 pub mod Become
 pub mod Cuts
+pub mod Firsts
 pub mod Found
 pub mod Indexes
 pub mod Members

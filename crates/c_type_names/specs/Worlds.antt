@@ -15,7 +15,7 @@ world_of w = record {
   objects = map object_tree w.objects.items;
   functions = map tfunction_tree w.functions.items;
   signatures = map (λ params. map ctype_tree params.items) w.signatures.items;
-  initial = w.initial.items;
+  initial = w.initial;
   total = w.total;
   linked = map linked_tree w.linked;
   names = map binding_tree w.names;
@@ -23,7 +23,7 @@ world_of w = record {
   tags = map tag_tree w.tags;
   first_tag = w.first_tag;
   labels = map labelled_tree w.labels;
-  cases = map case_tree w.cases.items;
+  cases = map case_tree w.cases;
   default = w.default;
 }
 

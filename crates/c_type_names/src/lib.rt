@@ -26,6 +26,7 @@
 //! | What | Stated in | Promised by |
 //! |---|---|---|
 //! | a list, looked up by name | `specs/Places.antt`, `specs/Kept.antt` | `Table` |
+//! | the cases of a switch by value, initial values by object | `specs/Firsts.antt` | `Cases`, `GivenInitials` |
 //! | what names and tags stand for | `specs/Trees.antt` | - |
 //! | names in scope | `Names` of `c_typing` | `meaning_of`, `declared_here`, `first_here`, `declare`, `linked_as`, `link` |
 //! | scopes | `Names` of `c_typing` | `open`, `close` |
@@ -36,8 +37,10 @@
 //! | names that need no declaration | `Names` of `c_typing` | `input_type`, `is_reserved` |
 #![tactic(auto)]
 
+mod cases;
 mod enum_tags;
 mod error;
+mod given_initials;
 mod name_index;
 mod objects;
 mod refusals;
@@ -49,7 +52,9 @@ mod type_error;
 mod types;
 mod world;
 
+pub use cases::Cases;
 pub use error::NameError;
+pub use given_initials::GivenInitials;
 pub use objects::literal_type;
 pub use refusals::no_rule;
 pub use reserved::{input_type, is_reserved};

@@ -2,11 +2,13 @@
 
 ghost use Rattle.std.specs.Prelude.{◌≡◌, ◌≤◌};
 
+use crate::cases::Cases;
+use crate::given_initials::GivenInitials;
 use crate::reserved::is_reserved;
 use crate::structs::Structs;
 use crate::table::Table;
-use crate::types::{Binding, CaseAt, Labelled, Linked, Meaning, TagBinding};
-use c_syntax::{CType, Initial, Object, TFunction};
+use crate::types::{Binding, Labelled, Linked, Meaning, TagBinding};
+use c_syntax::{CType, Object, TFunction};
 use c_written::{Name, Pos};
 use std::alloc::{AllocError as NoMemory, Global};
 
@@ -19,7 +21,7 @@ pub struct World {
     pub functions: Vec<TFunction>,
     /// The types of each function's parameters.
     pub signatures: Vec<Vec<CType>>,
-    pub initial: Vec<Initial>,
+    pub initial: GivenInitials,
     /// The sum of the sizes of all objects, in bytes.
     pub total: u64,
     pub linked: Table<Linked>,
@@ -30,7 +32,7 @@ pub struct World {
     /// Where the tags of the innermost scope begin.
     pub first_tag: usize,
     pub labels: Table<Labelled>,
-    pub cases: Vec<CaseAt>,
+    pub cases: Cases,
     pub default: Option<Pos>,
     ghost small: { total ≤ 65536 },
 }
@@ -63,7 +65,7 @@ impl World {
             objects: Vec::new(alloc),
             functions: Vec::new(alloc),
             signatures: Vec::new(alloc),
-            initial: Vec::new(alloc),
+            initial: GivenInitials::new(alloc),
             total: 0,
             linked: Table::new(alloc),
             names: Table::new(alloc),
@@ -71,7 +73,7 @@ impl World {
             tags: Table::new(alloc),
             first_tag: 0,
             labels: Table::new(alloc),
-            cases: Vec::new(alloc),
+            cases: Cases::new(alloc),
             default: None,
         }
     }

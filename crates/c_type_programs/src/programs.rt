@@ -28,7 +28,7 @@ pub fn program_of(world: World) -> Result<TProgram, NoMemory>
     } = world;
     let Structs { defs, .. } = structs;
     let functions = last_functions(alloc, objects.as_slice(), functions)?;
-    let initial = static_initials(alloc, initial, objects.as_slice())?;
+    let initial = static_initials(alloc, initial.into_vec(), objects.as_slice())?;
     Ok(TProgram {
         structs: defs,
         objects: Objects::from_vec(objects),
