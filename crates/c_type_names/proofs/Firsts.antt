@@ -11,7 +11,7 @@ use Rattle.std.proofs.lemmas.List.Folds.{find-append}
 use Rattle.c_written.specs.declared.place.Pos.{Pos}
 use Rattle.c_syntax.specs.declared.program.Initial.{Initial}
 use Rattle.c_type_names.specs.declared.types.CaseAt.{CaseAt}
-use Rattle.c_type_names.specs.Firsts.{first_case, HasFirstCases, is_initialised, HasInitialised}
+use Rattle.c_type_names.specs.Firsts.{first_case, HasFirstCases, HasInitialised}
 
 -- what is found at the end, where nothing is before it
 some_or : {A : Type 0} (b : Bool) (o : Option A) (x : A) → cond b true (is_some o) ≡ is_some (option_or o (cond b (Some x) None))

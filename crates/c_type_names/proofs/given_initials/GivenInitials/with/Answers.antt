@@ -1,4 +1,4 @@
-use Rattle.std.proofs.Common.{subst, sym, [], ◌∷◌, ◌++◌}
+use Rattle.std.proofs.Common.{subst, sym}
 use Rattle.c_type_names.specs.Firsts.{HasInitialised}
 use Rattle.c_type_names.proofs.Firsts.{one_more_initial}
 use Rattle.c_type_names.proofs.given_initials.GivenInitials.with.Goals as goal
