@@ -1,6 +1,4 @@
 use Rattle.std.proofs.Common.{map, ap, sym, ◌∙◌}
-use Rattle.std.specs.Prelude.{option_and_then, position}
-use Rattle.std.specs.Str.{bytes_eq}
 use Rattle.c_syntax.specs.Types.{ctype_tree}
 use Rattle.c_syntax.specs.TypedExpr.{tlvalue_tree}
 use Rattle.c_syntax.specs.Program.{structdef_tree}
@@ -12,5 +10,4 @@ pub returns-in_ok-row-in-Struct : goal.returns-in_ok-row-in-Struct
 returns-in_ok-row-in-Struct c =
     let place = tlvalue_tree c.args.place in
     c.in_ok-row-in-Struct.ensures
-    ∙ ap (λ members. option_and_then (typing.member_at members c.args.pos place) (position (λ member. bytes_eq member.name c.args.name.now) members)) c.members_of.ensures
-    ∙ ap (λ ty. typing.member_row (map structdef_tree c.args.structs.now) c.args.pos c.args.name.now ty place) (sym (ap ctype_tree c.in-Struct.is ∙ ctype_struct c.in-Struct.n))
+    ∙ ap (λ ty. typing.member_row (map structdef_tree c.args.structs.now.defs) c.args.pos c.args.name.now ty place) (sym (ap ctype_tree c.in-Struct.is ∙ ctype_struct c.in-Struct.n))
