@@ -27,7 +27,7 @@ inward-preserved c =
     let step = step_tree c.in-Some.step.now in
     let form = form_tree c.inward.laying.form in
     let split : map step_tree c.inward.left.now ≡ inner ++ step ∷ [] = ap (map step_tree) c.in-Some.ensures.cases.0 ∙ map-append step_tree c.in-Some.inner.now (c.in-Some.step.now ∷ []) in
-    c.inward.invariant.0 ∙ ap (λ steps. declarators.laid w c.args.pos steps form) split ∙ laid_typed w c.args.pos inner step form (form_tree c.in-Ok.laying.form) (sym c.in-Ok.ensures.made), c.in-Ok.ensures.told
+    (c.inward.invariant.0 ∙ ap (λ steps. declarators.laid w c.args.pos steps form) split ∙ laid_typed w c.args.pos inner step form (form_tree c.in-Ok.laying.form) (sym c.in-Ok.ensures.made), c.in-Ok.ensures.told)
 
 pub returns : goal.returns
 returns c =
