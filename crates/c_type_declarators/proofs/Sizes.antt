@@ -1,5 +1,5 @@
 -- Spaces of arrays of arrays.
-use Rattle.std.proofs.Common.{◌≡◌, refl, ap, ◌∙◌, ℕ, ◌*◌, Option, Some, None, arith, mul_assoc}
+use Rattle.std.proofs.Common.{◌≡◌, refl, ap, ℕ, ◌*◌, Option, Some, None, arith, mul_assoc}
 use Rattle.std.specs.Prelude.{option_map}
 use Rattle.c_layout.specs.Layout.{Space, array_space}
 

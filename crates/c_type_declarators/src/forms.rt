@@ -55,7 +55,8 @@ pub(crate) fn step_form(
 
 // The same without a size.
 fn untold(made: Result<Form, TypeError>) -> Result<Laying, TypeError>
-    ensures made { (types : worlds.Outcome worlds.Form → Type 0) (w : worlds.World) → Answers types form_tree w made → Answers types (λ made. form_tree made.form) w result }
+    ensures made { (outcome : worlds.Outcome worlds.Form) (w : worlds.World) → Answers (λ out. out ≡ outcome) form_tree w made
+        → Answers (λ out. out ≡ outcome) (λ made. form_tree made.form) w result }
     ensures told { IfOk result (λ made. made.size ≡ None) }
 {
     match made {

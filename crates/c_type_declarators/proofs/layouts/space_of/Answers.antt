@@ -1,4 +1,4 @@
-use Rattle.std.proofs.Common.{◌≡◌, sym, ap, ◌∙◌, map}
+use Rattle.std.proofs.Common.{sym, ap, ◌∙◌, map}
 use Rattle.c_syntax.specs.declared.types.Target.{Target}
 use Rattle.c_syntax.specs.Types.{ctype_tree}
 use Rattle.c_syntax.specs.Program.{structdef_tree}

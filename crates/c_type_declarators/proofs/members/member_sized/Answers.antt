@@ -1,4 +1,4 @@
-use Rattle.std.proofs.Common.{◌≡◌, ap, sym, ◌∙◌, ℕ, ◌+◌, ◌^◌, ◌∷◌, [], ◌++◌, map, true, false, None}
+use Rattle.std.proofs.Common.{◌≡◌, ap, sym, ◌∙◌, ℕ, ◌+◌, ◌^◌, ◌∷◌, [], ◌++◌, map}
 use Rattle.std.specs.Prelude.{nat_lt}
 use Rattle.std.proofs.lemmas.List.{map-append}
 use Rattle.c_syntax.specs.Types.{ctype_tree}
