@@ -6,8 +6,9 @@ use c_check::check;
 use c_lexer::{LexError, lex};
 use c_parser::{ParseError, parse};
 use c_rules::{RuleError, admit};
-use c_syntax::{File, Names, Plan, TFunctions, TProgram};
+use c_syntax::{File, Names, Plan, TProgram};
 use c_type_names::TypeError;
+use rule_text::names_of;
 use std::alloc::{AllocError, AllocFailed, Global};
 
 /// The most bytes of a file that is cut into tokens.
@@ -61,7 +62,7 @@ fn plan(alloc: Global, text: &str) -> Result<Plan, Fault> {
     match admit(alloc, &program) {
         Ok(plan) => Ok(plan),
         Err(error) => {
-            let names = names_of(alloc, &program.functions)?;
+            let names = names_of(alloc, &program)?;
             Err(Fault::Rules(error, names))
         }
     }
@@ -89,12 +90,4 @@ fn tree(alloc: Global, text: &[u8]) -> Result<File, Fault> {
         Err(ParseError::NoMemory) => Err(Fault::NoMemory),
         Err(_) => Err(Fault::NoFile),
     }
-}
-
-fn names_of(alloc: Global, functions: &TFunctions) -> Result<Names, AllocError> {
-    let mut names = Vec::new(alloc);
-    for function in functions.as_slice() {
-        names.push(function.name.copy()?)?;
-    }
-    Ok(Names::from_vec(names))
 }

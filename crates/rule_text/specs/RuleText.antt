@@ -1,8 +1,13 @@
 -- What is told of a refusal by the rules, and where it stands.
-use Rattle.std.specs.Prelude.{ℕ, List, [], ◌∷◌, ◌++◌, Option, Some, None, option_map, unwrap_or, slice_get, codes, decimal}
+use Rattle.std.specs.Prelude.{ℕ, List, [], ◌∷◌, ◌++◌, Option, Some, None, option_map, unwrap_or, map, slice_get, codes, decimal}
 use Rattle.c_written.specs.declared.place.Pos.{Pos}
+use Rattle.c_syntax.specs.Program.{TProgramTree}
 use Rattle.c_layout.specs.Calls.{PlacedCall}
 use Rattle.rule_text.specs.Refusals.{RuleRefusal, Unsequenced, Recursion, NoMain, UndefinedFunction, TooDeepCalls, TooLarge, GotoIntoBlock}
+
+-- the names of the functions of a program, by their numbers
+abbrev pub names_of : TProgramTree → List (List ℕ)
+names_of program = map (λ function. function.name) program.functions
 
 -- a call by the function that it calls and its own place, where these are the names of the functions by their numbers
 abbrev pub call_text : List (List ℕ) → PlacedCall → List ℕ

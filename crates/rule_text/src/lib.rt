@@ -9,9 +9,12 @@
 //! | refusals without what no text tells | `Refusals` | - |
 //! | what is told of a refusal | `RuleText` | `rule_text` |
 //! | where it stands | `RuleText` | `rule_pos` |
+//! | the names of the functions | `RuleText` | `names_of` |
 #![tactic(auto)]
 
 mod calls;
+mod names;
 mod refusals;
 
+pub use names::names_of;
 pub use refusals::{rule_pos, rule_text};

@@ -1,4 +1,5 @@
 pub mod CommandLemmas
+pub mod RuleLemmas
 pub mod VerdictLemmas
 pub mod HeadlineLemmas
 pub mod ReadLemmas

@@ -10,17 +10,17 @@ use Rattle.c_type_names.specs.declared.type_error.TypeError.TheVariants as error
 use Rattle.constant_form.specs.Tree.{ProgramTree}
 use Rattle.constant_form.specs.Form.{IsForm}
 use Rattle.verac.specs.declared.refusal.Refusal.TheVariants as refusals
-use Rattle.verac.specs.Program.{IsSource, IsTypedAs, IsProgram}
+use Rattle.verac.specs.Program.{IsSource, IsTypedAs, IsAdmittedAs, IsProgram}
 use Rattle.verac.specs.Refusal.{RefusalTree, refusal_tree}
 use Rattle.verac.specs.Verdict.{IsRefusedFor}
 use Rattle.verac.specs.Read.{IsOneProgram}
 
--- bytes whose typed program is of the form are its one program
+-- bytes whose typed program is admitted and of the form are its one program
 pub one_read : ((bytes : List ℕ) (a b : ProgramTree) → IsProgram bytes a → IsProgram bytes b → a ≡ b)
     → ((bytes : List ℕ) (program : ProgramTree) (r : RefusalTree) → length bytes ≤ 4194304 → IsProgram bytes program → IsRefusedFor bytes r → ⊥)
-    → (bytes : List ℕ) (tree : TProgramTree) (program : ProgramTree) → length bytes ≤ 4194304 → IsTypedAs bytes tree → IsForm tree program → IsOneProgram bytes program
-one_read one nor bytes tree program small typed form =
-    let is : IsProgram bytes program = record { read = (tree, typed, form) } in
+    → (bytes : List ℕ) (tree : TProgramTree) (program : ProgramTree) → length bytes ≤ 4194304 → IsAdmittedAs bytes tree → IsForm tree program → IsOneProgram bytes program
+one_read one nor bytes tree program small admitted form =
+    let is : IsProgram bytes program = record { read = (tree, admitted, form) } in
     record {
       is = is;
       only = λ other found. one bytes other program found is;

@@ -6,6 +6,7 @@ use Rattle.c_syntax.specs.Program.{TProgramTree}
 use Rattle.c_lexer.specs.Cut.{IsCut}
 use Rattle.c_grammar.specs.Refused.{IsFile}
 use Rattle.c_typing.specs.File.{TypesFile, Program}
+use Rattle.c_rules.specs.Rules.{IsAdmitted}
 use Rattle.constant_form.specs.Tree.{ProgramTree}
 use Rattle.constant_form.specs.Form.{IsForm}
 
@@ -17,6 +18,10 @@ IsSource bytes file = (ts : Tokens) × IsCut 0 bytes ts × IsFile ts.list file
 abbrev pub IsTypedAs : List ℕ → TProgramTree → Type 0
 IsTypedAs bytes typed = (file : FileTree) × IsSource bytes file × TypesFile file (Program typed)
 
+-- and the rules admit it
+abbrev pub IsAdmittedAs : List ℕ → TProgramTree → Type 0
+IsAdmittedAs bytes typed = IsTypedAs bytes typed × IsAdmitted typed
+
 -- the bytes are this program
 pub record IsProgram (bytes : List ℕ) (program : ProgramTree) : Type 0 where
-  pub read : (typed : TProgramTree) × IsTypedAs bytes typed × IsForm typed program
+  pub read : (typed : TProgramTree) × IsAdmittedAs bytes typed × IsForm typed program

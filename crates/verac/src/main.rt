@@ -1,7 +1,7 @@
 //! Verac: what may go wrong in a C file, from its bytes to the report.
 //!
-//! `run` reads the words of the command, reads the file, has it cut, parsed, typed and read as a program, finds
-//! the alarms, and writes the report or the line of the refusal, whole. For example, `verac analyze a.c` on
+//! `run` reads the words of the command, reads the file, has it cut, parsed, typed, asked for the rules and read as a
+//! program, finds the alarms, and writes the report or the line of the refusal, whole. For example, `verac analyze a.c` on
 //! `int main(void) { return 1 / 0; }` writes one alarm, `DivideByZero`, and ends with status 1.
 //!
 //! | What | Stated in `specs/` | Promised by |

@@ -3,7 +3,7 @@ ghost use Rattle.std.specs.Prelude.{◌≤◌, List, ℕ, length, IfOk};
 ghost use Rattle.c_written.specs.WrittenFile.{file_tree};
 ghost use Rattle.c_syntax.specs.Program.{tprogram_tree};
 ghost use Rattle.c_lexer.specs.Cut.{IsCut};
-ghost use Rattle.verac.specs.Program.{IsSource, IsTypedAs};
+ghost use Rattle.verac.specs.Program.{IsSource, IsTypedAs, IsAdmittedAs};
 ghost use Rattle.verac.specs.Read.{Tells};
 
 use crate::refusal::Refusal;
@@ -11,9 +11,11 @@ use crate::verdict::{one_program, program_nor_refused};
 use c_check::check;
 use c_lexer::{LexError, Reason, lex};
 use c_parser::{ParseError, parse};
+use c_rules::{RuleError, admit};
 use c_syntax::{File, TProgram, Tokens};
 use c_type_names::TypeError;
 use constant_form::{Expr, form_of};
+use rule_text::names_of;
 use std::alloc::{AllocError, Global};
 
 /// What a file's bytes are.
@@ -64,16 +66,31 @@ fn typed(alloc: Global, file: File) -> Result<Read, AllocError>
     ensures { IfOk result (λ read. (bytes : List ℕ) → length bytes ≤ 4194304 → IsSource bytes (file_tree file) → Tells bytes read) }
 {
     match check(alloc, file) {
-        Ok(program) => built(alloc, &program),
+        Ok(program) => ruled(alloc, &program),
         Err(TypeError::NoMemory) => Err(AllocError),
         Err(error) => Ok(Read::Refused(Refusal::Typing(error))),
     }
 }
 
 // The program of bytes that have this typed program.
-fn built(alloc: Global, program: &TProgram) -> Result<Read, AllocError>
+fn ruled(alloc: Global, program: &TProgram) -> Result<Read, AllocError>
     ensures { IfOk result
         (λ read. (bytes : List ℕ) → length bytes ≤ 4194304 → IsTypedAs bytes (tprogram_tree program.now) → Tells bytes read) }
+{
+    match admit(alloc, program) {
+        Ok(_plan) => built(alloc, program),
+        Err(RuleError::NoMemory) => Err(AllocError),
+        Err(error) => {
+            let names = names_of(alloc, program)?;
+            Ok(Read::Refused(Refusal::Rule(names, error)))
+        }
+    }
+}
+
+// The program of bytes that have this typed program, which the rules admit.
+fn built(alloc: Global, program: &TProgram) -> Result<Read, AllocError>
+    ensures { IfOk result
+        (λ read. (bytes : List ℕ) → length bytes ≤ 4194304 → IsAdmittedAs bytes (tprogram_tree program.now) → Tells bytes read) }
 {
     // The bytes have no other program, and with one they are not refused.
     one_program();

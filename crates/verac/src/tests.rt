@@ -55,6 +55,47 @@ const UNTYPED: [(&str, &str); 10] = [
     ),
 ];
 
+// Files that the rules do not admit, and some that they do but that are of no form that is built, each with its line.
+const RULED: [(&str, &str); 10] = [
+    ("", "a.c: refused: no main\n"),
+    (
+        "int f(void);int main(void){return f();}",
+        "a.c:1:35: refused: no definition\n",
+    ),
+    (
+        "int f(int n){return f(n);}int main(void){return f(1);}",
+        "a.c:1:21: refused: recursion f@1:21\n",
+    ),
+    (
+        "int g(int n);int f(int n){return g(n);}int g(int n){return f(n);}int main(void){return f(1);}",
+        "a.c:1:60: refused: recursion f@1:60 > g@1:34\n",
+    ),
+    (
+        "int main(void){int i=0;i=i++ +1;return i;}",
+        "a.c:1:25: refused: unsequenced\n",
+    ),
+    (
+        "int x;int f(void){x=1;return 0;}int g(void){x=2;return 0;}int main(void){return f()+g();}",
+        "a.c:1:84: refused: unsequenced\n",
+    ),
+    (
+        "int max(int x,int y){return x>y?x:y;}int main(void){int a=1,b=2,c=3,d=4;return max(a,b)+max(c,d);}",
+        "a.c: refused: not built yet\n",
+    ),
+    (
+        "int main(void){again:if(__any_int()>0)goto again;return 0;}",
+        "a.c: refused: not built yet\n",
+    ),
+    (
+        "int main(void){goto in;{in:;}return 0;}",
+        "a.c:1:16: refused: goto into block\n",
+    ),
+    (
+        "char a[4096];int main(void){return 0;}",
+        "a.c: refused: not built yet\n",
+    ),
+];
+
 // What a run wrote, and how it ended.
 #[derive(Drop)]
 struct Answer {
@@ -143,7 +184,10 @@ fn refusals(rt: HostRuntime) -> Result<(), Fail> {
         ),
         ("int main(void){return 1 2;}", "a.c:1:25: refused: syntax\n"),
         ("float x;", "a.c:1:1: refused: unsupported Floating\n"),
-        ("int x;", "a.c: refused: not built yet\n"),
+        (
+            "int x;int main(void){return 0;}",
+            "a.c: refused: not built yet\n",
+        ),
     ];
     for (text, written) in rows {
         tell(&rt, rt.alloc(), text.as_bytes(), Status::Refused, written)?;
@@ -154,6 +198,14 @@ fn refusals(rt: HostRuntime) -> Result<(), Fail> {
 #[test]
 fn typing_refusals(rt: HostRuntime) -> Result<(), Fail> {
     for (text, written) in UNTYPED {
+        tell(&rt, rt.alloc(), text.as_bytes(), Status::Refused, written)?;
+    }
+    Ok(())
+}
+
+#[test]
+fn rule_refusals(rt: HostRuntime) -> Result<(), Fail> {
+    for (text, written) in RULED {
         tell(&rt, rt.alloc(), text.as_bytes(), Status::Refused, written)?;
     }
     Ok(())

@@ -2,11 +2,12 @@
 ghost use Rattle.std.specs.Prelude.{◌≡◌, ◌≤◌, ℕ, List, length};
 ghost use Rattle.constant_form.specs.Tree.{ProgramTree};
 ghost use Rattle.verac.specs.Program.{IsProgram};
-ghost use Rattle.verac.specs.Refusal.{RefusalTree};
+ghost use Rattle.verac.specs.Refusal.{RefusalTree, without_calls};
 ghost use Rattle.verac.specs.Verdict.{IsRefusedFor};
 
 use c_grammar::{file_nor_refused, one_file, one_refusal};
 use c_lexer::{cut_nor_uncut, one_cut, one_uncut};
+use c_rules::{admitted_is_not_refused, refusals_are_one};
 use c_typing::files_have_one;
 
 /// Bytes are one program at most.
@@ -18,9 +19,9 @@ pub fn one_program()
     files_have_one();
 }
 
-/// Bytes are refused for one reason at most, at one place.
+/// Bytes are refused for one reason at most, at one place, whichever calls are told.
 pub fn one_verdict()
-    ensures { (bytes : List ℕ) (a b : RefusalTree) → IsRefusedFor bytes a → IsRefusedFor bytes b → a ≡ b }
+    ensures { (bytes : List ℕ) (a b : RefusalTree) → IsRefusedFor bytes a → IsRefusedFor bytes b → without_calls a ≡ without_calls b }
 {
     one_cut();
     one_uncut();
@@ -29,6 +30,8 @@ pub fn one_verdict()
     file_nor_refused();
     one_file();
     files_have_one();
+    refusals_are_one();
+    admitted_is_not_refused();
 }
 
 /// Bytes that are a program are refused only where they are too many.
@@ -40,4 +43,5 @@ pub fn program_nor_refused()
     one_file();
     file_nor_refused();
     files_have_one();
+    admitted_is_not_refused();
 }
