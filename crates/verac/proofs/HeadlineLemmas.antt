@@ -1,5 +1,5 @@
 -- One name, and the report of alarms.
-use Rattle.std.proofs.Common.{◌≡◌, List, ℕ, Option, Some, None}
+use Rattle.std.proofs.Common.{◌≡◌, ◌⊎◌, inl, inr, List, ℕ, Option, Some, None}
 use Rattle.std.specs.Prelude.{All, AllPairs, IfSome, IsSomeAnd}
 use Rattle.c_syntax.specs.declared.alarm.Alarm.{Alarm}
 use Rattle.constant_form.specs.Tree.{ProgramTree}
@@ -12,11 +12,26 @@ use Rattle.verac.specs.Read.{IsOneProgram}
 use Rattle.verac.specs.Refusal.{RefusalTree}
 use Rattle.verac.specs.RefusalText.{line_of}
 use Rattle.verac.specs.Verdict.{IsRefusedFor}
-use Rattle.verac.specs.Headline.{IsReport}
+use Rattle.verac.specs.declared.status.Status.{Status}
+use Rattle.verac.specs.declared.status.Status.TheVariants as statuses
+use Rattle.verac.specs.Headline.{IsReport, OnWhole}
 
 -- the words name one file
 pub same_name : (words : List (List ℕ)) (a b : List ℕ) → IsCommand words a → IsCommand words b → a ≡ b
 same_name words a b one two = let (p, e) = one.words_are in let (q, f) = two.words_are in cc
+
+-- an answer that is this status or a write fault comes with a text only where it is this status
+pub on_whole : (status result : Status) (P : Type 0) → (result ≡ status) ⊎ (result ≡ statuses.WriteFault) → (result ≡ status → P) → OnWhole result P
+on_whole status statuses.NoAlarm P (inl is) holds = holds is
+on_whole status statuses.NoAlarm P (inr is) holds = absurd cc
+on_whole status statuses.Alarms P (inl is) holds = holds is
+on_whole status statuses.Alarms P (inr is) holds = absurd cc
+on_whole status statuses.Refused P (inl is) holds = holds is
+on_whole status statuses.Refused P (inr is) holds = absurd cc
+on_whole status statuses.Usage P is holds = tt
+on_whole status statuses.ReadFault P is holds = tt
+on_whole status statuses.WriteFault P is holds = tt
+on_whole status statuses.NoMemory P is holds = tt
 
 -- a refusal with its line
 pub refused : (name bytes text : List ℕ) (found : Option RefusalTree) → IsSomeAnd found (IsRefusedFor bytes) → IfSome found (λ r. text ≡ line_of name r)
