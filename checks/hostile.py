@@ -3,10 +3,8 @@ stack in KB that it gets, and the line with which it is refused."""
 import sys
 
 SIZE = 4194304
-# The time of typing a declarator goes by the square of its suffixes yet (README, "What is open"), so files of these have
-# 10,000 of them, and not as many as fit.
-CHAIN = 30_000
-MAIN = "int main(void){return 0;}\n"
+# A main that makes the file a program, and no program of the built form.
+MAIN = "int main(void){;return 0;}\n"
 
 
 def filled(front, piece, back, most=SIZE):
@@ -27,17 +25,17 @@ def numbered(piece, most):
 
 def chains():
     """Types with many suffixes, wherever a declarator stands, one that ends in a fault, and one that is told."""
-    yield "object", filled("int a", "[1]", ";" + MAIN, CHAIN), "not built yet"
-    yield "pointed", filled("int (*a)", "[1]", ";" + MAIN, CHAIN), "not built yet"
-    yield "parameter", filled("int f(int a", "[1]", ");" + MAIN, CHAIN), "not built yet"
-    yield "cast", filled("int main(void){(void)(int(*)", "[1]", ")0;return 0;}", CHAIN), "not built yet"
-    yield "sizeof", filled("int main(void){return sizeof(int", "[1]", ");}", CHAIN), "not built yet"
-    yield "member", filled("struct S{int a", "[1]", ";};" + MAIN, CHAIN), "not built yet"
-    yield "typedef", filled("typedef int T", "[1]", ";" + MAIN, CHAIN), "not built yet"
+    yield "object", filled("int a", "[1]", ";" + MAIN), "not built yet"
+    yield "pointed", filled("int (*a)", "[1]", ";" + MAIN), "not built yet"
+    yield "parameter", filled("int f(int a", "[1]", ");" + MAIN), "not built yet"
+    yield "cast", filled("int main(void){(void)(int(*)", "[1]", ")0;return 0;}"), "not built yet"
+    yield "sizeof", filled("int main(void){return sizeof(int", "[1]", ");}"), "not built yet"
+    yield "member", filled("struct S{int a", "[1]", ";};" + MAIN), "not built yet"
+    yield "typedef", filled("typedef int T", "[1]", ";" + MAIN), "not built yet"
     text = filled("int a", "[1]", " 1;")
     yield "faulty", text, f"1:{len(text) - 1}: syntax"
     front, back = "int main(void){return (int", ")0;}"
-    told = filled(front, "[1]", back, CHAIN)
+    told = filled(front, "[1]", back)
     ty = "array of 1 " * ((len(told) - len(front) - len(back)) // 3) + "int"
     yield "told", told, f"1:23: no rule for cast on {ty} and int"
 
@@ -72,7 +70,7 @@ def rules():
     told = [f"f{number - 1}@{number + 1}:{len(f'int f{number}(void){{return ') + 1}" for number in range(count, 0, -1)]
     ring = " > ".join(told + [f"f{count}@1:{begins}"])
     yield "circle", last + chain + MAIN, f"{count + 1}:{len(f'int f{count}(void){{return ') + 1}: recursion {ring}"
-    yield "nodes", filled("int x,a[8];int main(void){", "a[x]=x+a[x]*2;", "}"), "not built yet"
+    yield "nodes", filled("int x,a[8];int main(void){", "a[x]=x+a[x]*2;", "}", SIZE // 2), "not built yet"
 
 
 def calling(kept):
