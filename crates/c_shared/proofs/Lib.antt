@@ -1,0 +1,5 @@
+pub mod SharedExprTrees
+pub mod SharedStmtTrees
+pub mod SharedTrees
+mod Shared
+mod Shapes
