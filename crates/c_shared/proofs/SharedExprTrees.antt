@@ -154,6 +154,30 @@ unfolding exprs_from
 exprs_cons item rest = refl
 
 pub ruleset shared_expr_trees = (
-    expr_const, expr_null, expr_load, expr_address_of, expr_decay, expr_whole, expr_unary, expr_binary, expr_convert, expr_assign,
-    expr_assign_struct, expr_compound, expr_step, expr_and, expr_or, expr_cond, expr_comma, expr_call, expr_any, expr_assume, expr_assert, place_var,
-    place_deref, place_member, exprs_nil, exprs_cons)
+  expr_const,
+  expr_null,
+  expr_load,
+  expr_address_of,
+  expr_decay,
+  expr_whole,
+  expr_unary,
+  expr_binary,
+  expr_convert,
+  expr_assign,
+  expr_assign_struct,
+  expr_compound,
+  expr_step,
+  expr_and,
+  expr_or,
+  expr_cond,
+  expr_comma,
+  expr_call,
+  expr_any,
+  expr_assume,
+  expr_assert,
+  place_var,
+  place_deref,
+  place_member,
+  exprs_nil,
+  exprs_cons,
+)

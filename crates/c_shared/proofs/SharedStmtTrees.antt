@@ -125,5 +125,25 @@ unfolding stmts_from
 stmts_cons item rest = refl
 
 pub ruleset shared_stmt_trees = (
-    init_store, init_copy, stmt_empty, stmt_expr, stmt_block, stmt_declare, stmt_static, stmt_if, stmt_while, stmt_do_while, stmt_for, stmt_switch,
-    stmt_break, stmt_continue, stmt_goto, stmt_return, stmt_label, stmt_case, stmt_default, stmts_nil, stmts_cons)
+  init_store,
+  init_copy,
+  stmt_empty,
+  stmt_expr,
+  stmt_block,
+  stmt_declare,
+  stmt_static,
+  stmt_if,
+  stmt_while,
+  stmt_do_while,
+  stmt_for,
+  stmt_switch,
+  stmt_break,
+  stmt_continue,
+  stmt_goto,
+  stmt_return,
+  stmt_label,
+  stmt_case,
+  stmt_default,
+  stmts_nil,
+  stmts_cons,
+)

@@ -1,10 +1,6 @@
 // Typed expressions and places are given parts that are shared, from the leaves up. A node with more
 // than one part has a function of its own.
-#![tactic(auto, using(
-    c_syntax::proofs::Trees::the_trees,
-    c_syntax::proofs::Sizes::the_typed_sizes,
-    crate::proofs::SharedTrees::the_shared_trees
-))]
+#![tactic(auto, using(c_syntax::proofs::Trees::the_trees, c_syntax::proofs::Sizes::the_typed_sizes, crate::proofs::SharedTrees::the_shared_trees))]
 
 ghost use Rattle.std.specs.Prelude.{◌≡◌, IfOk};
 ghost use Rattle.c_syntax.specs.TypedExpr.{texpr_tree, texprs_tree, tlvalue_tree};
@@ -317,7 +313,12 @@ fn shared_place(alloc: Global, place: &TLvalue) -> Result<Rc<SharedPlace>, NoMem
 }
 
 #[cycle(shares)]
-fn share_conversion(alloc: Global, pos: Pos, ty: &CType, operand: &TExpr) -> Result<SharedExpr, NoMemory>
+fn share_conversion(
+    alloc: Global,
+    pos: Pos,
+    ty: &CType,
+    operand: &TExpr,
+) -> Result<SharedExpr, NoMemory>
     ensures { IfOk result (λ node. expr_tree node ≡ trees.Convert pos (ctype_tree ty.now) (texpr_tree operand.now)) }
 {
     Ok(SharedExpr::Convert {
@@ -379,7 +380,12 @@ fn share_comma(alloc: Global, pos: Pos, left: &TExpr, right: &TExpr) -> Result<S
 }
 
 #[cycle(shares)]
-fn share_value(alloc: Global, pos: Pos, place: &TLvalue, value: &TExpr) -> Result<SharedExpr, NoMemory>
+fn share_value(
+    alloc: Global,
+    pos: Pos,
+    place: &TLvalue,
+    value: &TExpr,
+) -> Result<SharedExpr, NoMemory>
     ensures { IfOk result (λ node. expr_tree node ≡ trees.Assign pos (tlvalue_tree place.now) (texpr_tree value.now)) }
 {
     Ok(SharedExpr::Assign {

@@ -1,9 +1,5 @@
 // Typed statements, and what initialises an object, are given parts that are shared.
-#![tactic(auto, using(
-    c_syntax::proofs::Trees::the_trees,
-    c_syntax::proofs::Sizes::the_typed_sizes,
-    crate::proofs::SharedTrees::the_shared_trees
-))]
+#![tactic(auto, using(c_syntax::proofs::Trees::the_trees, c_syntax::proofs::Sizes::the_typed_sizes, crate::proofs::SharedTrees::the_shared_trees))]
 
 ghost use Rattle.std.specs.Prelude.{◌≡◌, IfOk, map, option_map};
 ghost use Rattle.c_syntax.specs.TypedExpr.{texpr_tree};
@@ -273,7 +269,12 @@ fn share_if(
 }
 
 #[cycle(shares)]
-fn share_while(alloc: Global, pos: Pos, condition: &TExpr, body: &TStmt) -> Result<SharedStmt, NoMemory>
+fn share_while(
+    alloc: Global,
+    pos: Pos,
+    condition: &TExpr,
+    body: &TStmt,
+) -> Result<SharedStmt, NoMemory>
     ensures { IfOk result (λ node. stmt_tree node ≡ trees.While pos (texpr_tree condition.now) (tstmt_tree body.now)) }
 {
     let body = shared_stmt(alloc, body)?;

@@ -1,4 +1,5 @@
-//! Tests of layout, memory, values, objects, cells and points-to sets: each call once.
+//! Tests of what no program of the repository tells: memory, values, cells and sets, files and sinks, the single steps of
+//! the parser, and shares of trees.
 //!
 //! They stand here, and not in the crates that they call, since a crate with tests is proved twice.
 #![tactic(auto)]
@@ -8,14 +9,20 @@ mod blocks;
 #[cfg(test)]
 mod cells;
 #[cfg(test)]
-mod integers;
+mod host;
 #[cfg(test)]
 mod layouts;
 #[cfg(test)]
-mod qualified;
+mod parse_steps;
 #[cfg(test)]
 mod scalars;
+#[cfg(test)]
+mod shares;
+#[cfg(test)]
+mod stretches;
 #[cfg(test)]
 mod targets;
 #[cfg(test)]
 mod values;
+#[cfg(test)]
+mod written;

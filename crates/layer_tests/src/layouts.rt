@@ -1,27 +1,15 @@
+// What the table of layouts, that of the program `front_table`, cannot say.
+
 use c_layout::*;
-use c_syntax::{CType, IntType, Member, Members, Name, StructDef, StructDefs, Target};
+use c_syntax::{CType, IntType, Member, Members, Name, StructDef, StructDefs};
 use std::alloc::{AllocError, Global};
-use std::rc::Rc;
 use std::test::Fail;
 
 const CHAR: CType = CType::Int(IntType::Char);
 
-const SHORT: CType = CType::Int(IntType::Short);
-
 const INT: CType = CType::Int(IntType::Int);
 
 const LONG: CType = CType::Int(IntType::Long);
-
-fn array(alloc: Global, ty: CType, n: u64) -> Result<CType, AllocError> {
-    let of = Rc::new(
-        alloc,
-        Target {
-            ty,
-            is_const: false,
-        },
-    )?;
-    Ok(CType::Array(of, n))
-}
 
 fn member(alloc: Global, name: &str, ty: CType, offset: u64) -> Result<Member, AllocError> {
     let bytes = Vec::from_slice(alloc, name.as_bytes())?;
@@ -39,14 +27,6 @@ fn definition(alloc: Global, members: Vec<Member>, size: u64, align: u64) -> Str
         size,
         align,
     }
-}
-
-// struct { char c; int k; }
-fn pair(alloc: Global) -> Result<StructDef, AllocError> {
-    let mut members = Vec::new(alloc);
-    members.push(member(alloc, "c", CHAR, 0)?)?;
-    members.push(member(alloc, "k", INT, 4)?)?;
-    Ok(definition(alloc, members, 8, 4))
 }
 
 // struct { FIRST a; SECOND b; THIRD c; }, each with its offset, and the struct's size and alignment
@@ -90,27 +70,6 @@ fn entries_are_told(rt: HostRuntime) -> Result<(), Fail> {
     assert_eq!(rt; size_of(&CType::Struct(2), &structs), Sized::Fits(3));
     assert_eq!(rt; size_of(&CType::Struct(3), &structs), Sized::Oversize);
     assert_eq!(rt; align_of(&CType::Struct(3), &structs), u64::MAX);
-    Ok(())
-}
-
-// The table of sizes is that of the program `front_table`.
-#[test]
-fn size_of_an_array(rt: HostRuntime) -> Result<(), Fail> {
-    let alloc = rt.alloc();
-    let structs = StructDefs::new(alloc);
-    let ty = array(alloc, SHORT, 7)?;
-    assert_eq!(rt; size_of(&ty, &structs), Sized::Fits(14));
-    assert_eq!(rt; align_of(&ty, &structs), 2);
-    Ok(())
-}
-
-#[test]
-fn offsets(rt: HostRuntime) -> Result<(), Fail> {
-    let pair = pair(rt.alloc())?;
-    assert_eq!(rt; offset_of(&pair, b"c"), Some(0));
-    assert_eq!(rt; offset_of(&pair, b"k"), Some(4));
-    assert_eq!(rt; offset_of(&pair, b"kk"), None);
-    assert_eq!(rt; offset_of(&pair, b""), None);
     Ok(())
 }
 
