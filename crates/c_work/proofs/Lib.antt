@@ -1,3 +1,4 @@
 pub mod Lists
 mod Evals
+mod Marked
 mod Shapes

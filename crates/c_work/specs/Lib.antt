@@ -1,3 +1,4 @@
+pub mod Marks
 pub mod Shapes
 pub mod Views
 pub mod Works
