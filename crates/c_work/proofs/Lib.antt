@@ -1,4 +1,5 @@
 pub mod Lists
 mod Evals
+mod Inits
 mod Marked
 mod Shapes
