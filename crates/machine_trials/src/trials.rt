@@ -200,7 +200,7 @@ fn try_test(
     }
 }
 
-// Counts a trial, and keeps its text where something was lost.
+// The expression and the ranges of its variables.
 fn lost_text(alloc: Global, tried: &Boxed, e: &Expr) -> Result<String, NoMemory> {
     format!(in alloc; "{e:?} over {:?}", tried.bounds)
 }
