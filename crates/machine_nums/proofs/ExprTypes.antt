@@ -1,5 +1,6 @@
 -- The integer types and their numbers: what lies between the ends, how many numbers there are, and what wrapping moves.
 use Rattle.std.proofs.Common.{◌≡◌, ◌^◌, ◌-ℤ◌, ◌+ℤ◌, ℤ, pos, ◌≤ℤ◌, ◌<ℤ◌, arith, ◌∙◌, subst, sym}
+use Rattle.std.specs.Prelude.{Bool, true, false}
 use Rattle.std.specs.Int.{int_rem_euclid}
 use Rattle.std.specs.Int.RustNames.{FitsSigned}
 use mir.Syntax.{w128}
@@ -8,7 +9,8 @@ use Rattle.c_written.specs.declared.int_type.IntType.{IntType}
 use Rattle.c_written.specs.declared.int_type.IntType.TheVariants.{Char, SChar, UChar, Short, UShort, Int, UInt, Long, ULong, LLong, ULLong}
 use Rattle.c_written.specs.Integer.{HasNumber, width, least, greatest, wrapped}
 use Rattle.num_api.specs.Residues.{IsMultiple}
-use Rattle.num_api.proofs.Multiples.{multiple_along, multiple_neg, multiple_sub, multiple_trans, self_multiple, in_from_off, off_from_in}
+use Rattle.num_api.specs.Value.{truth}
+use Rattle.num_api.proofs.Multiples.{multiple_along, multiple_neg, multiple_trans, in_from_off, off_from_in}
 use Rattle.num_api.proofs.Remainders.{rem_same, rem_low, rem_high}
 use Rattle.machine_nums.proofs.Values.{has-wrapped, wrapped-has}
 use Rattle.machine_nums.proofs.ExprCongruences.{wrapped_same}
@@ -125,7 +127,10 @@ wrapped_like t n m off =
     let d = pos (2 ^ width t) in
     wrapped_same t m n (in_from_off n d m (multiple_trans d (pos (2 ^ 64)) (m -ℤ n) (all_divided t) off))
 
--- ---- remainders
+pub wrapped_fits : (t : IntType) (n : ℤ) → FitsSigned w128 (wrapped t n)
+wrapped_fits t n = let ends = between_has t (wrapped t n) (has-wrapped t n) in type_fits t (wrapped t n) ends.0 ends.1
+
+-- ---- 0 and 1
 
 pub least_low : (t : IntType) → least t ≤ℤ pos 0
 least_low Char = omega (arith, ints)
@@ -140,18 +145,20 @@ least_low ULong = omega (arith, ints)
 least_low LLong = omega (arith, ints)
 least_low ULLong = omega (arith, ints)
 
--- a remainder is the wrapped number where it is a number of the type, and else so is the one below it
-pub low_wrapped : (t : IntType) (n low : ℤ) → pos 0 ≤ℤ low → low ≤ℤ pos (greatest t) → IsMultiple (pos (2 ^ width t)) (low -ℤ n) → low ≡ wrapped t n
-low_wrapped t n low a b off = let l = least_low t in is_wrapped t n low off (has_between t low (omega (arith, ints, l, a)) b)
+one_high : (t : IntType) → pos 1 ≤ℤ pos (greatest t)
+one_high Char = omega (arith, ints)
+one_high SChar = omega (arith, ints)
+one_high UChar = omega (arith, ints)
+one_high Short = omega (arith, ints)
+one_high UShort = omega (arith, ints)
+one_high Int = omega (arith, ints)
+one_high UInt = omega (arith, ints)
+one_high Long = omega (arith, ints)
+one_high ULong = omega (arith, ints)
+one_high LLong = omega (arith, ints)
+one_high ULLong = omega (arith, ints)
 
-pub high_wrapped : (t : IntType) (n low m : ℤ) → m ≡ pos (2 ^ width t) → pos (greatest t) <ℤ low → low <ℤ pos (2 ^ width t) → IsMultiple (pos (2 ^ width t)) (low -ℤ n) → low -ℤ m ≡ wrapped t n
-high_wrapped t n low m is a b off =
-    let count = numbers_are t in let d = pos (2 ^ width t) in let l = least_low t in let o = type_order t in
-    let moved = multiple_along d _ ((low -ℤ m) -ℤ n) (omega (arith, ints, is)) (multiple_sub d (low -ℤ n) d off (self_multiple d)) in
-    is_wrapped t n (low -ℤ m) moved (has_between t (low -ℤ m) (omega (arith, ints, is, count.0, a)) (omega (arith, ints, is, b, l, count.0, o)))
-
-pub rem_moves : (t : IntType) (n m : ℤ) → m ≡ pos (2 ^ width t) → IsMultiple (pos (2 ^ width t)) (int_rem_euclid n m -ℤ n)
-rem_moves t n m is =
-    let d = pos (2 ^ width t) in let count = numbers_are t in
-    subst (λ (x : ℤ). IsMultiple d (int_rem_euclid n x -ℤ n)) (sym is)
-    (multiple_along d _ (int_rem_euclid n d -ℤ n) (omega (arith, ints)) (multiple_neg d (n -ℤ int_rem_euclid n d) (off_from_in (int_rem_euclid n d) d n (rem_same n d count.1))))
+-- 0 and 1 are numbers of each type
+pub truth_has : (t : IntType) (b : Bool) (m : ℤ) → m ≡ truth b → HasNumber t m
+truth_has t true m e = subst (HasNumber t) (sym e) (let l = least_low t in let g = one_high t in has_between t (pos 1) (omega (arith, ints, l)) g)
+truth_has t false m e = subst (HasNumber t) (sym e) (let l = least_low t in let o = one_high t in has_between t (pos 0) l (omega (arith, ints, o)))

@@ -1,16 +1,15 @@
 -- Spans that fit a type, and what the plain rule leaves behind a conversion.
 use Rattle.std.proofs.Common.{◌≡◌, ℤ, pos, ◌≤ℤ◌, refl, arith}
 use Rattle.std.proofs.lemmas.Int.{ints}
-use Rattle.std.specs.Prelude.{ℕ, Bool, true, false, ◌&&◌, if◌then◌else◌, Option, Some, None}
+use Rattle.std.specs.Prelude.{ℕ, Bool, true, false, if◌then◌else◌, Option, Some, None}
 use Rattle.std.specs.Int.RustNames.{int_le}
 use Rattle.std.proofs.lemmas.Bool.{and_parts}
 use Rattle.std.proofs.lemmas.Option.{none-some}
 use Rattle.c_written.specs.declared.int_type.IntType.{IntType}
 use Rattle.c_written.specs.Integer.{least, greatest}
 use Rattle.ext_int.proofs.Ends.{le-from_int_le}
-use Rattle.num_api.specs.declared.message.Range.{Range}
 use Rattle.num_api.specs.Ranges.{NoWider}
-use Rattle.num_api.specs.Spans.{Span, span, range_of, FitsSpan}
+use Rattle.num_api.specs.Spans.{Span, range_of, FitsSpan}
 use Rattle.machine_nums.specs.Rule.{type_span, is_number, fits, converted, if_fits}
 use Rattle.machine_nums.proofs.ExprTypes.{type_fits, type_order}
 

@@ -1,6 +1,6 @@
 -- What the operators make of ranges of a type.
-use Rattle.std.proofs.Common.{◌≡◌, ◌≢◌, ◌^◌, ◌-◌, ◌/◌, ◌⊎◌, inl, inr, ⊎_elim, ◌≤ℤ◌, ℕ, ℤ, pos, negsuc, suc, arith, refl, sym, subst, ◌∙◌, ap, ◌*ℤ◌}
-use Rattle.std.specs.Prelude.{IsTrue, Bool, true, false, if◌then◌else◌, Option, Some, None, IfNone, IfSome}
+use Rattle.std.proofs.Common.{◌≡◌, ◌^◌, ◌-◌, ◌/◌, ◌⊎◌, inl, inr, ⊎_elim, ◌≤ℤ◌, ℕ, ℤ, pos, negsuc, arith, refl, sym, subst, ◌*ℤ◌}
+use Rattle.std.specs.Prelude.{Bool, true, false, Option, Some, None}
 use Rattle.std.specs.Int.{int_div_euclid}
 use Rattle.std.specs.Int.RustNames.{FitsSigned}
 use mir.Syntax.{w128}
@@ -10,18 +10,18 @@ use Rattle.std.proofs.lemmas.Option.{none-some}
 use Rattle.std.proofs.Math.Nat.{div-le_self}
 use Rattle.c_written.specs.declared.int_type.IntType.{IntType}
 use Rattle.c_written.specs.declared.int_type.IntType.TheVariants.{Char, SChar, UChar, Short, UShort, Int, UInt, Long, ULong, LLong, ULLong}
-use Rattle.c_written.specs.Integer.{HasNumber, least, greatest, wrapped}
+use Rattle.c_written.specs.Integer.{HasNumber, least}
 use Rattle.ext_int.specs.declared.Ext.{Ext}
 use Rattle.ext_int.specs.declared.Ext.TheVariants.{Low, Fin, High}
 use Rattle.ext_int.specs.Ext.{AtMost}
 use Rattle.ext_int.proofs.Ends.{AtMost_trans, fits_between}
 use Rattle.num_api.specs.declared.message.Range.{Range}
 use Rattle.num_api.specs.declared.expr.NOp.{NOp}
-use Rattle.num_api.specs.declared.expr.NOp.TheVariants.{Shr, And, Or, Xor, Mul, Quot}
+use Rattle.num_api.specs.declared.expr.NOp.TheVariants.{Shr, And, Or, Xor}
 use Rattle.num_api.specs.Ranges.{InRange, IsPoint, NoWider}
-use Rattle.num_api.specs.Spans.{Span, span, range_of, FitsSpan, binary_span, corners}
-use Rattle.num_api.specs.Value.{binary_value, shifted_right}
-use Rattle.env_eval.proofs.Parts.{wider, only_number, by_zero}
+use Rattle.num_api.specs.Spans.{Span, range_of, FitsSpan, binary_span, corners}
+use Rattle.num_api.specs.Value.{binary_value}
+use Rattle.env_eval.proofs.Parts.{wider}
 use Rattle.intervals.specs.Bits.{IsLogical}
 use Rattle.intervals.specs.Bounds.{IsNatural, HasBits, BitBounds, IsBounded}
 use Rattle.machine_nums.specs.Rule.{type_span, fits, stays, or_type, typed_span}

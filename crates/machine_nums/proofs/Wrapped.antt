@@ -1,7 +1,5 @@
 -- Ranges wrapped into a type.
 use Rattle.std.proofs.Common.{◌≡◌, ◌^◌, ◌+ℤ◌, ◌-ℤ◌, ◌*ℤ◌, ◌≤ℤ◌, ℤ, pos, arith, refl, sym, subst, ◌∙◌, ap}
-use Rattle.std.specs.Prelude.{IsTrue, Option, Some, None}
-use Rattle.std.specs.Int.RustNames.{FitsSigned}
 use Rattle.std.proofs.lemmas.Int.{ints}
 use Rattle.c_written.specs.declared.int_type.IntType.{IntType}
 use Rattle.c_written.specs.declared.int_type.IntType.TheVariants.{LLong}
@@ -11,18 +9,16 @@ use Rattle.ext_int.specs.declared.Ext.TheVariants.{Fin}
 use Rattle.ext_int.specs.Ext.{Below, Above, AtMost}
 use Rattle.ext_int.proofs.Ends.{AtMost_trans, AtMost-from_below, AtMost-from_above, holds_number_from}
 use Rattle.num_api.specs.declared.message.Range.{Range}
-use Rattle.num_api.specs.Ranges.{InRange, IsPoint, NoWider, holds_some}
-use Rattle.num_api.specs.Residues.{class_of, InResidue, IsMultiple}
-use Rattle.num_api.specs.Spans.{Span, point, range_of, FitsSpan}
+use Rattle.num_api.specs.Ranges.{InRange, IsPoint, NoWider}
+use Rattle.num_api.specs.Residues.{IsMultiple}
+use Rattle.num_api.specs.Spans.{point, range_of}
 use Rattle.num_api.proofs.Multiples.{multiple_along, multiple_times, times_multiple, self_multiple, in_from_off, off_from_in, in_product}
-use Rattle.env_eval.proofs.Parts.{wider, only_number, still_point}
-use Rattle.machine_nums.specs.Rule.{type_span, fits, converted}
+use Rattle.env_eval.proofs.Parts.{only_number, still_point, in_point}
+use Rattle.machine_nums.specs.Rule.{type_span}
 use Rattle.machine_nums.proofs.Values.{has-wrapped, wrapped-has}
-use Rattle.machine_nums.proofs.ExprTypes.{has_between, between_has, is_wrapped, wrapped_moves, wrapped_like}
-use Rattle.machine_nums.proofs.Rules.{fits_span, fits_inside, kept_or_all}
-use Rattle.machine_nums.specs.declared.wrapping.Way.{Way}
-use Rattle.machine_nums.specs.declared.wrapping.Way.TheVariants.{Kept, Shifted, ByBits}
-use Rattle.machine_nums.specs.Wrapping.{Takes, IsTaken, IsWrapping, HoldsLike, IsPointLike}
+use Rattle.machine_nums.proofs.ExprTypes.{has_between, between_has, is_wrapped, wrapped_moves}
+use Rattle.machine_nums.specs.declared.wrapping.Way.TheVariants.{Kept, Shifted, Only, ByBits}
+use Rattle.machine_nums.specs.Wrapping.{IsTaken}
 
 -- ---- ranges and numbers
 
@@ -94,43 +90,27 @@ module _ (t : IntType) (r : Range) (lo hi low shift high : ℤ) (is : r.lo ≡ F
       let f : high ≡ low = omega (arith, ints) in
       record { low = ap Fin e; high = ap Fin (f ∙ e) }
 
-pub taken_all : (t : IntType) (r s : Range) → s ≡ range_of (type_span t) → IsTaken t r ByBits s
-taken_all t r s e = subst (IsTaken t r ByBits) (sym e) (record {
-  right = tt;
+pub taken_all : (t : IntType) (r s : Range) → ((n : ℤ) → IsPoint r n → ⊥) → s ≡ range_of (type_span t) → IsTaken t r ByBits s
+taken_all t r s none e = subst (IsTaken t r ByBits) (sym e) (record {
+  right = none;
   holds = λ n i. has_inside t (wrapped t n) (has-wrapped t n);
   inside = record { low = (omega (arith, ints)); high = (omega (arith, ints)) };
 })
 
-pub taken_point : (t : IntType) (r s : Range) (n m : ℤ) → IsPoint r n → m ≡ wrapped t n → s ≡ range_of (point m) → IsTaken t r ByBits s
+pub taken_point : (t : IntType) (r s : Range) (n m : ℤ) → IsPoint r n → m ≡ wrapped t n → s ≡ range_of (point m) → IsTaken t r (Only m) s
 taken_point t r s n m p e f =
     let ends = between_has t (wrapped t n) (has-wrapped t n) in
-    subst (IsTaken t r ByBits) (sym (f ∙ ap (λ (x : ℤ). range_of (point x)) e)) (record {
-      right = tt;
-      holds = λ k i. subst (λ (x : ℤ). InRange (range_of (point (wrapped t n))) (wrapped t x)) (sym (only_number r n k p i)) (record { low = omega (arith, ints); high = omega (arith, ints) });
-      inside = record { low = ends.0; high = ends.1 };
-    })
+    let same : (k : ℤ) → InRange r k → wrapped t k ≡ m = λ k i. ap (wrapped t) (only_number r n k p i) ∙ sym e in
+    record {
+      right = same;
+      holds = λ k i. subst (λ (x : Range). InRange x (wrapped t k)) (sym f) (in_point m (wrapped t k) (sym (same k i)));
+      inside = subst (λ (x : Range). NoWider x (range_of (type_span t))) (sym (f ∙ ap (λ (x : ℤ). range_of (point x)) e)) (record { low = ends.0; high = ends.1 });
+    }
 
 pub point_point : (t : IntType) (r s : Range) (n m k : ℤ) → IsPoint r n → m ≡ wrapped t n → s ≡ range_of (point m) → IsPoint r k → IsPoint s (wrapped t k)
 point_point t r s n m k p e f q =
     let a : Fin n ≡ Fin k = sym p.low ∙ q.low in let b : n ≡ k = cc in
     subst (λ (x : Range). IsPoint x (wrapped t k)) (sym (f ∙ ap (λ (x : ℤ). range_of (point x)) (e ∙ ap (wrapped t) b))) (record { low = refl; high = refl })
-
--- ---- the plain rule
-
--- a wrapped range is no wider than what the rule leaves behind the conversion
-pub wrapped_under : (t : IntType) (r taken : Range) (way : Way) (o : Option Span) → IsWrapping t r way taken → ((s : Span) → o ≡ Some s → FitsSpan s → NoWider r (range_of s)) → NoWider taken (range_of (converted t o))
-wrapped_under t r taken way o w under = kept_or_all (λ (s : Span). NoWider taken (range_of s)) t o w.takes.inside
-    (λ s e f.
-    let own = under s e (fits_span t s f) in
-    let kept = w.kept (wider r (range_of s) (range_of (type_span t)) own (fits_inside t s f)) in
-    subst (λ (x : Range). NoWider x (range_of s)) (sym kept.1) own)
-
--- a number up to multiples of 2^64, wrapped
-pub like_holds : (t : IntType) (r taken : Range) (way : Way) (n : ℤ) → IsWrapping t r way taken → HoldsLike r n → InRange taken (wrapped t n)
-like_holds t r taken way n w h = subst (InRange taken) (wrapped_like t n h.0 h.2) (w.takes.holds h.0 h.1)
-
-pub like_point : (t : IntType) (r taken : Range) (way : Way) (n : ℤ) → IsWrapping t r way taken → IsPointLike r n → IsPoint taken (wrapped t n)
-like_point t r taken way n w h = subst (IsPoint taken) (wrapped_like t n h.0 h.2) (w.point h.0 h.1)
 
 -- ---- products up to multiples of 2^64
 

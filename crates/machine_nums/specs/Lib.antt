@@ -1,7 +1,10 @@
+pub mod Cuts
 pub mod Fold
 pub mod Laws
 pub mod MExprs
 pub mod Machine
 pub mod Machines
+pub mod Own
+pub mod Parts
 pub mod Rule
 pub mod Wrapping

@@ -37,6 +37,14 @@ reads x (Convert t a) = reads x a
 reads x (Unary op t a) = reads x a
 reads x (Binary op t a b) = reads x a || reads x b
 
+-- something is so of each variable that the expression reads
+abbrev pub OnVariables : (ℕ → Type 0) → MExprTree → Type 0
+OnVariables P (Const t n) = Unit {0}
+OnVariables P (Read x t) = P x
+OnVariables P (Convert t a) = OnVariables P a
+OnVariables P (Unary op t a) = OnVariables P a
+OnVariables P (Binary op t a b) = OnVariables P a × OnVariables P b
+
 -- the expression without its types: a conversion is its operand
 abbrev pub untyped : MExprTree → NExprTree
 untyped (Const t n) = plain.Const n

@@ -1,7 +1,5 @@
 -- What is so of a range that is wrapped into a type.
-use Rattle.std.specs.Prelude.{ℕ, ℤ, pos, ◌≡◌, ◌^◌, ◌+ℤ◌, ◌-ℤ◌}
-use Rattle.std.specs.Int.RustNames.{FitsSigned}
-use mir.Syntax.{w128}
+use Rattle.std.specs.Prelude.{ℤ, pos, ◌≡◌, ◌^◌, ◌+ℤ◌}
 use Rattle.c_written.specs.declared.int_type.IntType.{IntType}
 use Rattle.c_written.specs.Integer.{width, HasNumber, wrapped}
 use Rattle.num_api.specs.declared.message.Range.{Range}
@@ -10,13 +8,14 @@ use Rattle.num_api.specs.Residues.{IsMultiple}
 use Rattle.num_api.specs.Spans.{range_of}
 use Rattle.machine_nums.specs.Rule.{type_span}
 use Rattle.machine_nums.specs.declared.wrapping.Way.{Way}
-use Rattle.machine_nums.specs.declared.wrapping.Way.TheVariants.{Kept, Shifted, ByBits}
+use Rattle.machine_nums.specs.declared.wrapping.Way.TheVariants.{Kept, Shifted, Only, ByBits}
 
 -- the way takes the numbers of the range into the type
 abbrev pub Takes : IntType → Range → Way → Type 0
 Takes t r Kept = NoWider r (range_of (type_span t))
 Takes t r (Shifted s) = IsMultiple (pos (2 ^ width t)) s × ((n : ℤ) → InRange r n → HasNumber t (n +ℤ s))
-Takes t r ByBits = Unit {0}
+Takes t r (Only m) = (n : ℤ) → InRange r n → wrapped t n ≡ m
+Takes t r ByBits = (n : ℤ) → IsPoint r n → ⊥
 
 -- so it does, and the second range lies in the type and holds them wrapped
 pub record IsTaken (t : IntType) (r : Range) (way : Way) (taken : Range) : Type 0 where
@@ -29,13 +28,3 @@ pub record IsWrapping (t : IntType) (r : Range) (way : Way) (taken : Range) : Ty
   pub takes : IsTaken t r way taken
   pub kept : NoWider r (range_of (type_span t)) → (way ≡ Kept) × (taken ≡ r)
   pub point : (n : ℤ) → IsPoint r n → IsPoint taken (wrapped t n)
-
--- ---- numbers up to multiples of 2^64
-
--- the range holds a number that is n up to such a multiple
-abbrev pub HoldsLike : Range → ℤ → Type 0
-HoldsLike r n = (m : ℤ) × InRange r m × IsMultiple (pos (2 ^ 64)) (m -ℤ n)
-
--- it is the point of one
-abbrev pub IsPointLike : Range → ℤ → Type 0
-IsPointLike r n = (m : ℤ) × IsPoint r m × IsMultiple (pos (2 ^ 64)) (m -ℤ n)

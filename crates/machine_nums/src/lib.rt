@@ -27,13 +27,18 @@
 //! lies in [0, 100], `set` of y to `x + 1` at `int` keeps that y is x + 1; where nothing is known of x, y gets
 //! the range of `int`, since the sum may wrap.
 //!
-//! The expression goes to the domain without its types. Where the domain's ranges show that one shift by a
-//! multiple of 2 to the width takes the exact results of a part into its type, the part is shifted by it, and
-//! so the domain keeps relations through it; else the part is written as what its bits are as a number of the
-//! type, from which a domain still tells the range of the type and the low bits.
+//! A range of each part is made by the operators on ranges and by wrapping, and cut by what the domain answers
+//! of the part. The expression goes to the domain without its types. Where one shift by a multiple of 2 to the
+//! width takes the range of a part into its type, the part is shifted by it, and so the domain keeps relations
+//! through it; else the part is written as what its bits are as a number of the type, from which a domain still
+//! tells the low bits. A product that need not be an `i128` goes by numbers that are like its factors. What is
+//! then known of a variable that is set, or of the sides of a comparison, is cut by these ranges.
 //!
-//! specs/Machines.antt has the state behind a machine and what lies in a type. What an expression means is
-//! `machine_nums`' own. The laws are clauses of the calls of `Machine`.
+//! A machine of which a cut has left nothing is void: it admits nothing, and stays a machine.
+//!
+//! specs/Machines.antt has the state behind a machine, its valuations and its weight, specs/Rule.antt the plain
+//! rule, specs/Own.antt the domain's own answers. What an expression means is `machine_nums`' own. The laws are
+//! clauses of the calls of `Machine`; docs/NUMBERS.md lists them.
 //!
 //! # Ranges of what C's operators on integers give, before and behind wrapping
 //!
@@ -42,15 +47,19 @@
 //! `unsigned char` are [44, 99]: all of them less 256. Of sums in [200, 355] only the type's numbers are known.
 //!
 //! specs/Wrapping.antt says what wrapping a range promises. The ranges are no wider than the plain rule for C's
-//! expressions, which `machine_nums` has, and points go to points.
+//! expressions, and points go to points.
 #![tactic(auto)]
 
+mod alignment;
 mod c_operators;
+mod changes;
+mod cuts;
+mod evaluation;
 mod expr;
 mod machine;
 mod operators;
+mod parts;
 mod range_types;
-mod types;
 mod wrapping;
 
 pub use c_operators::{
@@ -58,6 +67,6 @@ pub use c_operators::{
 };
 pub use expr::MExpr;
 pub use machine::Machine;
-pub use operators::{like_product, typed_range, unary_range};
-pub use range_types::{lies_in, mask, meet, type_range, wrap};
+pub use operators::{typed_range, unary_range};
+pub use range_types::{lies_in, mask, meet, type_range};
 pub use wrapping::{Way, Wrapping, wrap_range};

@@ -1,124 +1,183 @@
 // The machine.
 #![tactic(auto, using(crate::proofs::Trees::mexpr_trees, num_api::proofs::Trees::nexpr_trees))]
 
-ghost use Rattle.std.specs.Prelude.{◌≡◌, ◌≢◌, ℕ, ◌-◌, ◌^◌, ℤ, pos, List, ◌≤◌, ◌<◌, IsTrue, false, IfSome, IfOk, OnOk, Some};
+ghost use Rattle.std.specs.Prelude.{◌≡◌, ◌≢◌, ℕ, ℤ, List, ◌≤◌, ◌<◌, IsTrue, true, false, not, IfOk, OnOk, Some};
+ghost use Rattle.std.specs.Int.RustNames.{FitsSigned};
+ghost use mir.Syntax.{w128};
 ghost use Rattle.num_api.specs.Told.{Keeps};
-ghost use Rattle.num_api.specs.Exprs.{nexpr_tree, Const, Binary};
-ghost use Rattle.num_api.specs.Ranges.{InRange, IsPoint, NoWider, IsUnder, with_range, all_numbers, holds_some, hull};
-ghost use Rattle.num_api.specs.Residues.{InResidue, IsResidue};
+ghost use Rattle.num_api.specs.Ranges.{InRange, IsPoint, NoWider, with_range, all_numbers, hull};
+ghost use Rattle.num_api.specs.Residues.{InResidue, IsResidue, IsFoldResidue};
+ghost use Rattle.num_api.specs.Fold.{IsAlignment};
+ghost use Rattle.num_api.specs.Spans.{Span, FitsSpan, range_of};
+ghost use Rattle.num_api.specs.Plain.{excludes};
 ghost use Rattle.num_api.specs.Valuation.{SetTo};
-ghost use Rattle.num_api.specs.Value.{value_of, has_truth};
+ghost use Rattle.num_api.specs.Value.{has_truth};
 ghost use Rattle.num_api.specs.Messages.{Holds, IsProper, Adds, TellsOf};
 ghost use Rattle.num_api.specs.Known.{IsSharp};
 ghost use Rattle.num_api.specs.Lives.{is_live};
 ghost use Rattle.num_api.specs.declared.message.Range.{Range};
 ghost use Rattle.num_api.specs.declared.message.Message.TheVariants.{Between};
-ghost use Rattle.num_api.specs.declared.expr.NExpr.{NExpr};
-ghost use Rattle.num_api.specs.declared.expr.NOp.TheVariants.{Add, Sub, And};
 ghost use Rattle.num_api.specs.declared.expr.Var.{Var as Variable};
-ghost use Rattle.c_written.specs.Integer.{width, least, HasNumber};
-ghost use Rattle.machine_nums.specs.MExprs.{mexpr_tree};
-ghost use Rattle.machine_nums.specs.Machine.{wrapped_value, exact_value, machine_value};
-ghost use Rattle.machine_nums.specs.Machines.{state_of};
+ghost use Rattle.c_written.specs.Integer.{HasNumber};
+ghost use Rattle.machine_nums.specs.MExprs.{mexpr_tree, type_of, untyped, OnVariables};
+ghost use Rattle.machine_nums.specs.Machine.{exact_value, machine_value, PartsFit};
+ghost use Rattle.machine_nums.specs.Machines.{state_of, is_void, Admits, LiesUnder, holds_machine, machine_weight};
+ghost use Rattle.machine_nums.specs.Own.{IsInside, OwnAnswers};
+ghost use Rattle.machine_nums.specs.Rule.{type_span, exact_span, value_span, tested};
+ghost use Rattle.machine_nums.specs.Fold.{IsFold};
 
 use crate::MExpr;
-use crate::types::{mask, range_of, shift_into};
+use crate::alignment::{fold_of, multiples};
+use crate::changes::{assign, keep_truth};
+use crate::evaluation::{exact_result, value};
+use crate::range_types::type_range;
 use c_written::IntType;
-use num_api::{
-    Live, Message, Messages, NExpr, NOp, NumDomain, NumFacts, Ramp, Range, Residue, Steps,
-    Unknowing, Var,
-};
+use env_eval::no_numbers;
+use num_api::{Live, Message, NumDomain, NumFacts, Ramp, Range, Residue, Steps, Var};
 use std::alloc::{AllocError as NoMemory, Global};
 
-// The expression less the number.
-fn less(alloc: Global, plain: NExpr, shift: i128) -> Result<NExpr, NoMemory>
-    ensures { IfOk result (λ p. nexpr_tree p ≡ Binary Sub (nexpr_tree plain) (Const shift)) }
-{
-    let plain = Box::new(alloc, plain)?;
-    let shift = Box::new(alloc, NExpr::Const(shift))?;
-    Ok(NExpr::Binary(NOp::Sub, plain, shift))
-}
-
-// What the bits of the expression are as a number of the type.
-fn bits_of(alloc: Global, plain: NExpr, t: IntType) -> Result<NExpr, NoMemory>
-    ensures { IfOk result (λ p. nexpr_tree p ≡ Binary Add (Binary And (Binary Sub (nexpr_tree plain) (Const (least t)))
-        (Const (pos (2 ^ width t - 1)))) (Const (least t))) }
-{
-    let above = Box::new(alloc, less(alloc, plain, t.least())?)?;
-    let mask = Box::new(alloc, NExpr::Const(mask(t)))?;
-    let bits = Box::new(alloc, NExpr::Binary(NOp::And, above, mask))?;
-    let least = Box::new(alloc, NExpr::Const(t.least()))?;
-    Ok(NExpr::Binary(NOp::Add, bits, least))
-}
-
-/// A state of a numeric domain over numbers of C's integer types.
+/// A state of a numeric domain over numbers of C's integer types, or one that a cut has left nothing of: such a
+/// machine is void, and admits no valuation.
 #[derive(Drop)]
 pub struct Machine<D> {
     alloc: Global,
     state: D,
+    is_void: bool,
 }
 
 impl<D: NumDomain> Machine<D> {
     /// All valuations.
     pub fn top(alloc: Global) -> Machine<D>
-        ensures { (v : List ℤ) → D.admits (state_of result) v }
+        ensures { (v : List ℤ) → Admits D.admits result v }
     {
         Machine {
             alloc,
             state: D::top(alloc),
+            is_void: false,
         }
     }
 
-    /// A machine whose state equals this one's.
+    /// A machine that equals this one.
     pub fn copy(&self) -> Result<Machine<D>, NoMemory>
-        ensures { IfOk result (λ m. state_of m ≡ state_of self.now) }
+        ensures state { IfOk result (λ m. state_of m ≡ state_of self.now) }
+        ensures void { IfOk result (λ m. is_void m ≡ is_void self.now) }
     {
         Ok(Machine {
             alloc: self.alloc,
             state: self.state.copy()?,
+            is_void: self.is_void,
         })
+    }
+
+    // The answer of a cut: where nothing is left the machine is void.
+    fn marked(&mut self, live: Live) -> Live
+        ensures answer { result ≡ live }
+        ensures state { state_of self.new ≡ state_of self.old }
+        ensures void { is_void self.new ≡ not (is_live live) }
+    {
+        self.is_void = match live {
+            Live::Dead => true,
+            Live::Live => false,
+        };
+        live
     }
 
     /// Gives the variable the value of the expression: what it comes to, wrapped into its type.
     pub fn set(&mut self, x: Var, e: &MExpr) -> Result<(), NoMemory>
-        ensures { OnOk result ((v w : List ℤ) (n : ℤ) → D.admits (state_of self.old) v → machine_value v (mexpr_tree e.now) ≡ Some n → SetTo x.0 n v w
-            → D.admits (state_of self.new) w) }
+        ensures after { OnOk result ((v w : List ℤ) (n : ℤ) → Admits D.admits self.old v → machine_value v (mexpr_tree e.now) ≡ Some n → SetTo x.0 n v w
+            → Admits D.admits self.new w) }
+        ensures sharp_here { OnOk result ((v : List ℤ) (n : ℤ) → IsTrue D.exact → Admits D.admits self.old v
+            → OnVariables (IsSharp (D.known (state_of self.old)) v) (mexpr_tree e.now) → PartsFit v (mexpr_tree e.now)
+            → machine_value v (mexpr_tree e.now) ≡ Some n → IsPoint (D.known (state_of self.new) x.0) n) }
+        ensures sharp_others { OnOk result ((v : List ℤ) (n : ℤ) (y : ℕ) → IsTrue D.exact → Admits D.admits self.old v
+            → OnVariables (IsSharp (D.known (state_of self.old)) v) (mexpr_tree e.now) → PartsFit v (mexpr_tree e.now)
+            → machine_value v (mexpr_tree e.now) ≡ Some n → y ≢ x.0
+            → IsSharp (D.known (state_of self.old)) v y → IsSharp (D.known (state_of self.new)) v y) }
+        ensures plain { OnOk result ((given : ℕ → Range) → IsTrue D.exact → LiesUnder D.known self.old given
+            → LiesUnder D.known self.new (with_range given x.0 (range_of (value_span given (mexpr_tree e.now))))) }
+        ensures own { OnOk result (is_void self.old ≡ false → OwnAnswers (D.may_range (state_of self.old)) (mexpr_tree e.now)
+            (λ r. IsInside (type_of (mexpr_tree e.now)) r → IsTrue D.exact → is_void self.new ≡ false → NoWider (D.known (state_of self.new) x.0) r)) }
     {
-        let plain = self.inside(e)?;
-        let mut out = Messages::new(self.alloc);
-        self.state.assign(x, &plain, &Unknowing, &mut out)
+        if self.is_void {
+            return Ok(());
+        }
+        let part = value(self.alloc, &self.state, e)?;
+        let live = assign(self.alloc, &mut self.state, x, &part)?;
+        self.marked(live);
+        Ok(())
     }
 
     /// Keeps the valuations in which the expression's value has this truth; `Dead` only where there is none.
     pub fn test(&mut self, e: &MExpr, truth: bool) -> Result<Live, NoMemory>
-        ensures { IfOk result (λ live. (v : List ℤ) (n : ℤ) → D.admits (state_of self.old) v → machine_value v (mexpr_tree e.now) ≡ Some n
-            → IsTrue (has_truth truth n) → IsTrue (is_live live) × D.admits (state_of self.new) v) }
+        ensures after { IfOk result (λ live. (v : List ℤ) (n : ℤ) → Admits D.admits self.old v → machine_value v (mexpr_tree e.now) ≡ Some n
+            → IsTrue (has_truth truth n) → IsTrue (is_live live) × Admits D.admits self.new v) }
+        ensures void { IfOk result (λ live. is_void self.new ≡ not (is_live live)) }
+        ensures sharp_dead { IfOk result (λ live. (v : List ℤ) (n : ℤ) → IsTrue D.exact → Admits D.admits self.old v
+            → OnVariables (IsSharp (D.known (state_of self.old)) v) (mexpr_tree e.now) → PartsFit v (mexpr_tree e.now)
+            → machine_value v (mexpr_tree e.now) ≡ Some n → has_truth truth n ≡ false → is_live live ≡ false) }
+        ensures sharp_live { IfOk result (λ live. (v : List ℤ) (n : ℤ) (y : ℕ) → IsTrue D.exact → Admits D.admits self.old v
+            → OnVariables (IsSharp (D.known (state_of self.old)) v) (mexpr_tree e.now) → PartsFit v (mexpr_tree e.now)
+            → machine_value v (mexpr_tree e.now) ≡ Some n → IsTrue (is_live live)
+            → IsSharp (D.known (state_of self.old)) v y → IsSharp (D.known (state_of self.new)) v y) }
+        ensures plain_dead { IfOk result (λ live. (given : ℕ → Range) → IsTrue D.exact → LiesUnder D.known self.old given
+            → IsTrue (excludes truth (value_span given (mexpr_tree e.now))) → is_live live ≡ false) }
+        ensures plain_live { OnOk result ((given : ℕ → Range) → IsTrue D.exact → LiesUnder D.known self.old given
+            → LiesUnder D.known self.new (tested given (mexpr_tree e.now) truth)) }
+        ensures own { IfOk result (λ live. is_void self.old ≡ false → OwnAnswers (D.may_range (state_of self.old)) (mexpr_tree e.now)
+            (λ r. IsInside (type_of (mexpr_tree e.now)) r → (s : Span) → NoWider r (range_of s) → IsTrue (excludes truth s) → is_live live ≡ false)) }
     {
-        let plain = self.inside(e)?;
-        let mut out = Messages::new(self.alloc);
-        self.state.assume(&plain, truth, &Unknowing, &mut out)
+        if self.is_void {
+            return Ok(Live::Dead);
+        }
+        let live = keep_truth(self.alloc, &mut self.state, e, truth)?;
+        Ok(self.marked(live))
     }
 
-    /// A range and a class that hold the exact result of the outermost node, which is not wrapped.
+    /// A range and a class that hold the exact result of the outermost node, which is not wrapped. Of a void
+    /// machine both hold nothing but 0.
     pub fn check_range(&self, e: &MExpr) -> Result<(Range, Residue), NoMemory>
-        ensures holds { IfOk result (λ found. (v : List ℤ) (n : ℤ) → D.admits (state_of self.now) v → exact_value v (mexpr_tree e.now) ≡ Some n
+        ensures holds { IfOk result (λ found. (v : List ℤ) (n : ℤ) → Admits D.admits self.now v → exact_value v (mexpr_tree e.now) ≡ Some n
             → InRange found.0 n × InResidue found.1 n) }
         ensures proper { IfOk result (λ found. IsResidue found.1) }
+        ensures point { IfOk result (λ found. (v : List ℤ) (n : ℤ) → IsTrue D.exact → Admits D.admits self.now v
+            → OnVariables (IsSharp (D.known (state_of self.now)) v) (mexpr_tree e.now) → PartsFit v (mexpr_tree e.now) → FitsSigned w128 n
+            → exact_value v (mexpr_tree e.now) ≡ Some n → IsPoint found.0 n) }
+        ensures plain { IfOk result (λ found. (given : ℕ → Range) (s : Span) → IsTrue D.exact → LiesUnder D.known self.now given
+            → exact_span given (mexpr_tree e.now) ≡ Some s → FitsSpan s → NoWider found.0 (range_of s)) }
+        ensures own { IfOk result (λ found. is_void self.now ≡ false → OwnAnswers (D.may_range (state_of self.now)) (mexpr_tree e.now)
+            (λ r. NoWider found.0 r × D.may_residue (state_of self.now) (untyped (mexpr_tree e.now)) found.1)) }
+        ensures fold { IfOk result (λ found. (c : ℤ) → IsTrue D.exact → IsAlignment c → IsFold c (mexpr_tree e.now) → IsFoldResidue c found.1) }
     {
-        let plain = self.fitted(e)?;
-        Ok((self.state.range(&plain), self.state.residue(&plain)))
+        if self.is_void {
+            return Ok((no_numbers(), Residue { rem: 0, modulus: 0 }));
+        }
+        let part = exact_result(self.alloc, &self.state, e)?;
+        let class = self.state.residue(&part.plain);
+        if part.is_kept {
+            Ok((part.range, class))
+        } else {
+            Ok((part.range, multiples(class, fold_of(e))))
+        }
     }
 
     /// Gives the variable any number of the type.
     pub fn havoc(&mut self, x: Var, t: IntType) -> Result<(), NoMemory>
-        ensures { OnOk result ((v w : List ℤ) (n : ℤ) → D.admits (state_of self.old) v → HasNumber t n → SetTo x.0 n v w → D.admits (state_of self.new) w) }
+        ensures after { OnOk result ((v w : List ℤ) (n : ℤ) → Admits D.admits self.old v → HasNumber t n → SetTo x.0 n v w → Admits D.admits self.new w) }
+        ensures sharp_others { OnOk result ((v : List ℤ) (y : ℕ) → IsTrue D.exact → Admits D.admits self.old v → y ≢ x.0
+            → IsSharp (D.known (state_of self.old)) v y → IsSharp (D.known (state_of self.new)) v y) }
+        ensures plain { OnOk result ((given : ℕ → Range) → IsTrue D.exact → LiesUnder D.known self.old given
+            → LiesUnder D.known self.new (with_range given x.0 (range_of (type_span t)))) }
     {
-        self.state.havoc(x, range_of(t))
+        self.state.havoc(x, type_range(t))
     }
 
     /// Gives the variable any number.
     pub fn forget(&mut self, x: Var) -> Result<(), NoMemory>
-        ensures { OnOk result ((v w : List ℤ) (n : ℤ) → D.admits (state_of self.old) v → SetTo x.0 n v w → D.admits (state_of self.new) w) }
+        ensures after { OnOk result ((v w : List ℤ) (n : ℤ) → Admits D.admits self.old v → SetTo x.0 n v w → Admits D.admits self.new w) }
+        ensures sharp_others { OnOk result ((v : List ℤ) (y : ℕ) → IsTrue D.exact → Admits D.admits self.old v → y ≢ x.0
+            → IsSharp (D.known (state_of self.old)) v y → IsSharp (D.known (state_of self.new)) v y) }
+        ensures plain { OnOk result ((given : ℕ → Range) → IsTrue D.exact → LiesUnder D.known self.old given
+            → LiesUnder D.known self.new (with_range given x.0 all_numbers)) }
     {
         self.state.forget(x)
     }
@@ -126,16 +185,46 @@ impl<D: NumDomain> Machine<D> {
     /// Keeps the valuations in which the message holds; `Dead` only where there is none.
     pub fn accept(&mut self, m: &Message) -> Result<Live, NoMemory>
         requires { IsProper m.now }
-        ensures { IfOk result (λ live. (v : List ℤ) → D.admits (state_of self.old) v → Holds v m.now → IsTrue (is_live live) × D.admits (state_of self.new) v) }
+        ensures after { IfOk result (λ live. (v : List ℤ) → Admits D.admits self.old v → Holds v m.now → IsTrue (is_live live) × Admits D.admits self.new v) }
+        ensures void { IfOk result (λ live. is_void self.new ≡ not (is_live live)) }
+        ensures sharp { OnOk result ((v : List ℤ) (y : ℕ) → IsTrue D.exact → Admits D.admits self.old v → Holds v m.now
+            → IsSharp (D.known (state_of self.old)) v y → IsSharp (D.known (state_of self.new)) v y) }
+        ensures plain { OnOk result ((given : ℕ → Range) → IsTrue D.exact → LiesUnder D.known self.old given → LiesUnder D.known self.new given) }
+        ensures cut { IfOk result (λ live. (x : Variable) (r : Range) → IsTrue D.exact → m.now ≡ Between x r → IsTrue (is_live live)
+            → NoWider (D.known (state_of self.new) x.0) r) }
     {
-        self.state.accept(m)
+        if self.is_void {
+            return Ok(Live::Dead);
+        }
+        let live = self.state.accept(m)?;
+        Ok(self.marked(live))
+    }
+
+    // Makes the machine equal to the other.
+    fn take(&mut self, other: &Machine<D>) -> Result<(), NoMemory>
+        ensures state { OnOk result (state_of self.new ≡ state_of other.now) }
+        ensures void { OnOk result (is_void self.new ≡ is_void other.now) }
+    {
+        self.state = other.state.copy()?;
+        self.is_void = other.is_void;
+        Ok(())
     }
 
     /// Admits what either machine admits.
     pub fn join(&mut self, other: &Machine<D>) -> Result<(), NoMemory>
-        ensures left { OnOk result ((v : List ℤ) → D.admits (state_of self.old) v → D.admits (state_of self.new) v) }
-        ensures right { OnOk result ((v : List ℤ) → D.admits (state_of other.now) v → D.admits (state_of self.new) v) }
+        ensures left { OnOk result ((v : List ℤ) → Admits D.admits self.old v → Admits D.admits self.new v) }
+        ensures right { OnOk result ((v : List ℤ) → Admits D.admits other.now v → Admits D.admits self.new v) }
+        ensures plain { OnOk result ((given found : ℕ → Range) → IsTrue D.exact → LiesUnder D.known self.old given → LiesUnder D.known other.now found
+            → LiesUnder D.known self.new (λ x. hull (given x) (found x))) }
+        ensures of_void { OnOk result (is_void self.old ≡ true → (state_of self.new ≡ state_of other.now) × (is_void self.new ≡ is_void other.now)) }
+        ensures with_void { OnOk result (is_void other.now ≡ true → is_void self.old ≡ false → state_of self.new ≡ state_of self.old) }
     {
+        if self.is_void {
+            return self.take(other);
+        }
+        if other.is_void {
+            return Ok(());
+        }
         self.state.join(&other.state)
     }
 
@@ -146,81 +235,42 @@ impl<D: NumDomain> Machine<D> {
         ramp: &Ramp<U>,
     ) -> Result<(), NoMemory>
         requires { Keeps U.pre U.post ramp.now S.list }
-        ensures left { OnOk result ((v : List ℤ) → D.admits (state_of self.old) v → D.admits (state_of self.new) v) }
-        ensures right { OnOk result ((v : List ℤ) → D.admits (state_of next.now) v → D.admits (state_of self.new) v) }
-        ensures no_rise { OnOk result (D.weight S.list (state_of self.new) ≤ D.weight S.list (state_of self.old)) }
-        ensures falls { OnOk result (D.holds (state_of self.old) (state_of next.now) ≡ false
-            → D.weight S.list (state_of self.new) < D.weight S.list (state_of self.old)) }
+        ensures left { OnOk result ((v : List ℤ) → Admits D.admits self.old v → Admits D.admits self.new v) }
+        ensures right { OnOk result ((v : List ℤ) → Admits D.admits next.now v → Admits D.admits self.new v) }
+        ensures no_rise { OnOk result (machine_weight (D.weight S.list) self.new ≤ machine_weight (D.weight S.list) self.old) }
+        ensures falls { OnOk result (holds_machine D.holds self.old next.now ≡ false
+            → machine_weight (D.weight S.list) self.new < machine_weight (D.weight S.list) self.old) }
     {
-        self.state.widen::<U, S>(&next.state, ramp)
+        if next.is_void {
+            return Ok(());
+        }
+        self.state.widen::<U, S>(&next.state, ramp)?;
+        self.is_void = false;
+        Ok(())
     }
 
     /// Whether the machine is known to hold the other.
     pub fn covers(&self, other: &Machine<D>) -> bool
-        ensures value { result ≡ D.holds (state_of self.now) (state_of other.now) }
-        ensures included { IsTrue result → (v : List ℤ) → D.admits (state_of other.now) v → D.admits (state_of self.now) v }
+        ensures value { result ≡ holds_machine D.holds self.now other.now }
+        ensures included { IsTrue result → (v : List ℤ) → Admits D.admits other.now v → Admits D.admits self.now v }
     {
+        if other.is_void {
+            return true;
+        }
+        if self.is_void {
+            return false;
+        }
         self.state.covers(&other.state)
     }
 
-    /// Puts out what holds in every valuation of the machine.
+    /// Puts out what holds in every valuation of the machine; of a void machine nothing.
     pub fn facts(&self, out: &mut NumFacts) -> Result<(), NoMemory>
         ensures kept { OnOk result (Adds out.old out.new) }
-        ensures told { OnOk result ((v : List ℤ) → D.admits (state_of self.now) v → TellsOf v out.old out.new) }
+        ensures told { OnOk result ((v : List ℤ) → Admits D.admits self.now v → TellsOf v out.old out.new) }
     {
+        if self.is_void {
+            return Ok(());
+        }
         self.state.facts(out)
-    }
-
-    // The expression without its types: its value is the exact result of the outermost node.
-    fn fitted(&self, e: &MExpr) -> Result<NExpr, NoMemory>
-        ensures { IfOk result (λ plain. (v : List ℤ) → D.admits (state_of self.now) v
-            → value_of v (nexpr_tree plain) ≡ exact_value v (mexpr_tree e.now)) }
-    {
-        match e {
-            MExpr::Const(_, n) => Ok(NExpr::Const(*n)),
-            MExpr::Read(x, _) => Ok(NExpr::Read(*x)),
-            MExpr::Convert(_, a) => {
-                let plain = self.fitted(a)?;
-                self.within(plain, a.int_type())
-            }
-            MExpr::Unary(op, _, a) => {
-                let plain = self.fitted(a)?;
-                let part = self.within(plain, a.int_type())?;
-                let part = Box::new(self.alloc, part)?;
-                Ok(NExpr::Unary(*op, part))
-            }
-            MExpr::Binary(op, _, a, b) => {
-                let first = self.fitted(a)?;
-                let left = self.within(first, a.int_type())?;
-                let second = self.fitted(b)?;
-                let right = self.within(second, b.int_type())?;
-                let left = Box::new(self.alloc, left)?;
-                let right = Box::new(self.alloc, right)?;
-                Ok(NExpr::Binary(*op, left, right))
-            }
-        }
-    }
-
-    // The expression wrapped into the type: by one shift where that does so to all its numbers, else by its bits.
-    fn within(&self, plain: NExpr, t: IntType) -> Result<NExpr, NoMemory>
-        ensures { IfOk result (λ p. (v : List ℤ) → D.admits (state_of self.now) v
-            → value_of v (nexpr_tree p) ≡ wrapped_value t (value_of v (nexpr_tree plain))) }
-    {
-        let Some(shift) = shift_into(self.state.range(&plain), t) else {
-            return bits_of(self.alloc, plain, t);
-        };
-        if shift == 0 {
-            return Ok(plain);
-        }
-        less(self.alloc, plain, shift)
-    }
-
-    // The same of the value: what the outermost node comes to is wrapped too.
-    fn inside(&self, e: &MExpr) -> Result<NExpr, NoMemory>
-        ensures { IfOk result (λ plain. (v : List ℤ) → D.admits (state_of self.now) v
-            → value_of v (nexpr_tree plain) ≡ machine_value v (mexpr_tree e.now)) }
-    {
-        let plain = self.fitted(e)?;
-        self.within(plain, e.int_type())
     }
 }

@@ -1,6 +1,6 @@
 // Ranges of what operators give.
 
-ghost use Rattle.std.specs.Prelude.{◌≡◌, ◌*ℤ◌, ℤ, pos, true, false, Some};
+ghost use Rattle.std.specs.Prelude.{◌≡◌, ℤ, pos, true, false, Some};
 ghost use Rattle.std.specs.Int.RustNames.{FitsSigned};
 ghost use mir.Syntax.{w128};
 ghost use Rattle.num_api.specs.Ranges.{InRange, IsPoint, NoWider};
@@ -11,10 +11,8 @@ ghost use Rattle.c_written.specs.declared.int_type.IntType.{IntType as CType};
 ghost use Rattle.intervals.specs.Bits.{IsLogical};
 ghost use Rattle.intervals.specs.Interval.{Admits, ends_of};
 ghost use Rattle.machine_nums.specs.Rule.{type_span, typed_span};
-ghost use Rattle.machine_nums.specs.Wrapping.{HoldsLike, IsPointLike};
 
 use crate::range_types::{lies_in, meet, type_range};
-use crate::wrapping::wrap_range;
 use c_written::IntType;
 use env_eval::no_numbers;
 use ext_int::Ext;
@@ -107,15 +105,4 @@ pub fn typed_range(op: NOp, t: IntType, r: Range, s: Range) -> Range
         NOp::Shr => shifted_range(t, r, s),
         _ => binary_range(op, r, s),
     }
-}
-
-/// The products of the numbers of both ranges, up to multiples of 2^64: those of the numbers from -2^63 to
-/// 2^63 - 1 that are the same up to such a multiple, whose products are `i128`s.
-pub fn like_product(r: Range, s: Range) -> Range
-    ensures holds { (x y : ℤ) → InRange r x → InRange s y → HoldsLike result (x *ℤ y) }
-    ensures point { (x y : ℤ) → IsPoint r x → IsPoint s y → IsPointLike result (x *ℤ y) }
-{
-    let a = wrap_range(r, IntType::LLong).range;
-    let b = wrap_range(s, IntType::LLong).range;
-    binary_range(NOp::Mul, a, b)
 }

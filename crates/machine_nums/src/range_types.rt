@@ -1,11 +1,12 @@
 // The numbers of C's integer types as ranges.
 
-ghost use Rattle.std.specs.Prelude.{◌≡◌, ◌^◌, ◌-◌, ◌-ℤ◌, ◌≤ℤ◌, ◌<ℤ◌, ℤ, pos, true, false, IsTrue, ◌↔◌};
+ghost use Rattle.std.specs.Prelude.{◌≡◌, ◌^◌, ◌-◌, ◌≤ℤ◌, ◌<ℤ◌, ℤ, pos, true, false, IsTrue, ◌↔◌};
+ghost use Rattle.std.specs.Int.RustNames.{FitsSigned};
+ghost use mir.Syntax.{w128};
 ghost use Rattle.ext_int.specs.Ext.{AtMost};
-ghost use Rattle.c_written.specs.Integer.{width, greatest, wrapped};
+ghost use Rattle.c_written.specs.Integer.{width, greatest};
 ghost use Rattle.num_api.specs.Ranges.{InRange, NoWider, holds_some};
-ghost use Rattle.num_api.specs.Residues.{IsMultiple};
-ghost use Rattle.num_api.specs.Spans.{range_of};
+ghost use Rattle.num_api.specs.Spans.{Span, range_of};
 ghost use Rattle.machine_nums.specs.Rule.{type_span};
 
 use c_written::IntType;
@@ -23,21 +24,6 @@ pub fn type_range(t: IntType) -> Range
     }
 }
 
-// How many numbers the type has.
-fn numbers(t: IntType) -> i128
-    ensures value { result ≡ pos (2 ^ width t) }
-    ensures some { pos 1 ≤ℤ result }
-{
-    match t {
-        IntType::Char | IntType::SChar | IntType::UChar => 0x100,
-        IntType::Short | IntType::UShort => 0x1_0000,
-        IntType::Int | IntType::UInt => 0x1_0000_0000,
-        IntType::Long | IntType::ULong | IntType::LLong | IntType::ULLong => {
-            0x1_0000_0000_0000_0000
-        }
-    }
-}
-
 /// The number whose bits are the low ones, as many as the type has.
 pub fn mask(t: IntType) -> i128
     ensures { result ≡ pos (2 ^ width t - 1) }
@@ -50,41 +36,12 @@ pub fn mask(t: IntType) -> i128
     }
 }
 
-// The remainder by how many numbers the type has.
-fn remainder(n: i128, t: IntType) -> i128
-    ensures low { pos 0 ≤ℤ result }
-    ensures high { result <ℤ pos (2 ^ width t) }
-    ensures moved { IsMultiple (pos (2 ^ width t)) (result -ℤ n) }
-{
-    n.rem_euclid(numbers(t))
-}
-
 // Whether the number is above all numbers of the type.
 pub fn is_above(n: i128, t: IntType) -> bool
     ensures above { result ≡ true → pos (greatest t) <ℤ n }
     ensures not { result ≡ false → n ≤ℤ pos (greatest t) }
 {
     n > i128::from(t.greatest())
-}
-
-// The remainder less how many numbers the type has.
-fn turned(low: i128, t: IntType) -> i128
-    requires { pos 0 ≤ℤ low }
-    ensures { result ≡ low -ℤ pos (2 ^ width t) }
-{
-    low - numbers(t)
-}
-
-/// The number wrapped into the type.
-pub fn wrap(n: i128, t: IntType) -> i128
-    ensures { result ≡ wrapped t n }
-{
-    let low = remainder(n, t);
-    if is_above(low, t) {
-        turned(low, t)
-    } else {
-        low
-    }
 }
 
 // Whether the first end is at or below the second.
@@ -114,5 +71,17 @@ pub fn meet(r: Range, s: Range) -> Range
     Range {
         lo: max(r.lo, s.lo),
         hi: min(r.hi, s.hi),
+    }
+}
+
+// Whether the range has no end that is missing, so that all its numbers are `i128`s.
+pub fn is_bounded(r: Range) -> bool
+    ensures fits { result ≡ true → (n : ℤ) → InRange r n → FitsSigned w128 n }
+    ensures not { result ≡ false → (s : Span) → NoWider r (range_of s) → ⊥ }
+{
+    match (r.lo, r.hi) {
+        (Ext::Low, _) | (_, Ext::High) => false,
+        (Ext::Fin(_), Ext::Fin(_)) => true,
+        _ => true,
     }
 }

@@ -9,7 +9,8 @@ ghost use Rattle.num_api.specs.Spans.{range_of};
 ghost use Rattle.machine_nums.specs.Rule.{type_span};
 ghost use Rattle.machine_nums.specs.Wrapping.{IsWrapping, IsTaken};
 
-use crate::range_types::{is_above, lies_in, type_range, wrap};
+use crate::range_types::{is_above, lies_in, type_range};
+use c_layout::wrap;
 use c_written::IntType;
 use env_eval::number;
 use ext_int::Ext;
@@ -22,6 +23,8 @@ pub enum Way {
     Kept,
     /// They are so with this added, a multiple of how many numbers the type has.
     Shifted(i128),
+    /// All of them are this number there.
+    Only(i128),
     /// Each is what its bits are as a number of the type.
     ByBits,
 }
@@ -55,7 +58,7 @@ fn shifted(r: Range, t: IntType) -> Option<Wrapping>
     let (Ext::Fin(lo), Ext::Fin(hi)) = (r.lo, r.hi) else {
         return None;
     };
-    let least = wrap(lo, t);
+    let least = wrap(t, lo);
     let shift = difference(least, lo)?;
     let greatest = sum(hi, shift)?;
     if is_above(greatest, t) {
@@ -76,10 +79,13 @@ fn by_bits(r: Range, t: IntType) -> Wrapping
     ensures point { (n : ℤ) → IsPoint r n → IsPoint result.range (wrapped t n) }
 {
     match number(r) {
-        Some(n) => Wrapping {
-            way: Way::ByBits,
-            range: Range::point(wrap(n, t)),
-        },
+        Some(n) => {
+            let only = wrap(t, n);
+            Wrapping {
+                way: Way::Only(only),
+                range: Range::point(only),
+            }
+        }
         None => Wrapping {
             way: Way::ByBits,
             range: type_range(t),

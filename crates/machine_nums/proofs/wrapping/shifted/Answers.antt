@@ -1,4 +1,4 @@
-use Rattle.std.proofs.Common.{◌≡◌, ◌∙◌, ◌-ℤ◌, ◌+ℤ◌, ℤ, FitsSigned, to_z, of_z, rules, ap}
+use Rattle.std.proofs.Common.{◌∙◌, ◌-ℤ◌, ◌+ℤ◌, ℤ, FitsSigned, to_z, of_z, rules, ap}
 use Rattle.std.proofs.lemmas.Int.{to_z-of_z}
 use mir.Syntax.{w128}
 use Rattle.c_written.specs.Integer.{wrapped}
