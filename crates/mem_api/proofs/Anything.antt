@@ -33,7 +33,7 @@ use Rattle.c_values.specs.Operators.{number, exact_binary, unary_operand, pair_o
 use Rattle.c_values.specs.Accesses.{mark, test_operand}
 use Rattle.csharp.specs.Trees.{CsExprTree, CsProgramTree}
 use Rattle.csharp.specs.Trees as code
-use Rattle.csharp.specs.States.{State, value_of, on_both, exact_of, end_of, pointed, of_one, of_value, operand_of}
+use Rattle.csharp.specs.States.{State, takes_right, if_taken, value_of, on_both, exact_of, end_of, pointed, of_one, of_value, operand_of}
 use Rattle.csharp.specs.Formed.{HasOperands}
 use Rattle.mem_api.specs.Owned.{IsOwned, any_number, any_pointer, any_pointers, anything}
 
@@ -86,6 +86,10 @@ number_of_binary (binaries.IntPlusPointer n) v u x h = absurd (cc)
 number_of_binary (binaries.PointerMinusInt n) v u x h = absurd (cc)
 number_of_binary (binaries.PointerMinusPointer n) v u x h = absurd (cc)
 
+number_of_taken : (taken : Bool) (op : TBinaryOp) (v u : Value) (x : Operand) → (if taken then exact_binary op v u else None) ≡ Some x → IsNumberOperand x
+number_of_taken true op v u x h = number_of_binary op v u x h
+number_of_taken false op v u x h = absurd (cc)
+
 -- what is said of whatever a look finds
 found : {A : Type 0} (P : A → Type 0) (look : Value → Option A) (o : Option Value) → ((v : Value) (x : A) → look v ≡ Some x → P x) → (x : A)
     → option_and_then look o ≡ Some x → P x
@@ -95,8 +99,8 @@ found P look (Some v) each x h = each v x h
 exact_is_number : (e : CsExprTree) (s : State) (x : Operand) → exact_of e s ≡ Some x → IsNumberOperand x
 exact_is_number (code.Unary op e) s x h =
     found IsNumberOperand (λ v. unary_operand s.memory op v kinds.Overflow) (value_of e s) (λ v y g. number_of_unary s.memory op v y g) x h
-exact_is_number (code.Binary op e f) s x h = found IsNumberOperand (λ v. option_and_then (exact_binary op v) (value_of f s)) (value_of e s)
-    (λ v y g. found IsNumberOperand (exact_binary op v) (value_of f s) (λ u z b. number_of_binary op v u z b) y g) x h
+exact_is_number (code.Binary op e f) s x h = found IsNumberOperand (λ v. option_and_then (if_taken op (exact_binary op) v) (value_of f s)) (value_of e s)
+    (λ v y g. found IsNumberOperand (if_taken op (exact_binary op) v) (value_of f s) (λ u z b. number_of_taken (takes_right op u) op v u z b) y g) x h
 exact_is_number (code.Const t n) s x h = absurd (cc)
 exact_is_number code.Null s x h = absurd (cc)
 exact_is_number (code.Temp d) s x h = absurd (cc)

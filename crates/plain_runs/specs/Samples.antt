@@ -14,6 +14,7 @@ use Rattle.c_syntax.specs.declared.operator.TBinaryOp.TheVariants as binaries
 use Rattle.c_syntax.specs.declared.program.InitByte.{InitByte}
 use Rattle.c_syntax.specs.declared.program.InitByte.TheVariants as inits
 use Rattle.c_syntax.specs.Types.{ObjectTree, Int}
+use Rattle.block_mem.specs.declared.types.Scalar.{Scalar}
 use Rattle.block_mem.specs.declared.types.Scalar.TheVariants as scalars
 use Rattle.num_api.specs.Spans.{Span, span, point}
 use Rattle.csharp.specs.Trees.{CsExprTree, Const, Temp, Address, Unary, Binary, Convert, CsStmtTree, Nothing, Set, Load, Store, Checked, Input}
@@ -26,9 +27,11 @@ use Rattle.plain_runs.specs.Runs.{Suspect, Ran, ByReturn, plain_run}
 -- ---- states and expressions
 
 -- two ints, two unsigned ints and an unsigned char, with these numbers
+abbrev types : List Scalar
+types = scalars.Int ints.Int ∷ scalars.Int ints.Int ∷ scalars.Int ints.UInt ∷ scalars.Int ints.UInt ∷ scalars.Int ints.UChar ∷ scalars.Pointer ∷ []
+
 abbrev with : Span → Span → Span → Span → Span → Plain
 with a b c d e = record {
-  types = scalars.Int ints.Int ∷ scalars.Int ints.Int ∷ scalars.Int ints.UInt ∷ scalars.Int ints.UInt ∷ scalars.Int ints.UChar ∷ scalars.Pointer ∷ [];
   temps = λ k. unwrap_or (slice_get (a ∷ b ∷ c ∷ d ∷ e ∷ []) k) (point (pos 0));
   copies = λ k. None;
   objects = λ x. None;
@@ -68,42 +71,42 @@ is how = than how (Temp 0) (Temp 1)
 -- ---- values
 
 pub record ValuesAre : Type 0 where
-  pub constant : span_of (ints_of nil nil) (number 7) ≡ Some (point (pos 7))
-  pub sum : span_of (ints_of (to 1 3) (to 10 20)) (op arithmetics.Add) ≡ Some (to 11 23)
-  pub difference : span_of (ints_of (to 1 3) (to 10 20)) (op arithmetics.Subtract) ≡ Some (span (negsuc 18) (negsuc 6))
-  pub product : span_of (ints_of (span (negsuc 1) (pos 3)) (to 4 5)) (op arithmetics.Multiply) ≡ Some (span (negsuc 9) (pos 15))
-  pub quotient : span_of (ints_of (to 10 20) (span (negsuc 1) (pos 3))) (op arithmetics.Divide) ≡ Some (span (negsuc 19) (pos 20))
-  pub remainder : span_of (ints_of (span (negsuc 4) (pos 100)) (to 1 8)) (op arithmetics.Remainder) ≡ Some (span (negsuc 4) (pos 7))
-  pub remainder_of_few : span_of (ints_of (to 2 3) (to 1 8)) (op arithmetics.Remainder) ≡ Some (to 0 3)
-  pub minus : span_of (ints_of (span (negsuc 2) (pos 5)) nil) (Unary (unaries.Minus ints.Int) (Temp 0)) ≡ Some (span (negsuc 4) (pos 3))
-  pub unsigned_sum : span_of (unsigned (to 0 10) (point (pos 1))) (unsigned_op arithmetics.Add) ≡ Some (to 1 11)
-  pub unsigned_sum_wraps : span_of (unsigned (to 0 10) (to 0 4294967295)) (unsigned_op arithmetics.Add) ≡ Some (to 0 4294967295)
-  pub unsigned_difference_wraps : span_of (unsigned (to 0 10) (point (pos 1))) (unsigned_op arithmetics.Subtract) ≡ Some (to 0 4294967295)
-  pub and : span_of (ints_of (point (pos 12)) (point (pos 10))) (op arithmetics.BitAnd) ≡ Some (point (pos 8))
-  pub and_of_many : span_of (ints_of (to 12 13) (point (pos 10))) (op arithmetics.BitAnd) ≡ Some all_ints
-  pub or : span_of (ints_of (point (pos 12)) (point (pos 10))) (op arithmetics.BitOr) ≡ Some (point (pos 14))
-  pub exclusive_or : span_of (ints_of (point (pos 12)) (point (pos 10))) (op arithmetics.BitXor) ≡ Some (point (pos 6))
-  pub complement : span_of (ints_of (point (pos 5)) nil) (Unary (unaries.Complement ints.Int) (Temp 0)) ≡ Some (point (negsuc 5))
-  pub complement_of_many : span_of (ints_of (to 0 1) nil) (Unary (unaries.Complement ints.Int) (Temp 0)) ≡ Some all_ints
-  pub shift_left : span_of (ints_of (point (pos 3)) (point (pos 2))) (Binary (binaries.Shift Left ints.Int) (Temp 0) (Temp 1)) ≡ Some (point (pos 12))
-  pub shift_right : span_of (ints_of (point (pos 12)) (point (pos 2))) (Binary (binaries.Shift Right ints.Int) (Temp 0) (Temp 1)) ≡ Some (point (pos 3))
-  pub shift_of_many : span_of (ints_of (to 12 13) (point (pos 2))) (Binary (binaries.Shift Right ints.Int) (Temp 0) (Temp 1)) ≡ Some all_ints
-  pub conversion_keeps : span_of (ints_of (to 0 200) nil) (Convert ints.UChar (Temp 0)) ≡ Some (to 0 200)
-  pub conversion_loses : span_of (ints_of (to 0 300) nil) (Convert ints.UChar (Temp 0)) ≡ Some (to 0 255)
-  pub less : span_of (ints_of (to 0 5) (to 6 9)) (is comparisons.Less) ≡ Some (point (pos 1))
-  pub less_or_not : span_of (ints_of (to 0 5) (to 5 9)) (is comparisons.Less) ≡ Some (to 0 1)
-  pub not_less : span_of (ints_of (to 5 9) (to 0 5)) (is comparisons.Less) ≡ Some (point (pos 0))
-  pub greater : span_of (ints_of (to 6 9) (to 0 5)) (is comparisons.Greater) ≡ Some (point (pos 1))
-  pub at_most : span_of (ints_of (to 0 5) (to 5 9)) (is comparisons.AtMost) ≡ Some (point (pos 1))
-  pub at_least : span_of (ints_of (to 0 4) (to 5 9)) (is comparisons.AtLeast) ≡ Some (point (pos 0))
-  pub equal : span_of (ints_of (point (pos 5)) (point (pos 5))) (is comparisons.Equal) ≡ Some (point (pos 1))
-  pub equal_or_not : span_of (ints_of (to 0 5) (point (pos 5))) (is comparisons.Equal) ≡ Some (to 0 1)
-  pub unequal : span_of (ints_of (to 0 4) (point (pos 5))) (is comparisons.Unequal) ≡ Some (point (pos 1))
-  pub negation : span_of (ints_of (to 1 5) nil) (Unary unaries.Not (Temp 0)) ≡ Some (point (pos 0))
-  pub negation_of_zero : span_of (ints_of nil nil) (Unary unaries.Not (Temp 0)) ≡ Some (point (pos 1))
-  pub negation_or_not : span_of (ints_of (to 0 5) nil) (Unary unaries.Not (Temp 0)) ≡ Some (to 0 1)
-  pub no_integer : span_of (ints_of nil nil) (Temp 5) ≡ None
-  pub no_address : span_of (ints_of nil nil) (Address 0) ≡ None
+  pub constant : span_of types (ints_of nil nil) (number 7) ≡ Some (point (pos 7))
+  pub sum : span_of types (ints_of (to 1 3) (to 10 20)) (op arithmetics.Add) ≡ Some (to 11 23)
+  pub difference : span_of types (ints_of (to 1 3) (to 10 20)) (op arithmetics.Subtract) ≡ Some (span (negsuc 18) (negsuc 6))
+  pub product : span_of types (ints_of (span (negsuc 1) (pos 3)) (to 4 5)) (op arithmetics.Multiply) ≡ Some (span (negsuc 9) (pos 15))
+  pub quotient : span_of types (ints_of (to 10 20) (span (negsuc 1) (pos 3))) (op arithmetics.Divide) ≡ Some (span (negsuc 19) (pos 20))
+  pub remainder : span_of types (ints_of (span (negsuc 4) (pos 100)) (to 1 8)) (op arithmetics.Remainder) ≡ Some (span (negsuc 4) (pos 7))
+  pub remainder_of_few : span_of types (ints_of (to 2 3) (to 1 8)) (op arithmetics.Remainder) ≡ Some (to 0 3)
+  pub minus : span_of types (ints_of (span (negsuc 2) (pos 5)) nil) (Unary (unaries.Minus ints.Int) (Temp 0)) ≡ Some (span (negsuc 4) (pos 3))
+  pub unsigned_sum : span_of types (unsigned (to 0 10) (point (pos 1))) (unsigned_op arithmetics.Add) ≡ Some (to 1 11)
+  pub unsigned_sum_wraps : span_of types (unsigned (to 0 10) (to 0 4294967295)) (unsigned_op arithmetics.Add) ≡ Some (to 0 4294967295)
+  pub unsigned_difference_wraps : span_of types (unsigned (to 0 10) (point (pos 1))) (unsigned_op arithmetics.Subtract) ≡ Some (to 0 4294967295)
+  pub and : span_of types (ints_of (point (pos 12)) (point (pos 10))) (op arithmetics.BitAnd) ≡ Some (point (pos 8))
+  pub and_of_many : span_of types (ints_of (to 12 13) (point (pos 10))) (op arithmetics.BitAnd) ≡ Some all_ints
+  pub or : span_of types (ints_of (point (pos 12)) (point (pos 10))) (op arithmetics.BitOr) ≡ Some (point (pos 14))
+  pub exclusive_or : span_of types (ints_of (point (pos 12)) (point (pos 10))) (op arithmetics.BitXor) ≡ Some (point (pos 6))
+  pub complement : span_of types (ints_of (point (pos 5)) nil) (Unary (unaries.Complement ints.Int) (Temp 0)) ≡ Some (point (negsuc 5))
+  pub complement_of_many : span_of types (ints_of (to 0 1) nil) (Unary (unaries.Complement ints.Int) (Temp 0)) ≡ Some all_ints
+  pub shift_left : span_of types (ints_of (point (pos 3)) (point (pos 2))) (Binary (binaries.Shift Left ints.Int) (Temp 0) (Temp 1)) ≡ Some (point (pos 12))
+  pub shift_right : span_of types (ints_of (point (pos 12)) (point (pos 2))) (Binary (binaries.Shift Right ints.Int) (Temp 0) (Temp 1)) ≡ Some (point (pos 3))
+  pub shift_of_many : span_of types (ints_of (to 12 13) (point (pos 2))) (Binary (binaries.Shift Right ints.Int) (Temp 0) (Temp 1)) ≡ Some all_ints
+  pub conversion_keeps : span_of types (ints_of (to 0 200) nil) (Convert ints.UChar (Temp 0)) ≡ Some (to 0 200)
+  pub conversion_loses : span_of types (ints_of (to 0 300) nil) (Convert ints.UChar (Temp 0)) ≡ Some (to 0 255)
+  pub less : span_of types (ints_of (to 0 5) (to 6 9)) (is comparisons.Less) ≡ Some (point (pos 1))
+  pub less_or_not : span_of types (ints_of (to 0 5) (to 5 9)) (is comparisons.Less) ≡ Some (to 0 1)
+  pub not_less : span_of types (ints_of (to 5 9) (to 0 5)) (is comparisons.Less) ≡ Some (point (pos 0))
+  pub greater : span_of types (ints_of (to 6 9) (to 0 5)) (is comparisons.Greater) ≡ Some (point (pos 1))
+  pub at_most : span_of types (ints_of (to 0 5) (to 5 9)) (is comparisons.AtMost) ≡ Some (point (pos 1))
+  pub at_least : span_of types (ints_of (to 0 4) (to 5 9)) (is comparisons.AtLeast) ≡ Some (point (pos 0))
+  pub equal : span_of types (ints_of (point (pos 5)) (point (pos 5))) (is comparisons.Equal) ≡ Some (point (pos 1))
+  pub equal_or_not : span_of types (ints_of (to 0 5) (point (pos 5))) (is comparisons.Equal) ≡ Some (to 0 1)
+  pub unequal : span_of types (ints_of (to 0 4) (point (pos 5))) (is comparisons.Unequal) ≡ Some (point (pos 1))
+  pub negation : span_of types (ints_of (to 1 5) nil) (Unary unaries.Not (Temp 0)) ≡ Some (point (pos 0))
+  pub negation_of_zero : span_of types (ints_of nil nil) (Unary unaries.Not (Temp 0)) ≡ Some (point (pos 1))
+  pub negation_or_not : span_of types (ints_of (to 0 5) nil) (Unary unaries.Not (Temp 0)) ≡ Some (to 0 1)
+  pub no_integer : span_of types (ints_of nil nil) (Temp 5) ≡ None
+  pub no_address : span_of types (ints_of nil nil) (Address 0) ≡ None
 
 -- ---- tests
 
@@ -117,7 +120,7 @@ left_of None = nothing
 left_of (Some p) = numbers (p.temps 0) (p.temps 1)
 
 abbrev behind : Plain → CsExprTree → Bool → Option Behind
-behind p e truth = option_map left_of (plain_test p e truth)
+behind p e truth = option_map left_of (plain_test types p e truth)
 
 -- an int as an unsigned one, below 10
 abbrev unsigned_below : CsExprTree
@@ -169,7 +172,7 @@ second_of None = nothing
 second_of (Some p) = numbers (p.temps 0) (p.temps 1)
 
 abbrev passes : Plain → CsCheckTree → Option Behind
-passes p c = option_map second_of (plain_pass p c)
+passes p c = option_map second_of (plain_pass types p c)
 
 abbrev first_of : Option Plain → Option Span
 first_of None = None
@@ -177,11 +180,11 @@ first_of (Some p) = Some (p.temps 0)
 
 abbrev set_behind : CsExprTree → Option Plain → Option Span
 set_behind e None = None
-set_behind e (Some p) = first_of (plain_set p 0 e)
+set_behind e (Some p) = first_of (plain_set types p 0 e)
 
 -- what a result has once its check has passed
 abbrev result : Plain → CsCheckTree → CsExprTree → Option (Option Span)
-result p c e = option_map (set_behind e) (plain_pass p c)
+result p c e = option_map (set_behind e) (plain_pass types p c)
 
 abbrev near_the_end : Plain
 near_the_end = ints_of (to 2147483640 2147483647) (to 0 5)
@@ -190,27 +193,27 @@ abbrev sum : CsExprTree
 sum = op arithmetics.Add
 
 pub record ChecksAre : Type 0 where
-  pub sum_fits : plain_suspect (ints_of (to 1 3) (to 10 20)) (in_int kinds.Overflow sum) ≡ Some false
-  pub sum_leaves : plain_suspect near_the_end (in_int kinds.Overflow sum) ≡ Some true
+  pub sum_fits : plain_suspect types (ints_of (to 1 3) (to 10 20)) (in_int kinds.Overflow sum) ≡ Some false
+  pub sum_leaves : plain_suspect types near_the_end (in_int kinds.Overflow sum) ≡ Some true
   pub sum_passes : result near_the_end (in_int kinds.Overflow sum) sum ≡ Some (Some (to 2147483640 2147483647))
   pub sum_never_passes : passes (ints_of (point (pos 2147483647)) (to 1 5)) (in_int kinds.Overflow sum) ≡ Some nothing
-  pub divisor : plain_suspect (ints_of nil (to 0 5)) (of_zero kinds.DivideByZero (Temp 1)) ≡ Some true
+  pub divisor : plain_suspect types (ints_of nil (to 0 5)) (of_zero kinds.DivideByZero (Temp 1)) ≡ Some true
   pub divisor_passes : passes (ints_of nil (to 0 5)) (of_zero kinds.DivideByZero (Temp 1)) ≡ Some (numbers nil (to 1 5))
   pub divisor_within : passes (ints_of nil (span (negsuc 0) (pos 5))) (of_zero kinds.DivideByZero (Temp 1)) ≡ Some (numbers nil (span (negsuc 0) (pos 5)))
   pub divisor_is_zero : passes (ints_of nil nil) (of_zero kinds.DivideByZero (Temp 1)) ≡ Some nothing
-  pub quotient : plain_suspect (ints_of all_ints (span (negsuc 0) (pos 5))) (in_int kinds.Quotient (op arithmetics.Divide)) ≡ Some true
-  pub quotient_fits : plain_suspect (ints_of all_ints (to 1 5)) (in_int kinds.Quotient (op arithmetics.Divide)) ≡ Some false
-  pub by_its_quotient : plain_suspect (ints_of all_ints (span (negsuc 0) (pos 5))) (in_int kinds.Quotient (op arithmetics.Remainder)) ≡ Some true
+  pub quotient : plain_suspect types (ints_of all_ints (span (negsuc 0) (pos 5))) (in_int kinds.Quotient (op arithmetics.Divide)) ≡ Some true
+  pub quotient_fits : plain_suspect types (ints_of all_ints (to 1 5)) (in_int kinds.Quotient (op arithmetics.Divide)) ≡ Some false
+  pub by_its_quotient : plain_suspect types (ints_of all_ints (span (negsuc 0) (pos 5))) (in_int kinds.Quotient (op arithmetics.Remainder)) ≡ Some true
   pub remainder_is_not_cut : result (ints_of all_ints (span (negsuc 0) (pos 5))) (in_int kinds.Quotient (op arithmetics.Remainder)) (op arithmetics.Remainder)
       ≡ Some (Some (span (negsuc 3) (pos 4)))
-  pub amount_leaves : plain_suspect (ints_of nil (to 5 40)) (amount (Temp 1)) ≡ Some true
+  pub amount_leaves : plain_suspect types (ints_of nil (to 5 40)) (amount (Temp 1)) ≡ Some true
   pub amount_passes : passes (ints_of nil (to 5 40)) (amount (Temp 1)) ≡ Some (numbers nil (to 5 31))
-  pub amount_fits : plain_suspect (ints_of nil (to 0 31)) (amount (Temp 1)) ≡ Some false
-  pub point_shifts : plain_suspect (ints_of (point (pos 3)) (point (pos 2))) shifted ≡ Some false
-  pub point_leaves : plain_suspect (ints_of (point (pos 1)) (point (pos 31))) shifted ≡ Some true
-  pub many_shift : plain_suspect (ints_of (to 1 2) (point (pos 2))) shifted ≡ Some true
+  pub amount_fits : plain_suspect types (ints_of nil (to 0 31)) (amount (Temp 1)) ≡ Some false
+  pub point_shifts : plain_suspect types (ints_of (point (pos 3)) (point (pos 2))) shifted ≡ Some false
+  pub point_leaves : plain_suspect types (ints_of (point (pos 1)) (point (pos 31))) shifted ≡ Some true
+  pub many_shift : plain_suspect types (ints_of (to 1 2) (point (pos 2))) shifted ≡ Some true
   pub many_pass : result (ints_of (to 1 2) (point (pos 2))) shifted (Binary (binaries.Shift Left ints.Int) (Temp 0) (Temp 1)) ≡ Some (Some (to 0 2147483647))
-  pub assertion : plain_suspect (ints_of (to 0 1) nil) (of_zero kinds.AssertFailed (Temp 0)) ≡ Some true
+  pub assertion : plain_suspect types (ints_of (to 0 1) nil) (of_zero kinds.AssertFailed (Temp 0)) ≡ Some true
   pub assertion_cuts_nothing : passes (ints_of (to 0 1) nil) (of_zero kinds.AssertFailed (Temp 0)) ≡ Some (numbers (to 0 1) nil)
   pub assertion_never_holds : passes (ints_of nil nil) (of_zero kinds.AssertFailed (Temp 0)) ≡ Some nothing
   pub another_value_is_not_cut : result near_the_end (in_int kinds.Overflow sum) (op arithmetics.BitAnd) ≡ Some (Some all_ints)
