@@ -5,3 +5,5 @@ pub mod Valued
 pub mod Ranged
 pub mod Exacted
 pub mod Showed
+pub mod Checking
+pub mod ByKind

@@ -67,7 +67,7 @@ module _ (r : Range) (lo hi : Option ℤ) (low : IsModerate lo) (high : IsModera
   alone_in objects (End e) i = absurd i
 
   pub shows_number : ShowsNumber r (shows.Number lo hi (pos 1) (pos 0))
-  shows_number = record { holds = held; alone = alone_in; proper = proper_range lo hi low high; names = λ count. tt }
+  shows_number = record { holds = held; alone = alone_in; form = tt; proper = proper_range lo hi low high; names = λ count. tt }
 
 -- any pointer
 any_holds : (objects : List ObjectTree) (r : Range) (s : Spot) → IsSpotOf objects r s → IsSpotIn objects any_pointer s

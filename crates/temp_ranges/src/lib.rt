@@ -2,6 +2,7 @@
 //! `mem_api`'s trait in which no law is empty.
 #![tactic(auto)]
 
+mod checks;
 mod exacts;
 mod expressions;
 mod operators;
@@ -9,6 +10,7 @@ mod ranges;
 mod shows;
 mod types;
 
+pub use checks::{passes_one, passes_two, shown_one, shown_two};
 pub use exacts::exact_range;
 pub use expressions::value_range;
 pub use operators::{
