@@ -1,15 +1,22 @@
 -- Formed programs: seven things that each part of one has (this profile).
-use Rattle.std.specs.Prelude.{◌≡◌, ◌⊎◌, ℕ, suc, ◌<◌, ◌≤◌, ◌^◌, ◌==◌, List, [], ◌∷◌, ◌++◌, length, All, Contains, Option, Some, None, IfSome, IsSome, IsSomeAnd, IsTrue, if◌then◌else◌, slice_get, count_by}
+use Rattle.std.specs.Prelude.{◌≡◌, ◌⊎◌, ℕ, ℤ, pos, suc, ◌<◌, ◌≤◌, ◌^◌, ◌==◌, List, [], ◌∷◌, ◌++◌, length, All, Contains, Option, Some, None, IfSome, IsSome, IsSomeAnd, IsTrue, if◌then◌else◌, slice_get, count_by}
 use Rattle.std.specs.List.{flat_map}
 use Rattle.c_written.specs.declared.int_type.IntType.{IntType}
 use Rattle.c_written.specs.declared.int_type.IntType.TheVariants as ints
-use Rattle.c_written.specs.Integer.{HasNumber}
+use Rattle.c_written.specs.Integer.{HasNumber, is_signed, least, greatest}
+use Rattle.c_syntax.specs.declared.alarm.Check.{Check}
 use Rattle.c_syntax.specs.declared.alarm.WrongKind.{WrongKind}
 use Rattle.c_syntax.specs.declared.alarm.WrongKind.TheVariants as kinds
+use Rattle.c_syntax.specs.declared.operator.Arithmetic.{Arithmetic}
+use Rattle.c_syntax.specs.declared.operator.Arithmetic.TheVariants as arithmetics
+use Rattle.c_syntax.specs.declared.operator.Shift.TheVariants as shifts
+use Rattle.c_syntax.specs.declared.operator.TUnaryOp.TheVariants as unaries
+use Rattle.c_syntax.specs.declared.operator.TBinaryOp.TheVariants as binaries
 use Rattle.c_syntax.specs.declared.program.Initial.{Initial}
 use Rattle.c_syntax.specs.declared.program.InitByte.{InitByte}
 use Rattle.c_syntax.specs.declared.program.InitByte.TheVariants as bytes
 use Rattle.c_syntax.specs.Types.{ObjectTree}
+use Rattle.c_layout.specs.Checks.{range_check, amount_check, access_check, pair_check, plain_check}
 use Rattle.c_layout.specs.Tables.{IsTypedTable}
 use Rattle.c_layout.specs.WellTyped.{EachOf}
 use Rattle.block_mem.specs.declared.types.Scalar.{Scalar}
@@ -287,6 +294,36 @@ HasOperands q kinds.NullUse es = One (IsPointer q) es ⊎ Two (IsPointer q) es
 HasOperands q kinds.Dangling es = One (IsPointer q) es ⊎ Two (IsPointer q) es
 HasOperands q kind es = One (IsPointer q) es
 
+-- what is a signed operator's result is to be a number of the type (C11 6.5p5)
+abbrev pub signed_check : WrongKind → IntType → ℤ → Option Check
+signed_check kind t low = if is_signed t then Some (range_check kind low (pos (greatest t))) else None
+
+abbrev pub arithmetic_check : Arithmetic → IntType → Option Check
+arithmetic_check arithmetics.Multiply t = signed_check kinds.Overflow t (least t)
+arithmetic_check arithmetics.Divide t = signed_check kinds.Quotient t (least t)
+arithmetic_check arithmetics.Remainder t = signed_check kinds.Quotient t (least t)
+arithmetic_check arithmetics.Add t = signed_check kinds.Overflow t (least t)
+arithmetic_check arithmetics.Subtract t = signed_check kinds.Overflow t (least t)
+arithmetic_check op t = None
+
+-- the check of an operator's exact result (C11 6.5.5p6 for remainders, 6.5.7p4 for shifts); other operators have none
+abbrev pub result_check : CsExprTree → Option Check
+result_check (Unary (unaries.Minus t) e) = signed_check kinds.Overflow t (least t)
+result_check (Binary (binaries.Arithmetic op t) e f) = arithmetic_check op t
+result_check (Binary (binaries.Shift shifts.Left t) e f) = signed_check kinds.ShiftResult t (pos 0)
+result_check e = None
+
+-- the fields of a check, by its kind: the allowed numbers, the size and the alignment of an access, what a pair is to be
+abbrev pub FieldsAre : WrongKind → List CsExprTree → Check → Type 0
+FieldsAre kinds.Overflow es check = One (λ e. result_check e ≡ Some check) es
+FieldsAre kinds.Quotient es check = One (λ e. result_check e ≡ Some check) es
+FieldsAre kinds.ShiftResult es check = One (λ e. result_check e ≡ Some check) es
+FieldsAre kinds.ShiftAmount es check = (t : IntType) × (check ≡ amount_check t)
+FieldsAre kinds.Access es check = (size align : ℕ) × (1 ≤ align) × (check ≡ access_check kinds.Access size align)
+FieldsAre kinds.Alignment es check = (size align : ℕ) × (1 ≤ align) × (check ≡ access_check kinds.Alignment size align)
+FieldsAre kinds.Unrelated es check = (size : ℕ) × (check ≡ pair_check size)
+FieldsAre kind es check = check ≡ plain_check kind
+
 -- the checks of a load alone have its type
 abbrev pub HasLoadType : WrongKind → Option Scalar → Type 0
 HasLoadType kinds.Indeterminate ty = IsSome ty
@@ -294,7 +331,7 @@ HasLoadType kinds.Fragment ty = IsSome ty
 HasLoadType kind ty = ty ≡ None
 
 abbrev pub IsCheckFormed : CsProgramTree → CsStmtTree → Type 0
-IsCheckFormed q (Checked c) = HasOperands q c.check.kind c.operands × HasLoadType c.check.kind c.ty
+IsCheckFormed q (Checked c) = HasOperands q c.check.kind c.operands × HasLoadType c.check.kind c.ty × FieldsAre c.check.kind c.operands c.check
 IsCheckFormed q a = Unit {0}
 
 -- ---- calls and gotos

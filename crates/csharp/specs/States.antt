@@ -1,8 +1,13 @@
 -- States, the values of expressions, and the operands of checks (this profile).
-use Rattle.std.specs.Prelude.{ℤ, pos, List, [], ◌∷◌, map, Option, Some, None, option_and_then, if◌then◌else◌, slice_get}
+use Rattle.std.specs.Prelude.{ℤ, pos, Bool, true, not, ◌&&◌, List, [], ◌∷◌, map, Option, Some, None, option_and_then, if◌then◌else◌, slice_get}
+use Rattle.std.specs.Int.RustNames.{int_le, int_lt}
 use Rattle.std.specs.Ordering.{int_eq}
+use Rattle.c_written.specs.Integer.{width}
 use Rattle.c_syntax.specs.declared.alarm.WrongKind.{WrongKind}
 use Rattle.c_syntax.specs.declared.alarm.WrongKind.TheVariants as kinds
+use Rattle.c_syntax.specs.declared.operator.Arithmetic.TheVariants.{Divide, Remainder}
+use Rattle.c_syntax.specs.declared.operator.TBinaryOp.{TBinaryOp}
+use Rattle.c_syntax.specs.declared.operator.TBinaryOp.TheVariants as binaries
 use Rattle.c_syntax.specs.Operand.{Operand, End}
 use Rattle.c_syntax.specs.Operand as operands
 use Rattle.block_mem.specs.declared.types.Scalar.{Scalar}
@@ -33,14 +38,26 @@ first_value scalars.Pointer = values.Null
 abbrev pub first : CsProgramTree → List ℤ → State
 first q inputs = record { temps = map first_value q.temps; memory = statics.start q.objects q.initial; inputs = inputs }
 
--- the value of an expression: none where an object that it names does not live, or an operand is not of its operator's type
+-- the right operand is one that the operator takes: a divisor other than 0 (C11 6.5.5p5), an amount from 0 to below the width (C11 6.5.7p3)
+abbrev pub takes_right : TBinaryOp → Value → Bool
+takes_right (binaries.Arithmetic Divide t) (values.Int u n) = not (int_eq n (pos 0))
+takes_right (binaries.Arithmetic Remainder t) (values.Int u n) = not (int_eq n (pos 0))
+takes_right (binaries.Shift way t) (values.Int u n) = int_le (pos 0) n && int_lt n (pos (width t))
+takes_right op u = true
+
+-- what an operator gives on two values: by what it does not take there is neither a value nor an exact number
+abbrev pub if_taken : {A : Type 0} → TBinaryOp → (Value → Value → Option A) → Value → Value → Option A
+if_taken op act v u = if takes_right op u then act v u else None
+
+-- the value of an expression: none where an object that it names does not live, where an operand is not of its operator's type, and where a divisor is 0 or
+-- an amount is not below the width
 abbrev pub value_of : CsExprTree → State → Option Value
 value_of (Const t n) s = Some (values.Int t n)
 value_of Null s = Some values.Null
 value_of (Temp d) s = slice_get s.temps d
 value_of (Address x) s = address s.memory x 0
 value_of (Unary op e) s = option_and_then (unary_result op) (value_of e s)
-value_of (Binary op e f) s = option_and_then (λ v. option_and_then (binary_result op v) (value_of f s)) (value_of e s)
+value_of (Binary op e f) s = option_and_then (λ v. option_and_then (if_taken op (binary_result op) v) (value_of f s)) (value_of e s)
 value_of (Convert t e) s = option_and_then (converted_to (scalars.Int t)) (value_of e s)
 
 -- a value that both expressions have
@@ -50,7 +67,7 @@ on_both e f s act = option_and_then (λ v. option_and_then (act v) (value_of f s
 -- the exact number of the outermost operator, before it is wrapped
 abbrev pub exact_of : CsExprTree → State → Option Operand
 exact_of (Unary op e) s = option_and_then (λ v. unary_operand s.memory op v kinds.Overflow) (value_of e s)
-exact_of (Binary op e f) s = on_both e f s (exact_binary op)
+exact_of (Binary op e f) s = on_both e f s (if_taken op (exact_binary op))
 exact_of e s = None
 
 -- 1 where a call gave a value, and 0 where it gave none

@@ -33,7 +33,7 @@ use Rattle.c_values.specs.Operators.{number, exact_binary, unary_operand, pair_o
 use Rattle.c_values.specs.Accesses.{mark, test_operand}
 use Rattle.csharp.specs.Trees.{CsExprTree, CsProgramTree}
 use Rattle.csharp.specs.Trees as code
-use Rattle.csharp.specs.States.{State, value_of, on_both, exact_of, end_of, pointed, of_one, of_value, operand_of}
+use Rattle.csharp.specs.States.{State, takes_right, if_taken, value_of, on_both, exact_of, end_of, pointed, of_one, of_value, operand_of}
 use Rattle.csharp.specs.Formed.{HasOperands}
 use Rattle.mem_api.specs.Owned.{IsOwned, any_number, any_pointer, any_pointers, anything}
 
@@ -43,7 +43,7 @@ number_shown : (objects : List ObjectTree) (n : ℤ) → IsInShown objects (Numb
 number_shown objects n = ((tt, tt), (n, omega (arith, int_facts)))
 
 -- the operand is a number
-abbrev IsNumberOperand : Operand → Type 0
+abbrev pub IsNumberOperand : Operand → Type 0
 IsNumberOperand (Number n) = Unit {0}
 IsNumberOperand x = ⊥
 
@@ -54,7 +54,7 @@ shown_number objects (Points s t) h = absurd h
 shown_number objects (Mark k) h = absurd h
 shown_number objects (End e) h = absurd h
 
-number_of_value : (v : Value) (x : Operand) → number v ≡ Some x → IsNumberOperand x
+pub number_of_value : (v : Value) (x : Operand) → number v ≡ Some x → IsNumberOperand x
 number_of_value (values.Int t n) x h = let same : Number n ≡ x = cc in subst IsNumberOperand same tt
 number_of_value (values.Ptr p) x h = absurd (cc)
 number_of_value values.Null x h = absurd (cc)
@@ -86,17 +86,21 @@ number_of_binary (binaries.IntPlusPointer n) v u x h = absurd (cc)
 number_of_binary (binaries.PointerMinusInt n) v u x h = absurd (cc)
 number_of_binary (binaries.PointerMinusPointer n) v u x h = absurd (cc)
 
+number_of_taken : (taken : Bool) (op : TBinaryOp) (v u : Value) (x : Operand) → (if taken then exact_binary op v u else None) ≡ Some x → IsNumberOperand x
+number_of_taken true op v u x h = number_of_binary op v u x h
+number_of_taken false op v u x h = absurd (cc)
+
 -- what is said of whatever a look finds
-found : {A : Type 0} (P : A → Type 0) (look : Value → Option A) (o : Option Value) → ((v : Value) (x : A) → look v ≡ Some x → P x) → (x : A)
+pub found : {A : Type 0} (P : A → Type 0) (look : Value → Option A) (o : Option Value) → ((v : Value) (x : A) → look v ≡ Some x → P x) → (x : A)
     → option_and_then look o ≡ Some x → P x
 found P look None each x h = absurd (cc)
 found P look (Some v) each x h = each v x h
 
-exact_is_number : (e : CsExprTree) (s : State) (x : Operand) → exact_of e s ≡ Some x → IsNumberOperand x
+pub exact_is_number : (e : CsExprTree) (s : State) (x : Operand) → exact_of e s ≡ Some x → IsNumberOperand x
 exact_is_number (code.Unary op e) s x h =
     found IsNumberOperand (λ v. unary_operand s.memory op v kinds.Overflow) (value_of e s) (λ v y g. number_of_unary s.memory op v y g) x h
-exact_is_number (code.Binary op e f) s x h = found IsNumberOperand (λ v. option_and_then (exact_binary op v) (value_of f s)) (value_of e s)
-    (λ v y g. found IsNumberOperand (exact_binary op v) (value_of f s) (λ u z b. number_of_binary op v u z b) y g) x h
+exact_is_number (code.Binary op e f) s x h = found IsNumberOperand (λ v. option_and_then (if_taken op (exact_binary op) v) (value_of f s)) (value_of e s)
+    (λ v y g. found IsNumberOperand (if_taken op (exact_binary op) v) (value_of f s) (λ u z b. number_of_taken (takes_right op u) op v u z b) y g) x h
 exact_is_number (code.Const t n) s x h = absurd (cc)
 exact_is_number code.Null s x h = absurd (cc)
 exact_is_number (code.Temp d) s x h = absurd (cc)
@@ -145,7 +149,7 @@ module _ (objects : List ObjectTree) (m : ObjectMemory) (k : IsOwned (length obj
     by (inl h) = h
     by (inr h) = let dead : (block_at m.blocks b).live ≡ false = ap (λ (v : BlockView). v.live) (get_or_past m.blocks b no_block h) in absurd (cc)
 
-  owner_there : (b : ℕ) → (block_at m.blocks b).live ≡ true → owner_of m b < length objects
+  pub owner_there : (b : ℕ) → (block_at m.blocks b).live ≡ true → owner_of m b < length objects
   owner_there b live = All-get_or (λ x. x < length objects) m.owners b 0 (subst (λ n. b < n) (sym k.owned) (made b live)) k.among
 
   by_life : (p : pointers.Pointer) (live : Bool) → (block_at m.blocks p.block).live ≡ live → (s : Spot)

@@ -1,5 +1,5 @@
 -- When facts hold of a state, and what they name.
-use Rattle.std.specs.Prelude.{◌≡◌, ℕ, ℤ, ◌<◌, ◌++◌, List, All, Option, Some, IsSomeAnd, slice_get}
+use Rattle.std.specs.Prelude.{◌≡◌, ℕ, ℤ, ◌<◌, ◌++◌, List, All, Contains, Option, Some, IsSomeAnd, slice_get}
 use Rattle.c_syntax.specs.declared.alarm.Cell.{Cell}
 use Rattle.c_syntax.specs.declared.alarm.Fact.{Fact}
 use Rattle.c_syntax.specs.declared.alarm.Fact.TheVariants as facts
@@ -30,11 +30,14 @@ NamesFactObjects count (facts.PointsTo x set) = (x.object < count) × NamesBelow
 abbrev pub Adds : List Fact → List Fact → (Fact → Type 0) → Type 0
 Adds before after Is = (more : List Fact) × (after ≡ before ++ more) × All Is more
 
--- the number of a whole integer object
-pub record IsWhole (q : CsProgramTree) (m : ObjectMemory) (x : ℕ) (n : ℤ) : Type 0 where
-  pub ty : IntType
-  pub integer : IsSomeAnd (slice_get q.objects x) (λ object. object.ty ≡ Int ty)
-  pub number : IsCellNumber q.structs q.objects m (record { object = x; offset = 0; size = bytes ty }) n
+-- all bytes of an object
+abbrev pub whole_cell : ℕ → IntType → Cell
+whole_cell x ty = record { object = x; offset = 0; size = bytes ty }
 
-abbrev pub whole_cell : ℕ → ℕ → Cell
-whole_cell x size = record { object = x; offset = 0; size = size }
+abbrev pub IsInteger : CsProgramTree → ℕ → IntType → Type 0
+IsInteger q x ty = IsSomeAnd (slice_get q.objects x) (λ object. object.ty ≡ Int ty)
+
+-- of each integer object that lives and whose bytes are a number, that number is told
+abbrev pub TellsWhole : CsProgramTree → ObjectMemory → List Fact → Type 0
+TellsWhole q m told = (x : ℕ) (ty : IntType) (n : ℤ) → IsInteger q x ty → IsCellNumber q.structs q.objects m (whole_cell x ty) n
+    → Contains told (facts.Between (whole_cell x ty) n n)

@@ -22,7 +22,7 @@ ghost use Rattle.mem_api.specs.Given.{IsGiven, AreForOne};
 ghost use Rattle.mem_api.specs.Showing.{HasForm, IsAlone, looked_at};
 ghost use Rattle.mem_api.specs.Named.{Fixed, IsNamed, LooksAtPlace, fixed_at, ShowsOnly, ShowsOffset};
 ghost use Rattle.mem_api.specs.Likeness.{IsAlike};
-ghost use Rattle.mem_api.specs.FactsOf.{Adds, HoldsIn, NamesFactObjects};
+ghost use Rattle.mem_api.specs.FactsOf.{Adds, HoldsIn, NamesFactObjects, TellsWhole};
 ghost use Rattle.mem_api.specs.Abstract.{IsBelow};
 
 use block_mem::Scalar;
@@ -73,8 +73,8 @@ pub trait MemDomain: Sized + Drop {
         ensures is_for { (q : CsProgramTree) → Self.is_for self.old q → Self.is_for self.new q }
         ensures stands { OnOk result ((s t : State) → Self.stands self.old s → acts.set temp (csexpr_tree value.now) s ≡ Some t → Self.stands self.new t) }
         ensures sharp { OnOk result ((s t : State) → Self.sharp self.old s → acts.set temp (csexpr_tree value.now) s ≡ Some t → Self.sharp self.new t) }
-        ensures plain { OnOk result
-            ((p q : Plain) → Self.under self.old p → plains.plain_set p temp (csexpr_tree value.now) ≡ Some q → Self.under self.new q) };
+        ensures plain { OnOk result ((q : CsProgramTree) (p r : Plain) → Self.is_for self.old q → Self.under self.old p
+            → plains.plain_set q.temps p temp (csexpr_tree value.now) ≡ Some r → Self.under self.new r) };
 
     /// Puts what stands at an address into a temporary.
     fn load(&mut self, temp: u64, address: &CsExpr, ty: Scalar) -> Result<(), NoMemory>
@@ -95,8 +95,8 @@ pub trait MemDomain: Sized + Drop {
             → acts.store ty (csexpr_tree address.now) (csexpr_tree value.now) s ≡ Some t → Self.stands self.new t) }
         ensures sharp { OnOk result ((s t : State) → Self.sharp self.old s
             → acts.store ty (csexpr_tree address.now) (csexpr_tree value.now) s ≡ Some t → Self.sharp self.new t) }
-        ensures plain { OnOk result ((p q : Plain) → Self.under self.old p
-            → plains.plain_store p ty (csexpr_tree address.now) (csexpr_tree value.now) ≡ Some q → Self.under self.new q) };
+        ensures plain { OnOk result ((q : CsProgramTree) (p r : Plain) → Self.is_for self.old q → Self.under self.old p
+            → plains.plain_store q.temps p ty (csexpr_tree address.now) (csexpr_tree value.now) ≡ Some r → Self.under self.new r) };
 
     /// Copies so many bytes, as if all were read first.
     fn copy_bytes(&mut self, to: &CsExpr, from: &CsExpr, size: u64) -> Result<(), NoMemory>
@@ -154,8 +154,8 @@ pub trait MemDomain: Sized + Drop {
             → truth_of v ≡ truth → Self.sharp self.new s) }
         ensures dead { IfOk result (λ live. (s : State) (v : Value) → Self.sharp self.old s → value_of (csexpr_tree condition.now) s ≡ Some v
             → truth_of v ≢ truth → is_live live ≡ false) }
-        ensures plain { IfOk result (λ live. (p : Plain) (q : Option Plain) → Self.under self.old p
-            → plains.plain_test p (csexpr_tree condition.now) truth ≡ Some q → IsBelow Self.under (is_live live) self.new q) };
+        ensures plain { IfOk result (λ live. (q : CsProgramTree) (p : Plain) (r : Option Plain) → Self.is_for self.old q → Self.under self.old p
+            → plains.plain_test q.temps p (csexpr_tree condition.now) truth ≡ Some r → IsBelow Self.under (is_live live) self.new r) };
 
     /// What holds the operand of the check. Of an address in one named object it shows that object alone.
     fn show(&self, check: &CsCheck) -> Result<Shown, NoMemory>
@@ -168,7 +168,7 @@ pub trait MemDomain: Sized + Drop {
         ensures sharp { IfOk result (λ w. (q : CsProgramTree) (s : State) (x : Operand) → Self.is_for self.now q → Self.sharp self.now s
             → looked_at (cscheck_tree check.now) s ≡ Some x → IsAlone q.objects x w) }
         ensures plain { IfOk result (λ w. (q : CsProgramTree) (p : Plain) (x : Operand) → Self.is_for self.now q → Self.under self.now p
-            → plain_suspect p (cscheck_tree check.now) ≡ Some false → IsInShown q.objects x w → Fails q.objects check.now.check x → ⊥) }
+            → plain_suspect q.temps p (cscheck_tree check.now) ≡ Some false → IsInShown q.objects x w → Fails q.objects check.now.check x → ⊥) }
         ensures named { IfOk result (λ w. (q : CsProgramTree) (e : CsExprTree) (o c : ℕ) → IsTrue Self.exact → Self.is_for self.now q
             → LooksAtPlace check.now.check.kind → (cscheck_tree check.now).operands ≡ e ∷ [] → IsNamed o c e → ShowsOnly q.objects o c w) }
         ensures fixed { IfOk result (λ w. (e : CsExprTree) (f : Fixed) → IsTrue Self.exact → LooksAtPlace check.now.check.kind
@@ -184,8 +184,8 @@ pub trait MemDomain: Sized + Drop {
             → judge q.objects (look_of (cscheck_tree check.now) s ∷ []) ≡ Passes → Self.sharp self.new s) }
         ensures dead { IfOk result (λ live. (q : CsProgramTree) (s : State) (k : WrongKind) (x : Operand) → Self.is_for self.old q → Self.sharp self.old s
             → judge q.objects (look_of (cscheck_tree check.now) s ∷ []) ≡ FailsAs k x → is_live live ≡ false) }
-        ensures plain { IfOk result (λ live. (p : Plain) (q : Option Plain) → Self.under self.old p
-            → plain_pass p (cscheck_tree check.now) ≡ Some q → IsBelow Self.under (is_live live) self.new q) };
+        ensures plain { IfOk result (λ live. (q : CsProgramTree) (p : Plain) (r : Option Plain) → Self.is_for self.old q → Self.under self.old p
+            → plain_pass q.temps p (cscheck_tree check.now) ≡ Some r → IsBelow Self.under (is_live live) self.new r) };
 
     /// Has the states of either set.
     fn join(&mut self, other: &Self) -> Result<(), NoMemory>
@@ -215,10 +215,12 @@ pub trait MemDomain: Sized + Drop {
         requires { AreForOne (Self.is_for self.now) (Self.is_for other.now) }
         ensures { IfOk result (λ covered. IsTrue covered → (s : State) → Self.stands other.now s → Self.stands self.now s) };
 
-    /// Puts out what holds in every state of the set.
+    /// Puts out what holds in every state of the set. Of the one state of a sharp set it tells the number of
+    /// each integer object that is kept whole.
     fn facts(&self, out: &mut Facts) -> Result<(), NoMemory>
         ensures told { OnOk result ((q : CsProgramTree) → Self.is_for self.now q
-            → Adds out.old out.new (λ fact. NamesFactObjects (length q.objects) fact × ((s : State) → Self.stands self.now s → HoldsIn q s.memory fact))) };
+            → Adds out.old out.new (λ fact. NamesFactObjects (length q.objects) fact × ((s : State) → Self.stands self.now s → HoldsIn q s.memory fact))) }
+        ensures sharp { OnOk result ((q : CsProgramTree) (s : State) → Self.is_for self.now q → Self.sharp self.now s → TellsWhole q s.memory out.new) };
 
     /// A set has its one state.
     ghost sharp_stands: { (m : Self) (s : State) → sharp m s → stands m s };

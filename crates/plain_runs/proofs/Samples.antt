@@ -44,6 +44,26 @@ values = record {
   negation_or_not = refl;
   no_integer = refl;
   no_address = refl;
+  unsigned_product = refl;
+  unsigned_product_wraps = refl;
+  unsigned_quotient = refl;
+  unsigned_minus_wraps = refl;
+  sum_beyond = refl;
+  minus_of_the_least = refl;
+  quotient_to_zero = refl;
+  quotient_of_both_signs = refl;
+  remainder_of_negatives = refl;
+  remainder_by_negatives = refl;
+  or_of_many = refl;
+  exclusive_or_of_many = refl;
+  shift_left_of_many = refl;
+  conversion_of_negatives = refl;
+  greater_or_not = refl;
+  not_greater = refl;
+  not_at_most = refl;
+  at_least_or_not = refl;
+  not_equal = refl;
+  not_unequal = refl;
 }
 
 tests : TestsAre
@@ -67,6 +87,21 @@ tests = record {
   no_truth = refl;
   sum_below = refl;
   pointer = refl;
+  not_at_most = refl;
+  not_at_least = refl;
+  greater = refl;
+  not_greater = refl;
+  not_unequal = refl;
+  turned_at_most = refl;
+  turned_at_least = refl;
+  turned_equal = refl;
+  turned_unequal = refl;
+  unequal_to_many = refl;
+  both_equal = refl;
+  both_at_least = refl;
+  both_unequal = refl;
+  negated_twice = refl;
+  truth_cuts_nothing = refl;
 }
 
 checks : ChecksAre
@@ -95,6 +130,13 @@ checks = record {
   assertion_cuts_nothing = refl;
   assertion_never_holds = refl;
   another_value_is_not_cut = refl;
+  product_leaves = refl;
+  product_passes = refl;
+  minus_leaves = refl;
+  minus_passes = refl;
+  quotient_passes = refl;
+  amount_never_passes = refl;
+  assertion_holds = refl;
 }
 
 runs : RunsAre
@@ -108,6 +150,14 @@ runs = record {
   static_object_is_zero = refl;
   no_goto = refl;
   nothing_behind_a_false_assumption = refl;
+  one_branch_assigns = refl;
+  both_branches_assign = refl;
+  exits_are_joined = refl;
+  exits_beyond_the_bound = refl;
+  assumption_cuts = refl;
+  assertion_is_a_suspect = refl;
+  value_of_branches = refl;
+  value_of_one_branch = refl;
 }
 
 pub samples_are : SamplesAre

@@ -53,8 +53,8 @@ abbrev pub if_passed : Option Passed → CsExprTree → Option Span → Option S
 if_passed None e s = s
 if_passed (Some passed) e s = if is_same_expr passed.expr e then Some passed.numbers else s
 
-abbrev pub plain_set : Plain → ℕ → CsExprTree → Option Plain
-plain_set p d e = option_map (λ s. with_temp p d s (source_of p e)) (if_passed p.passed e (span_of p e))
+abbrev pub plain_set : List Scalar → Plain → ℕ → CsExprTree → Option Plain
+plain_set types p d e = option_map (λ s. with_temp p d s (source_of p e)) (if_passed p.passed e (span_of types p e))
 
 abbrev pub plain_input : Plain → ℕ → IntType → Option Plain
 plain_input p d t = Some (with_temp p d (type_span t) None)
@@ -77,9 +77,9 @@ plain_load p d ty e = None
 abbrev stored : Cell → Span → Cell
 stored cell s = record cell { numbers = converted cell.ty (Some s); may_be_undefined = false }
 
-abbrev pub plain_store : Plain → Scalar → CsExprTree → CsExprTree → Option Plain
-plain_store p ty (code.Address x) e = option_and_then (λ cell. option_map (λ s. with_object p x (Some (stored cell s))) (span_of p e)) (cell_at p ty x)
-plain_store p ty address e = None
+abbrev pub plain_store : List Scalar → Plain → Scalar → CsExprTree → CsExprTree → Option Plain
+plain_store types p ty (code.Address x) e = option_and_then (λ cell. option_map (λ s. with_object p x (Some (stored cell s))) (span_of types p e)) (cell_at p ty x)
+plain_store types p ty address e = None
 
 -- structs have no place in a plain run
 abbrev pub plain_copy : Plain → ℕ → CsExprTree → CsExprTree → Option Plain
@@ -164,5 +164,5 @@ behind_test p truth m =
     if excludes truth (value_span (given p) m) then None
     else Some (with_cuts p (temps_behind p (tested (given p) m truth)) (cut_temps (given p) m truth))
 
-abbrev pub plain_test : Plain → CsExprTree → Bool → Option (Option Plain)
-plain_test p e truth = option_map (behind_test p truth) (number_expr p.types e)
+abbrev pub plain_test : List Scalar → Plain → CsExprTree → Bool → Option (Option Plain)
+plain_test types p e truth = option_map (behind_test p truth) (number_expr types e)

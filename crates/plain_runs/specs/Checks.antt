@@ -25,8 +25,8 @@ of_one (e ∷ []) look = look e
 of_one es look = None
 
 -- the exact results of the outermost operator: of a shift to the left only where both operands are points
-abbrev pub exact_of : Plain → CsExprTree → Option (Option Span)
-exact_of p e = option_map (exact_span (given p)) (number_expr p.types e)
+abbrev pub exact_of : List Scalar → Plain → CsExprTree → Option (Option Span)
+exact_of types p e = option_map (exact_span (given p)) (number_expr types e)
 
 -- a remainder is checked by the quotient of its operands
 abbrev pub quotient_of : CsExprTree → CsExprTree
@@ -62,24 +62,24 @@ abbrev pub never : Cell → Bool
 never cell = false
 
 -- whether a check of this kind may fail
-abbrev pub suspect_of : Plain → CsCheckTree → WrongKind → Option Bool
-suspect_of p c kinds.Overflow = option_map (may_leave c.check) (of_one c.operands (exact_of p))
-suspect_of p c kinds.DivideByZero = option_map holds_zero (of_one c.operands (span_of p))
-suspect_of p c kinds.Quotient = option_map (may_leave c.check) (of_one c.operands (λ e. exact_of p (quotient_of e)))
-suspect_of p c kinds.ShiftAmount = option_map (λ s. not (is_inside c.check s)) (of_one c.operands (span_of p))
-suspect_of p c kinds.ShiftResult = option_map (may_leave c.check) (of_one c.operands (exact_of p))
-suspect_of p c kinds.Indeterminate = option_map Cell.may_be_undefined (of_one c.operands (loaded_cell p c.ty))
-suspect_of p c kinds.Fragment = option_map never (of_one c.operands (loaded_cell p c.ty))
-suspect_of p c kinds.NullUse = option_map never (of_one c.operands (named_cell p))
-suspect_of p c kinds.Dangling = option_map never (of_one c.operands (named_cell p))
-suspect_of p c kinds.Access = option_map never (option_and_then (fits_size c.check) (of_one c.operands (named_cell p)))
-suspect_of p c kinds.Alignment = option_map never (option_and_then (fits_size c.check) (of_one c.operands (named_cell p)))
-suspect_of p c kinds.ReadOnly = option_map Cell.read_only (of_one c.operands (named_cell p))
-suspect_of p c kinds.AssertFailed = option_map holds_zero (of_one c.operands (span_of p))
-suspect_of p c kind = None
+abbrev pub suspect_of : List Scalar → Plain → CsCheckTree → WrongKind → Option Bool
+suspect_of types p c kinds.Overflow = option_map (may_leave c.check) (of_one c.operands (exact_of types p))
+suspect_of types p c kinds.DivideByZero = option_map holds_zero (of_one c.operands (span_of types p))
+suspect_of types p c kinds.Quotient = option_map (may_leave c.check) (of_one c.operands (λ e. exact_of types p (quotient_of e)))
+suspect_of types p c kinds.ShiftAmount = option_map (λ s. not (is_inside c.check s)) (of_one c.operands (span_of types p))
+suspect_of types p c kinds.ShiftResult = option_map (may_leave c.check) (of_one c.operands (exact_of types p))
+suspect_of types p c kinds.Indeterminate = option_map Cell.may_be_undefined (of_one c.operands (loaded_cell p c.ty))
+suspect_of types p c kinds.Fragment = option_map never (of_one c.operands (loaded_cell p c.ty))
+suspect_of types p c kinds.NullUse = option_map never (of_one c.operands (named_cell p))
+suspect_of types p c kinds.Dangling = option_map never (of_one c.operands (named_cell p))
+suspect_of types p c kinds.Access = option_map never (option_and_then (fits_size c.check) (of_one c.operands (named_cell p)))
+suspect_of types p c kinds.Alignment = option_map never (option_and_then (fits_size c.check) (of_one c.operands (named_cell p)))
+suspect_of types p c kinds.ReadOnly = option_map Cell.read_only (of_one c.operands (named_cell p))
+suspect_of types p c kinds.AssertFailed = option_map holds_zero (of_one c.operands (span_of types p))
+suspect_of types p c kind = None
 
-abbrev pub plain_suspect : Plain → CsCheckTree → Option Bool
-plain_suspect p c = suspect_of p c c.check.kind
+abbrev pub plain_suspect : List Scalar → Plain → CsCheckTree → Option Bool
+plain_suspect types p c = suspect_of types p c c.check.kind
 
 -- ---- what passes
 
@@ -99,13 +99,13 @@ passing check (Some s) = within s (allowed check)
 abbrev pub with_passed : Plain → CsExprTree → Span → Option Plain
 with_passed p e s = if_some s (record p { passed = Some (record { expr = e; numbers = s }) })
 
-abbrev pub pass_result : Plain → Check → CsExprTree → Option (Option Plain)
-pass_result p check e = option_map (λ s. with_passed p e (passing check s)) (exact_of p e)
+abbrev pub pass_result : List Scalar → Plain → Check → CsExprTree → Option (Option Plain)
+pass_result types p check e = option_map (λ s. with_passed p e (passing check s)) (exact_of types p e)
 
 -- a remainder is not cut by the quotient
-abbrev pub pass_quotient : Plain → Check → CsExprTree → Option (Option Plain)
-pass_quotient p check (Binary (binaries.Arithmetic Remainder t) a b) = Some (Some (record p { passed = None }))
-pass_quotient p check e = pass_result p check e
+abbrev pub pass_quotient : List Scalar → Plain → Check → CsExprTree → Option (Option Plain)
+pass_quotient types p check (Binary (binaries.Arithmetic Remainder t) a b) = Some (Some (record p { passed = None }))
+pass_quotient types p check e = pass_result types p check e
 
 -- an operand that was cut stands in a temporary; any other may only stay as it was
 abbrev pub with_operand : Plain → CsExprTree → Span → Span → Option Plain
@@ -115,22 +115,22 @@ with_operand p e before after = if int_eq before.lo after.lo && int_eq before.hi
 abbrev if_reached : {A : Type 0} → Span → Option A → Option (Option A)
 if_reached s q = if int_le s.lo s.hi then option_map Some q else Some None
 
-abbrev pub pass_operand : Plain → CsExprTree → (Span → Span) → Option (Option Plain)
-pass_operand p e cut = option_and_then (λ s. if_reached (cut s) (with_operand p e s (cut s))) (span_of p e)
+abbrev pub pass_operand : List Scalar → Plain → CsExprTree → (Span → Span) → Option (Option Plain)
+pass_operand types p e cut = option_and_then (λ s. if_reached (cut s) (with_operand p e s (cut s))) (span_of types p e)
 
 -- an assertion cuts nothing; it leads nowhere where it never holds
-abbrev pub pass_assertion : Plain → CsExprTree → Option (Option Plain)
-pass_assertion p e = option_map (λ s. if_some (without (pos 0) s) (record p { passed = None })) (span_of p e)
+abbrev pub pass_assertion : List Scalar → Plain → CsExprTree → Option (Option Plain)
+pass_assertion types p e = option_map (λ s. if_some (without (pos 0) s) (record p { passed = None })) (span_of types p e)
 
-abbrev pub passes_by : Plain → CsCheckTree → WrongKind → Option (Option Plain)
-passes_by p c kinds.Overflow = of_one c.operands (pass_result p c.check)
-passes_by p c kinds.DivideByZero = of_one c.operands (λ e. pass_operand p e (without (pos 0)))
-passes_by p c kinds.Quotient = of_one c.operands (pass_quotient p c.check)
-passes_by p c kinds.ShiftAmount = of_one c.operands (λ e. pass_operand p e (λ s. within s (allowed c.check)))
-passes_by p c kinds.ShiftResult = of_one c.operands (pass_result p c.check)
-passes_by p c kinds.AssertFailed = of_one c.operands (pass_assertion p)
-passes_by p c kind = option_map (λ suspect. Some (record p { passed = None })) (suspect_of p c kind)
+abbrev pub passes_by : List Scalar → Plain → CsCheckTree → WrongKind → Option (Option Plain)
+passes_by types p c kinds.Overflow = of_one c.operands (pass_result types p c.check)
+passes_by types p c kinds.DivideByZero = of_one c.operands (λ e. pass_operand types p e (without (pos 0)))
+passes_by types p c kinds.Quotient = of_one c.operands (pass_quotient types p c.check)
+passes_by types p c kinds.ShiftAmount = of_one c.operands (λ e. pass_operand types p e (λ s. within s (allowed c.check)))
+passes_by types p c kinds.ShiftResult = of_one c.operands (pass_result types p c.check)
+passes_by types p c kinds.AssertFailed = of_one c.operands (pass_assertion types p)
+passes_by types p c kind = option_map (λ suspect. Some (record p { passed = None })) (suspect_of types p c kind)
 
 -- the state behind a check that has passed
-abbrev pub plain_pass : Plain → CsCheckTree → Option (Option Plain)
-plain_pass p c = passes_by p c c.check.kind
+abbrev pub plain_pass : List Scalar → Plain → CsCheckTree → Option (Option Plain)
+plain_pass types p c = passes_by types p c c.check.kind

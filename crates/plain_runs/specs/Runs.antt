@@ -2,7 +2,6 @@
 use Rattle.std.specs.Prelude.{ℕ, zero, suc, ◌==◌, Bool, true, false, ◌&&◌, if◌then◌else◌, List, [], ◌∷◌, ◌++◌, Option, Some, None, is_none, option_map, slice_get}
 use Rattle.c_written.specs.declared.place.Pos.{Pos}
 use Rattle.c_syntax.specs.declared.alarm.WrongKind.{WrongKind}
-use Rattle.c_syntax.specs.Types.{ObjectTree}
 use Rattle.csharp.specs.Trees.{CsStmtTree, Nothing, Set, Load, Store, CopyBytes, Undefine, Checked, Input, Assume, Sequence, If, Loop, Block, Exit, Scope}
 use Rattle.csharp.specs.Trees.{Switch, Goto, Call, Return, Label, Case, Default, CsStmtTrees, none, more, CsCheckTree, CsProgramTree}
 use Rattle.plain_runs.specs.States.{Plain, plain_first, hull_some}
@@ -120,37 +119,37 @@ turns (suc k) turn p = then_run (turn p) (turns k turn)
 -- ---- the run
 
 abbrev mutual
-  pub plain : ℕ → List ObjectTree → CsStmtTree → Plain → Ran
-  plain bound objects Nothing p = goes p
-  plain bound objects (Set d e) p = or_gone (plain_set p d e)
-  plain bound objects (Load d ty e) p = or_gone (plain_load p d ty e)
-  plain bound objects (Store ty e f) p = or_gone (plain_store p ty e f)
-  plain bound objects (CopyBytes n to from) p = or_gone (plain_copy p n to from)
-  plain bound objects (Undefine x) p = or_gone (plain_undefine p x)
-  plain bound objects (Checked c) p = listed (plain_suspect p c) c (tested (plain_pass p c) goes)
-  plain bound objects (Input d t) p = or_gone (plain_input p d t)
-  plain bound objects (Assume e) p = tested (plain_test p e true) goes
-  plain bound objects (Sequence a b) p = then_run (plain bound objects a p) (plain bound objects b)
-  plain bound objects (If e a b) p = either (tested (plain_test p e true) (plain bound objects a)) (tested (plain_test p e false) (plain bound objects b))
-  plain bound objects (Loop at a) p = turns bound (plain bound objects a) p
-  plain bound objects (Block a) p = out_of_block (plain bound objects a p)
-  plain bound objects (Exit k) p = leaves (ByExit k) p
-  plain bound objects (Scope xs all) p = within_scope xs (plain_enter objects xs p) (plain_items bound objects all)
-  plain bound objects (Switch e xs all) p = gone
-  plain bound objects (Goto label) p = gone
-  plain bound objects (Call c) p = gone
-  plain bound objects (Return e) p = leaves ByReturn p
-  plain bound objects (Label at l) p = goes p
-  plain bound objects (Case n) p = goes p
-  plain bound objects Default p = goes p
+  pub plain : ℕ → CsProgramTree → CsStmtTree → Plain → Ran
+  plain bound q Nothing p = goes p
+  plain bound q (Set d e) p = or_gone (plain_set q.temps p d e)
+  plain bound q (Load d ty e) p = or_gone (plain_load p d ty e)
+  plain bound q (Store ty e f) p = or_gone (plain_store q.temps p ty e f)
+  plain bound q (CopyBytes n to from) p = or_gone (plain_copy p n to from)
+  plain bound q (Undefine x) p = or_gone (plain_undefine p x)
+  plain bound q (Checked c) p = listed (plain_suspect q.temps p c) c (tested (plain_pass q.temps p c) goes)
+  plain bound q (Input d t) p = or_gone (plain_input p d t)
+  plain bound q (Assume e) p = tested (plain_test q.temps p e true) goes
+  plain bound q (Sequence a b) p = then_run (plain bound q a p) (plain bound q b)
+  plain bound q (If e a b) p = either (tested (plain_test q.temps p e true) (plain bound q a)) (tested (plain_test q.temps p e false) (plain bound q b))
+  plain bound q (Loop at a) p = turns bound (plain bound q a) p
+  plain bound q (Block a) p = out_of_block (plain bound q a p)
+  plain bound q (Exit k) p = leaves (ByExit k) p
+  plain bound q (Scope xs all) p = within_scope xs (plain_enter q.objects xs p) (plain_items bound q all)
+  plain bound q (Switch e xs all) p = gone
+  plain bound q (Goto label) p = gone
+  plain bound q (Call c) p = gone
+  plain bound q (Return e) p = leaves ByReturn p
+  plain bound q (Label at l) p = goes p
+  plain bound q (Case n) p = goes p
+  plain bound q Default p = goes p
 
-  pub plain_items : ℕ → List ObjectTree → CsStmtTrees → Plain → Ran
-  plain_items bound objects none p = goes p
-  plain_items bound objects (more item rest) p = then_run (plain bound objects item p) (plain_items bound objects rest)
+  pub plain_items : ℕ → CsProgramTree → CsStmtTrees → Plain → Ran
+  plain_items bound q none p = goes p
+  plain_items bound q (more item rest) p = then_run (plain bound q item p) (plain_items bound q rest)
 
 -- the plain run of main, whose loops come back to their start at most so many times
 abbrev pub plain_run : ℕ → CsProgramTree → Ran
 plain_run bound q = run_of (slice_get q.functions q.main) where
   run_of : Option Rattle.csharp.specs.Trees.CsFunctionTree → Ran
   run_of None = gone
-  run_of (Some f) = plain bound q.objects f.body (plain_first q)
+  run_of (Some f) = plain bound q f.body (plain_first q)

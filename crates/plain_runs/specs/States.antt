@@ -28,21 +28,20 @@ pub record Passed : Type 0 where
   pub expr : CsExprTree
   pub numbers : Span
 
--- the types of the temporaries; their numbers; the objects of which they are copies; the objects that live; and a result that was checked just now
+-- the numbers of the temporaries; the objects of which they are copies; the objects that live; and a result that was checked just now
 pub record Plain : Type 0 where
-  pub types : List Scalar
   pub temps : ℕ → Span
   pub copies : ℕ → Option ℕ
   pub objects : ℕ → Option Cell
   pub passed : Option Passed
 
--- ---- the numbers of an expression
+-- ---- the numbers of an expression, by the types of the temporaries
 
 abbrev pub given : Plain → ℕ → Range
 given p d = range_of (p.temps d)
 
-abbrev pub span_of : Plain → CsExprTree → Option Span
-span_of p e = option_map (value_span (given p)) (number_expr p.types e)
+abbrev pub span_of : List Scalar → Plain → CsExprTree → Option Span
+span_of types p e = option_map (value_span (given p)) (number_expr types e)
 
 -- ---- the first state
 
@@ -58,7 +57,6 @@ cell_at_start s x object ty = None
 -- static objects have their initial values, and all temporaries are 0
 abbrev pub plain_first : CsProgramTree → Plain
 plain_first q = record {
-  types = q.temps;
   temps = λ d. point (pos 0);
   copies = λ d. None;
   objects = λ x. option_and_then (λ object. cell_at_start (states.first q []) x object object.ty) (slice_get q.objects x);
@@ -87,7 +85,6 @@ agreed (Some x) (Some y) = if x == y then Some x else None
 
 abbrev pub hull : Plain → Plain → Plain
 hull p q = record {
-  types = p.types;
   temps = λ d. hull_span (p.temps d) (q.temps d);
   copies = λ d. agreed (p.copies d) (q.copies d);
   objects = λ x. on_both_sides hull_cell (p.objects x) (q.objects x);

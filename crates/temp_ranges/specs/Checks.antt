@@ -1,0 +1,46 @@
+-- What is asked of ranges of exact results, and of what is shown of ranges.
+use Rattle.std.specs.Prelude.{◌≡◌, ℤ, List, Some}
+use Rattle.std.specs.Int.RustNames.{FitsSigned}
+use mir.Syntax.{w128}
+use Rattle.c_syntax.specs.declared.alarm.WrongKind.TheVariants.{Overflow}
+use Rattle.c_syntax.specs.declared.alarm.Check.{Check}
+use Rattle.c_syntax.specs.declared.alarm.Pointers.{Pointers}
+use Rattle.c_syntax.specs.declared.alarm.Spot.{Spot}
+use Rattle.c_syntax.specs.declared.alarm.Spot.TheVariants as spots
+use Rattle.c_syntax.specs.declared.operator.TUnaryOp.{TUnaryOp}
+use Rattle.c_syntax.specs.declared.operator.TBinaryOp.{TBinaryOp}
+use Rattle.c_syntax.specs.Types.{ObjectTree}
+use Rattle.c_syntax.specs.Operand.{Number}
+use Rattle.c_syntax.specs.Admission.{IsModerate, IsSpotIn, IsProperSet}
+use Rattle.block_mem.specs.declared.types.Value.{Value}
+use Rattle.c_values.specs.Places.{ObjectMemory}
+use Rattle.c_values.specs.Operators.{exact_binary, unary_operand}
+use Rattle.num_api.specs.declared.message.Range.{Range}
+use Rattle.num_api.specs.Ranges.{InRange, IsPoint}
+use Rattle.csharp.specs.Trees.{CsExprTree, Unary, Binary, CsProgramTree}
+use Rattle.csharp.specs.Formed.{AreOperandsTyped, result_check}
+use Rattle.csharp.specs.States.{State, exact_of, if_taken}
+use Rattle.temp_ranges.specs.Values.{number_of}
+use Rattle.temp_ranges.specs.Operators.{UnaryFits, BinaryFits}
+use Rattle.temp_ranges.specs.Ranges.{AreIn, AreAll, AreInside}
+
+-- a number that may be shown alone
+abbrev pub IsSmall : ℤ → Type 0
+IsSmall n = IsModerate (Some n)
+
+-- the exact results of an operator whose operands are in the ranges; where it has a check of its result, that of points is a point
+pub record IsExact (op : TBinaryOp) (r s found : Range) : Type 0 where
+  pub holds : (v u : Value) (n : ℤ) → InRange r (number_of v) → InRange s (number_of u) → if_taken op (exact_binary op) v u ≡ Some (Number n) → InRange found n
+  pub point : (a b : CsExprTree) (check : Check) → result_check (Binary op a b) ≡ Some check → BinaryFits op r s → (v u : Value) (n : ℤ)
+      → IsPoint r (number_of v) → IsPoint s (number_of u) → if_taken op (exact_binary op) v u ≡ Some (Number n) → IsPoint found n × IsSmall n
+
+pub record IsExactUnary (op : TUnaryOp) (r found : Range) : Type 0 where
+  pub holds : (m : ObjectMemory) (v : Value) (n : ℤ) → InRange r (number_of v) → unary_operand m op v Overflow ≡ Some (Number n) → InRange found n
+  pub point : (a : CsExprTree) (check : Check) → result_check (Unary op a) ≡ Some check → UnaryFits op r → (m : ObjectMemory) (v : Value) (n : ℤ)
+      → IsPoint r (number_of v) → unary_operand m op v Overflow ≡ Some (Number n) → IsPoint found n × IsSmall n
+
+-- the same of an expression's outermost operator
+pub record IsExactOf (ranges : List Range) (e : CsExprTree) (found : Range) : Type 0 where
+  pub holds : (s : State) (n : ℤ) → AreIn ranges s → exact_of e s ≡ Some (Number n) → InRange found n
+  pub point : (q : CsProgramTree) (check : Check) (s : State) (n : ℤ) → AreOperandsTyped q e → result_check e ≡ Some check → AreInside q.temps ranges
+      → AreAll ranges s → exact_of e s ≡ Some (Number n) → IsPoint found n × IsSmall n

@@ -1,0 +1,7 @@
+pub mod Values
+pub mod Operators
+pub mod Ranges
+pub mod Exprs
+pub mod Checks
+pub mod Shows
+pub mod Sets

@@ -1,0 +1,102 @@
+// What is shown of ranges.
+
+ghost use Rattle.std.specs.Prelude.{◌≡◌, ℤ, Some, IfSome, ◌≤ℤ◌};
+ghost use Rattle.c_syntax.specs.Admission.{IsModerate};
+ghost use Rattle.ext_int.specs.Ext.{Below, Above};
+ghost use Rattle.ext_int.specs.declared.Ext.TheVariants.{Fin};
+ghost use Rattle.temp_ranges.specs.Checks.{IsSmall};
+ghost use Rattle.mem_api.specs.Owned.{any_pointer as all_pointers};
+ghost use Rattle.temp_ranges.specs.Shows.{ShowsNumber, ShowsEnd, IsSetOf, only_null};
+
+use crate::operators::is_zero;
+use c_syntax::{Numbers, Pointers, Shown};
+use env_eval::may_be;
+use ext_int::Ext;
+use num_api::Range;
+use std::alloc::Global;
+
+// The greatest size of an end that may be shown.
+const GREATEST: i128 = 0x4000_0000_0000_0000_0000_0000_0000_0000;
+
+// An end, where it may be shown.
+fn shown_end(end: Ext) -> Option<i128>
+    ensures moderate { IsModerate result }
+    ensures kept { (n : ℤ) → end ≡ Fin n → IsSmall n → result ≡ Some n }
+    ensures below { (n : ℤ) → Below end n → IfSome result (λ low. low ≤ℤ n) }
+    ensures above { (n : ℤ) → Above end n → IfSome result (λ high. n ≤ℤ high) }
+{
+    match end {
+        Ext::Fin(n) => {
+            if -GREATEST <= n && n <= GREATEST {
+                Some(n)
+            } else {
+                None
+            }
+        }
+        Ext::Low | Ext::High => None,
+    }
+}
+
+/// The numbers of a range.
+pub fn shown_number(r: Range) -> Shown
+    ensures { ShowsNumber r result }
+{
+    Shown::Number {
+        lo: shown_end(r.lo),
+        hi: shown_end(r.hi),
+        modulus: 1,
+        rem: 0,
+    }
+}
+
+/// The ends of calls that the numbers of a range tell.
+pub fn shown_ends(r: Range) -> Shown
+    ensures { ShowsEnd r result }
+{
+    Shown::Ends {
+        value: may_be(r, true),
+        none: may_be(r, false),
+    }
+}
+
+// The null pointer alone.
+fn null_alone(alloc: Global) -> Pointers
+    ensures { result ≡ only_null }
+{
+    Pointers {
+        any: false,
+        null: true,
+        dead: false,
+        names: Numbers::new(alloc),
+        lo: None,
+        hi: None,
+        modulus: 1,
+        rem: 0,
+    }
+}
+
+// All pointers.
+fn any_pointer(alloc: Global) -> Pointers
+    ensures { result ≡ all_pointers }
+{
+    Pointers {
+        any: true,
+        null: true,
+        dead: true,
+        names: Numbers::new(alloc),
+        lo: None,
+        hi: None,
+        modulus: 1,
+        rem: 0,
+    }
+}
+
+/// The pointers whose number is in a range.
+pub fn shown_set(alloc: Global, r: Range) -> Pointers
+    ensures { IsSetOf r result }
+{
+    if is_zero(r) {
+        return null_alone(alloc);
+    }
+    any_pointer(alloc)
+}
