@@ -7,8 +7,9 @@ use Rattle.c_syntax.specs.Types.{ObjectTree}
 use Rattle.block_mem.specs.declared.types.Scalar.{Scalar}
 use Rattle.block_mem.specs.declared.types.Value.{Value}
 use Rattle.block_mem.specs.declared.types.Value.TheVariants as values
+use Rattle.block_mem.specs.Blocks as blocks
 use Rattle.c_values.specs.Places.{ObjectMemory, place_of}
-use Rattle.c_values.specs.Accesses.{loaded_value}
+use Rattle.c_values.specs.Accesses.{ok_of}
 use Rattle.c_objects.specs.Opening.{open_all, shut_all, undefined}
 use Rattle.c_objects.specs.Writing.{stored_at, copied_at}
 use Rattle.csharp.specs.Trees.{CsExprTree, CsCallTree}
@@ -24,9 +25,14 @@ with_memory s m = option_map (λ memory. record s { memory = memory }) m
 abbrev pub set : ℕ → CsExprTree → State → Option State
 set d e s = option_map (put s d) (value_of e s)
 
--- bytes that have no value of the type give none
+-- the value of a type that memory gives at a place
+abbrev pub loaded_at : ObjectMemory → Scalar → Value → Option Value
+loaded_at m ty (values.Ptr p) = ok_of (blocks.load m.blocks p ty)
+loaded_at m ty v = None
+
+-- what memory refuses gives none
 abbrev pub load : ℕ → Scalar → CsExprTree → State → Option State
-load d ty e s = option_map (put s d) (option_and_then (loaded_value s.memory (Some ty)) (value_of e s))
+load d ty e s = option_map (put s d) (option_and_then (loaded_at s.memory ty) (value_of e s))
 
 -- what memory refuses for another reason than the read-only mark gives none
 abbrev pub store : Scalar → CsExprTree → CsExprTree → State → Option State

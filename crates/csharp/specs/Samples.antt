@@ -219,6 +219,15 @@ ComesTo body o = run (only body) 9 [] ≡ o
 abbrev left_by_exit : CsStmtTree
 left_by_exit = Sequence (Block (Scope (0 ∷ []) (more (Exit 0) none))) (Undefine 0)
 
+-- bytes of an object that are no load's: they lie outside, or at no multiple of the alignment, or the object has ended
+abbrev ended_load : CsStmtTree
+ended_load = Sequence
+    (Scope (0 ∷ []) (more (Store (scalars.Int ints.UChar) (Address 0) (Const ints.UChar (pos 7))) (more (Set 3 (Address 0)) none)))
+    (Load 0 (scalars.Int ints.UChar) (Temp 3))
+
+abbrev filled : CsStmtTree → CsStmtTree
+filled a = Sequence (Store (scalars.Int ints.Int) (Address 1) (number 7)) a
+
 -- two turns are begun again, and the third is too much
 abbrev endless : CsStmtTree
 endless = Loop (at 1) Nothing
@@ -229,6 +238,9 @@ pub record Others : Type 0 where
   pub no_temporary : ComesTo (Set 0 (Temp 9)) Stuck
   pub no_address : ComesTo (Load 0 (scalars.Int ints.Int) Null) Stuck
   pub no_value : ComesTo (Load 0 (scalars.Int ints.Int) (Address 1)) Stuck
+  pub no_bytes : ComesTo (filled (Load 0 (scalars.Int ints.UChar) (moved (Address 1) 4))) Stuck
+  pub no_multiple : ComesTo (filled (Load 0 (scalars.Int ints.UShort) (moved (Address 1) 1))) Stuck
+  pub no_life : ComesTo ended_load Stuck
   pub no_room : ComesTo (Store (scalars.Int ints.Int) (moved (Address 1) 4) (number 7)) Stuck
   pub no_object : ComesTo (Undefine 0) Stuck
   pub ended : ComesTo left_by_exit Stuck

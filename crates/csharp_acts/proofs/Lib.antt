@@ -1,0 +1,5 @@
+mod Exactly
+mod Belonging
+mod Standing
+mod Begun
+mod Arguments

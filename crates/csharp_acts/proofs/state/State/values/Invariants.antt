@@ -1,0 +1,11 @@
+use Rattle.std.proofs.Common.{◌≡◌, ◌++◌, drop, map, List}
+use Rattle.std.specs.Prelude.{option_map}
+use Rattle.block_mem.specs.declared.types.Value.{Value}
+use Rattle.csharp.specs.Trees.{csexpr_tree}
+use Rattle.csharp_acts.specs.Passing.{values_of}
+use Rattle.csharp_acts.proofs.state.State.values.Given as goal
+
+abbrev pub invariant-loop-expr : goal.invariant-loop-expr
+invariant-loop-expr l =
+    option_map (λ (vs : List Value). l.values.items ++ vs) (values_of (map csexpr_tree (drop l.expr-index l.exprs)) l.self)
+    ≡ values_of (map csexpr_tree l.exprs) l.self

@@ -1,0 +1,4 @@
+pub mod Answers
+pub mod Belongs
+pub mod Reading
+pub mod Passing

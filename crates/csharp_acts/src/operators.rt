@@ -1,0 +1,137 @@
+// What operators give, with no check before them.
+ghost use Rattle.std.specs.Prelude.{◌≡◌, IfOk};
+ghost use Rattle.c_values.specs.Operators as operators;
+ghost use Rattle.c_values.specs.Operators.{elements};
+ghost use Rattle.c_values.specs.Typed.{TakesNumbers};
+
+use crate::error::Unanswered;
+use crate::numbers::{arithmetic_value, complement_of, held, negated, shift_value};
+use block_mem::{Pointer, Value};
+use c_layout::wrap;
+use c_syntax::{Comparison, IntType, TBinaryOp, TUnaryOp};
+use c_values::{bit, compare_pointers, compares, difference, truth};
+
+/// What an operator gives on a value; none where the value is not of its type.
+pub fn unary_value(op: TUnaryOp, v: Value) -> Result<Option<Value>, Unanswered>
+    ensures { IfOk result (λ u. u ≡ operators.unary_result op v) }
+{
+    match v {
+        Value::Int(_, n) => match op {
+            TUnaryOp::Not => Ok(Some(bit(!truth(v)))),
+            TUnaryOp::Plus(t) => Ok(Some(Value::Int(t, n))),
+            TUnaryOp::Minus(t) => Ok(Some(Value::Int(t, wrap(t, negated(n)?)))),
+            TUnaryOp::Complement(t) => Ok(Some(Value::Int(t, complement_of(t, n)?))),
+        },
+        Value::Ptr(_) | Value::Null => match op {
+            TUnaryOp::Not => Ok(Some(bit(!truth(v)))),
+            TUnaryOp::Plus(_) | TUnaryOp::Minus(_) | TUnaryOp::Complement(_) => Ok(None),
+        },
+    }
+}
+
+/// What an operator gives on two values; none where one of them is not of its type.
+pub fn binary_value(op: TBinaryOp, left: Value, right: Value) -> Result<Option<Value>, Unanswered>
+    ensures { IfOk result (λ v. v ≡ operators.binary_result op left right) }
+{
+    match op {
+        TBinaryOp::ComparePointers(comparison) => Ok(pointers_compared(comparison, left, right)),
+        TBinaryOp::PointerPlusInt { element } => moved_on(left, element, right),
+        TBinaryOp::IntPlusPointer { element } => moved_on(right, element, left),
+        TBinaryOp::PointerMinusInt { element } => moved_back(left, element, right),
+        TBinaryOp::PointerMinusPointer { element } => Ok(distance(element, left, right)),
+        TBinaryOp::Arithmetic(_, _) | TBinaryOp::Shift(_, _) | TBinaryOp::CompareInts(_, _) =>
+            number_value(op, left, right),
+    }
+}
+
+// A pointer that is moved on by so many elements.
+fn moved_on(place: Value, element: u64, count: Value) -> Result<Option<Value>, Unanswered>
+    ensures added { IfOk result (λ v. v ≡ operators.binary_result (TBinaryOp.PointerPlusInt element) place count) }
+    ensures other_way { IfOk result (λ v. v ≡ operators.binary_result (TBinaryOp.IntPlusPointer element) count place) }
+{
+    match count {
+        Value::Int(_, n) => moved(place, bytes_of(element, n)?),
+        Value::Ptr(_) | Value::Null => Ok(None),
+    }
+}
+
+// A pointer that is moved back by so many elements.
+fn moved_back(place: Value, element: u64, count: Value) -> Result<Option<Value>, Unanswered>
+    ensures { IfOk result (λ v. v ≡ operators.binary_result (TBinaryOp.PointerMinusInt element) place count) }
+{
+    match count {
+        Value::Int(_, n) => moved(place, negated(bytes_of(element, n)?)?),
+        Value::Ptr(_) | Value::Null => Ok(None),
+    }
+}
+
+// The bytes of so many elements.
+fn bytes_of(element: u64, count: i128) -> Result<i128, Unanswered>
+    ensures { IfOk result (λ n. n ≡ elements element count) }
+{
+    held(i128::from(element).checked_mul(count))
+}
+
+// A pointer that is moved by bytes.
+fn moved(place: Value, distance: i128) -> Result<Option<Value>, Unanswered>
+    ensures { IfOk result (λ v. v ≡ operators.moved place distance) }
+{
+    match place {
+        Value::Ptr(pointer) => Ok(Some(Value::Ptr(Pointer {
+            block: pointer.block,
+            offset: offset_of(held(i128::from(pointer.offset).checked_add(distance))?)?,
+        }))),
+        Value::Null => Ok(Some(Value::Null)),
+        Value::Int(_, _) => Ok(None),
+    }
+}
+
+// An offset that a pointer of the code may have.
+fn offset_of(exact: i128) -> Result<i64, Unanswered>
+    ensures { IfOk result (λ offset. offset ≡ exact) }
+{
+    if exact < i128::from(i64::MIN) || exact > i128::from(i64::MAX) {
+        return Err(Unanswered::Unheld);
+    }
+    Ok(exact as i64)
+}
+
+// A comparison of two pointers.
+fn pointers_compared(comparison: Comparison, left: Value, right: Value) -> Option<Value>
+    ensures { result ≡ operators.compare_pointers comparison left right }
+{
+    match (left, right) {
+        (Value::Int(_, _), _) | (_, Value::Int(_, _)) => None,
+        _ => Some(compare_pointers(comparison, left, right)),
+    }
+}
+
+// How many elements lie between two pointers.
+fn distance(element: u64, left: Value, right: Value) -> Option<Value>
+    ensures { result ≡ operators.binary_result (TBinaryOp.PointerMinusPointer element) left right }
+{
+    match (left, right) {
+        (Value::Ptr(p), Value::Ptr(q)) => Some(if element == 0 {
+            Value::Int(IntType::Long, 0)
+        } else {
+            difference(element, p, q)
+        }),
+        _ => None,
+    }
+}
+
+// An operator on two numbers; none where one of them is none.
+fn number_value(op: TBinaryOp, left: Value, right: Value) -> Result<Option<Value>, Unanswered>
+    requires { TakesNumbers op }
+    ensures { IfOk result (λ v. v ≡ operators.binary_result op left right) }
+{
+    match (left, right) {
+        (Value::Int(_, a), Value::Int(_, b)) => match op {
+            TBinaryOp::Arithmetic(op, t) => Ok(Some(arithmetic_value(op, t, a, b)?)),
+            TBinaryOp::Shift(way, t) => Ok(Some(shift_value(way, t, a, b)?)),
+            TBinaryOp::CompareInts(comparison, _) => Ok(Some(bit(compares(comparison, a, b)))),
+            _ => unreachable!(),
+        },
+        _ => Ok(None),
+    }
+}
