@@ -17,6 +17,7 @@ ghost use Rattle.csharp_acts.specs.Reading.{one_value};
 use crate::error::Unanswered;
 use crate::failing::fails;
 use crate::numbers::{exact_arithmetic, exact_shift, negated};
+use crate::operators::takes_right;
 use crate::sight::{CallEnd, Judgement, Operand};
 use crate::state::State;
 use block_mem::{Scalar, Value};
@@ -91,7 +92,7 @@ impl State {
             },
             CsExpr::Binary { op, left, right } => match self.value(left)? {
                 Some(v) => match self.value(right)? {
-                    Some(u) => exact_binary(*op, v, u),
+                    Some(u) => exact_taken(*op, v, u),
                     None => Ok(None),
                 },
                 None => Ok(None),
@@ -255,6 +256,18 @@ fn exact_unary(op: TUnaryOp, v: Value) -> Result<Option<Operand>, Unanswered>
             Value::Ptr(_) | Value::Null => Ok(None),
         },
         TUnaryOp::Plus(_) | TUnaryOp::Complement(_) | TUnaryOp::Not => Ok(None),
+    }
+}
+
+// None where the operator does not take the right operand.
+fn exact_taken(op: TBinaryOp, left: Value, right: Value) -> Result<Option<Operand>, Unanswered>
+    ensures is { IfOk result (λ x. option_map operand_of x ≡ states.if_taken op (operators.exact_binary op) left right) }
+    ensures near { IfOk result (λ x. IfSome x AreNear) }
+{
+    if takes_right(op, right) {
+        exact_binary(op, left, right)
+    } else {
+        Ok(None)
     }
 }
 

@@ -3,12 +3,13 @@ ghost use Rattle.std.specs.Prelude.{◌≡◌, IfOk};
 ghost use Rattle.c_values.specs.Operators as operators;
 ghost use Rattle.c_values.specs.Operators.{elements};
 ghost use Rattle.c_values.specs.Typed.{TakesNumbers};
+ghost use Rattle.csharp.specs.States.{if_taken, takes_right as is_taken};
 
 use crate::error::Unanswered;
 use crate::numbers::{arithmetic_value, complement_of, held, negated, shift_value};
 use block_mem::{Pointer, Value};
 use c_layout::wrap;
-use c_syntax::{Comparison, IntType, TBinaryOp, TUnaryOp};
+use c_syntax::{Arithmetic, Comparison, IntType, TBinaryOp, TUnaryOp};
 use c_values::{bit, compare_pointers, compares, difference, truth};
 
 /// What an operator gives on a value; none where the value is not of its type.
@@ -41,6 +42,32 @@ pub fn binary_value(op: TBinaryOp, left: Value, right: Value) -> Result<Option<V
         TBinaryOp::PointerMinusPointer { element } => Ok(distance(element, left, right)),
         TBinaryOp::Arithmetic(_, _) | TBinaryOp::Shift(_, _) | TBinaryOp::CompareInts(_, _) =>
             number_value(op, left, right),
+    }
+}
+
+/// The same, and none where the operator does not take the right one.
+pub fn taken_value(op: TBinaryOp, left: Value, right: Value) -> Result<Option<Value>, Unanswered>
+    ensures { IfOk result (λ v. v ≡ if_taken op (operators.binary_result op) left right) }
+{
+    if takes_right(op, right) {
+        binary_value(op, left, right)
+    } else {
+        Ok(None)
+    }
+}
+
+/// Whether an operator takes the right operand: a divisor other than 0, and an amount from 0 to below
+/// the width.
+pub fn takes_right(op: TBinaryOp, right: Value) -> bool
+    ensures { result ≡ is_taken op right }
+{
+    match right {
+        Value::Int(_, n) => match op {
+            TBinaryOp::Arithmetic(Arithmetic::Divide | Arithmetic::Remainder, _) => n != 0,
+            TBinaryOp::Shift(_, t) => 0 <= n && n < i128::from(t.width()),
+            _ => true,
+        },
+        Value::Ptr(_) | Value::Null => true,
     }
 }
 

@@ -8,7 +8,7 @@ ghost use Rattle.csharp.specs.Trees.{csexpr_tree};
 ghost use Rattle.csharp.specs.States.{value_of};
 
 use crate::error::Unanswered;
-use crate::operators::{binary_value, unary_value};
+use crate::operators::{taken_value, unary_value};
 use crate::state::State;
 use block_mem::{Scalar, Value};
 use c_layout::wrap;
@@ -16,8 +16,8 @@ use c_syntax::IntType;
 use csharp::CsExpr;
 
 impl State {
-    /// The value of an expression; none where an object that it names does not live, or an operand is
-    /// not of its operator's type.
+    /// The value of an expression; none where an object that it names does not live, an operand is not of its
+    /// operator's type, a divisor is 0, or an amount is not below the width.
     pub fn value(&self, expr: &CsExpr) -> Result<Option<Value>, Unanswered>
         ensures { IfOk result (λ v. v ≡ value_of (csexpr_tree expr.now) self.now) }
     {
@@ -32,7 +32,7 @@ impl State {
             },
             CsExpr::Binary { op, left, right } => match self.value(left)? {
                 Some(v) => match self.value(right)? {
-                    Some(u) => binary_value(*op, v, u),
+                    Some(u) => taken_value(*op, v, u),
                     None => Ok(None),
                 },
                 None => Ok(None),
