@@ -14,4 +14,5 @@ returns-in-Mul g c =
 pub returns-in_ok-part-in_default : goal.returns-in_ok-part-in_default
 returns-in_ok-part-in_default g c =
     IfOk-weaker c.wrapped.result _ _ (λ p w d e left right.
-    value_wrapped _ _ _ _ (Binary c.args.op c.args.t d e) c.in_ok-part-in_default.part p (c.in_ok-part-in_default.ensures d e left right) w (λ v n ad f q. fit_binary v c.args.op c.args.t d e n c.in_default.not-Mul f q)) c.wrapped.ensures
+    value_wrapped _ _ _ _ (Binary c.args.op c.args.t d e) c.in_ok-part-in_default.part p (c.in_ok-part-in_default.ensures d e left right) w
+    (λ v n ad f q. fit_binary v c.args.op c.args.t d e n c.in_default.not-Mul f q)) c.wrapped.ensures

@@ -23,7 +23,8 @@ pub returns-clause-void : goal.returns-clause-void
 returns-clause-void g c = c.marked.ensures.void ∙ ap (λ l. not (is_live l)) (sym c.marked.ensures.answer)
 
 pub returns-clause-sharp_dead : goal.returns-clause-sharp_dead
-returns-clause-sharp_dead g c = λ v n ex ad on fit q f. subst (λ l. is_live l ≡ false) (sym c.marked.ensures.answer) (c.in_ok-live.ensures.sharp_dead v n ex ad.1 on fit q f)
+returns-clause-sharp_dead g c = λ v n ex ad on fit q f. subst (λ l. is_live l ≡ false) (sym c.marked.ensures.answer)
+    (c.in_ok-live.ensures.sharp_dead v n ex ad.1 on fit q f)
 
 pub returns-clause-sharp_live : goal.returns-clause-sharp_live
 returns-clause-sharp_live g c = λ v n y ex ad on fit q is k.
@@ -31,7 +32,8 @@ returns-clause-sharp_live g c = λ v n y ex ad on fit q is k.
     (c.in_ok-live.ensures.sharp_live v n y ex ad.1 on fit q (subst (λ l. IsTrue (is_live l)) c.marked.ensures.answer is) k)
 
 pub returns-clause-plain_dead : goal.returns-clause-plain_dead
-returns-clause-plain_dead g c = λ given ex u e. subst (λ l. is_live l ≡ false) (sym c.marked.ensures.answer) (c.in_ok-live.ensures.plain_dead given ex (u c.if-self.false) e)
+returns-clause-plain_dead g c = λ given ex u e. subst (λ l. is_live l ≡ false) (sym c.marked.ensures.answer)
+    (c.in_ok-live.ensures.plain_dead given ex (u c.if-self.false) e)
 
 pub returns-clause-plain_live : goal.returns-clause-plain_live
 returns-clause-plain_live g c = λ given ex u void.
