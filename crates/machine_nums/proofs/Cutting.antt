@@ -59,8 +59,12 @@ negated t a wanted v n f h =
     let out = wrapped_some t (exact_value v (Unary Not t a)) n f in
     let step = of_one-some (unary_value Not) (machine_value v a) out.0 out.1 in
     let is : truth (int_eq step.0 (pos 0)) ≡ out.0 = some_same (truth (int_eq step.0 (pos 0))) out.0 step.2 in
-    let same = wrapped_truth t (int_eq step.0 (pos 0)) out.0 n (sym is) out.2 in
-    (step.0, step.1, turned_truth wanted step.0 (truth_is (int_eq step.0 (pos 0)) wanted out.0 step.2 (subst (λ (k : ℤ). IsTrue (has_truth wanted k)) (sym same) h)))
+    let same = wrapped_truth t (int_eq step.0 (pos 0)) out.0 n (sym is) out.2 in (
+      step.0,
+      step.1,
+      turned_truth wanted step.0
+          (truth_is (int_eq step.0 (pos 0)) wanted out.0 step.2 (subst (λ (k : ℤ). IsTrue (has_truth wanted k)) (sym same) h)),
+    )
   where
     some_same : (x y : ℤ) → Some x ≡ Some y → x ≡ y
     some_same x y e = cc

@@ -107,7 +107,8 @@ module _ (admits : List ℤ → Type 0) (exact : Bool) (known : ℕ → Range) (
       → before.is_kept ≡ true → IsTold admits exact known may before after
       → IsResult admits exact known may (Const t n) after
   result_const t n before after tree range kept told =
-      let tells : (v : List ℤ) (m : ℤ) → Some n ≡ Some m → Tells v before m = λ v m e. let same : n ≡ m = cc in record { value = ap (value_of v) tree ∙ e; holds = subst (λ (r : Range). InRange r m) (sym range) (in_point n m same) } in
+      let tells : (v : List ℤ) (m : ℤ) → Some n ≡ Some m → Tells v before m = λ v m e.
+      let same : n ≡ m = cc in record { value = ap (value_of v) tree ∙ e; holds = subst (λ (r : Range). InRange r m) (sym range) (in_point n m same) } in
       record {
         holds = λ v m a e. told.holds v m a (tells v m e);
         shows = λ v m x a s p f e.
@@ -180,7 +181,8 @@ module _ (admits : List ℤ → Type 0) (exact : Bool) (known : ℕ → Range) (
             let own = val.shows v step.0 x ad s p.1 step.1 in
             told_shows before after v n told ad (found v step.0 n h step.2) (record {
               point = points step.0 n own.point step.2 f;
-              fits = subst (AllFit v) (sym tree) (some_fits (value_of v (plain.Unary op (nexpr_tree a.plain))) n (ap (of_one (unary_value op)) h.value ∙ step.2) f, own.fits);
+              fits = subst (AllFit v) (sym tree)
+                  (some_fits (value_of v (plain.Unary op (nexpr_tree a.plain))) n (ap (of_one (unary_value op)) h.value ∙ step.2) f, own.fits);
               sharp = subst (IsSharpOn known v) (sym tree) own.sharp;
             });
         plain = λ given s x u q f.
@@ -225,7 +227,12 @@ module _ (admits : List ℤ → Type 0) (exact : Bool) (known : ℕ → Range) (
             let all = found v step.0 step.1 n h k step.4 in
             told_shows before after v n told ad all (record {
               point = points step.0 step.1 n first.point second.point step.4 f;
-              fits = subst (AllFit v) (sym tree) (some_fits (value_of v (plain.Binary op (nexpr_tree a.plain) (nexpr_tree b.plain))) n (sym (ap (value_of v) tree) ∙ all.value) f, first.fits, second.fits);
+              fits = subst (AllFit v) (sym tree) (
+                some_fits (value_of v (plain.Binary op (nexpr_tree a.plain) (nexpr_tree b.plain))) n
+                    (sym (ap (value_of v) tree) ∙ all.value) f,
+                first.fits,
+                second.fits,
+              );
               sharp = subst (IsSharpOn known v) (sym tree) (first.sharp, second.sharp);
             });
         plain = λ given s x u q f.
@@ -238,7 +245,8 @@ module _ (admits : List ℤ → Type 0) (exact : Bool) (known : ℕ → Range) (
             told.tree ∙ tree ∙ ap (λ (x : NExprTree). plain.Binary op x (nexpr_tree b.plain)) (left.kept both.0) ∙ ap (plain.Binary op (untyped d))
             (right.kept both.1);
         own = own_map may d (λ p. IsInside (type_of d) p → (a.is_kept ≡ true) × NoWider a.range p)
-            (λ p. IsInside (type_of d) p → OwnAnswers may e (λ q. IsInside (type_of e) q → SomeAnswer may (plain.Binary op (untyped d) (untyped e)) (λ r. (after.is_kept ≡ true) × NoWider after.range r)))
+            (λ p. IsInside (type_of d) p → OwnAnswers may e
+            (λ q. IsInside (type_of e) q → SomeAnswer may (plain.Binary op (untyped d) (untyped e)) (λ r. (after.is_kept ≡ true) × NoWider after.range r)))
             (λ p g i.
             let k = g i in
             own_map may e (λ q. IsInside (type_of e) q → (b.is_kept ≡ true) × NoWider b.range q)

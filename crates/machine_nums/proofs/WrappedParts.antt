@@ -74,11 +74,17 @@ module _ (t : IntType) (before after : Part) (never : after.is_kept ≡ false) w
       let value : (v : List ℤ) (n : ℤ) → Tells v before n → value_of v (plain.Binary Add (nexpr_tree before.plain) (plain.Const s)) ≡ Some
       (wrapped t n) = λ v n h.
       ap (λ (o : Option ℤ). of_two (binary_value Add) o (Some s)) h.value
-      ∙ ap Some (is_wrapped t n (n +ℤ s) (multiple_along (pos (2 ^ width t)) s ((n +ℤ s) -ℤ n) (omega (arith, ints)) w.takes.right.0) (w.takes.right.1 n h.holds)) in
+      ∙ ap Some (is_wrapped t n (n +ℤ s) (multiple_along (pos (2 ^ width t)) s ((n +ℤ s) -ℤ n) (omega (arith, ints)) w.takes.right.0)
+      (w.takes.right.1 n h.holds)) in
       by_value (Shifted s) w (shift_apart s)
       (λ v n h. ap (value_of v) tree ∙ value v n h)
       (λ known v n h shown. (
-        subst (AllFit v) (sym tree) (some_fits (value_of v (plain.Binary Add (nexpr_tree before.plain) (plain.Const s))) (wrapped t n) (value v n h) (wrapped_fits t n), shown.fits, fit),
+        subst (AllFit v) (sym tree) (
+          some_fits (value_of v (plain.Binary Add (nexpr_tree before.plain) (plain.Const s))) (wrapped t n) (value v n h)
+              (wrapped_fits t n),
+          shown.fits,
+          fit,
+        ),
         subst (IsSharpOn known v) (sym tree) (shown.sharp, tt),
       ))
 
@@ -88,7 +94,8 @@ module _ (t : IntType) (before after : Part) (never : after.is_kept ≡ false) w
       (λ v n h. ap (value_of v) tree ∙ ap Some (sym (w.takes.right n h.holds)))
       (λ known v n h shown. (subst (AllFit v) (sym tree) fit, subst (IsSharpOn known v) (sym tree) tt))
 
-  pub part_by_bits : nexpr_tree after.plain ≡ plain.Binary Add (plain.Binary And (plain.Binary Sub (nexpr_tree before.plain) (plain.Const (least t))) (plain.Const (pos (2 ^ width t - 1)))) (plain.Const (least t))
+  pub part_by_bits : nexpr_tree after.plain ≡ plain.Binary Add
+      (plain.Binary And (plain.Binary Sub (nexpr_tree before.plain) (plain.Const (least t))) (plain.Const (pos (2 ^ width t - 1)))) (plain.Const (least t))
       → IsWrapping t before.range ByBits after.range → IsWrappedPart t before after
   part_by_bits tree w = by_value ByBits w bits_apart
       (λ v n h. ap (value_of v) tree ∙ bits_result t (value_of v (nexpr_tree before.plain)) ∙ ap (wrapped_value t) h.value)
@@ -136,7 +143,8 @@ like_parts left right first second a b like tree_a range_a tree_b range_b wa wb 
           let two = wb.shows known v y (tells_copy right second v y tree_b range_b k) (shows_copy right second known v y tree_b range_b r) in
           record {
             point = points (wrapped LLong x) (wrapped LLong y) n one.point two.point refl fit;
-            fits = subst (AllFit v) (sym tree) (some_fits (value_of v (plain.Binary Mul (nexpr_tree a.plain) (nexpr_tree b.plain))) n (value v x y h k) fit, one.fits, two.fits);
+            fits = subst (AllFit v) (sym tree)
+                (some_fits (value_of v (plain.Binary Mul (nexpr_tree a.plain) (nexpr_tree b.plain))) n (value v x y h k) fit, one.fits, two.fits);
             sharp = subst (IsSharpOn known v) (sym tree) (one.sharp, two.sharp);
           };
       never = never;

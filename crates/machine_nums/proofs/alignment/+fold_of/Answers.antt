@@ -27,7 +27,8 @@ returns-in-Const-clause-greatest t c = λ d one h.
     let fits : FitsSigned w128 c.alignment.result = search rules in
     let own : FitsSigned w128 c.in-Const.n = search rules in
     subst (IsMultiple d) (sym (to_z-of_z w128 c.alignment.result fits))
-    (c.alignment.ensures.greatest d one (subst (IsMultiple d) (sym (to_z-of_z w128 c.in-Const.n own)) (fold_const d c.in-Const.field-0 c.in-Const.n (subst (IsFold d) tree h))))
+    (c.alignment.ensures.greatest d one
+    (subst (IsMultiple d) (sym (to_z-of_z w128 c.in-Const.n own)) (fold_const d c.in-Const.field-0 c.in-Const.n (subst (IsFold d) tree h))))
 
 pub returns-in-Read-clause-divides : goal.returns-in-Read-clause-divides
 returns-in-Read-clause-divides t c = λ v n q. by_one n
@@ -105,7 +106,9 @@ returns-in-Mul-clause-divides t c = λ v n q.
     let fx : FitsSigned w128 x = search rules in let fy : FitsSigned w128 y = search rules in let fz : FitsSigned w128 z = search rules in
     let ex = to_z-of_z w128 x fx in let ey = to_z-of_z w128 y fy in
     subst (λ (k : ℤ). IsMultiple k n) (sym (to_z-of_z w128 z fz))
-    (product_multiple v u a b z x y n (λ k m i j. c.greater.ensures.divides k m (subst (λ (s : ℤ). IsMultiple s k) (sym ex) i) (subst (λ (s : ℤ). IsMultiple s m) (sym ey) j)) (c.factor.ensures.divides v) (c.factor-in-Mul.ensures.divides v)
+    (product_multiple v u a b z x y n
+    (λ k m i j. c.greater.ensures.divides k m (subst (λ (s : ℤ). IsMultiple s k) (sym ex) i) (subst (λ (s : ℤ). IsMultiple s m) (sym ey) j))
+    (c.factor.ensures.divides v) (c.factor-in-Mul.ensures.divides v)
     (subst (λ (e : MExprTree). exact_value v e ≡ Some n) tree q))
 
 pub returns-in-Mul-clause-greatest : goal.returns-in-Mul-clause-greatest

@@ -50,7 +50,8 @@ returns-clause-sharp_dead g c = IfOk-weaker c.keep_both.result _ _ (λ live h v 
 pub returns-clause-plain_dead : goal.returns-clause-plain_dead
 returns-clause-plain_dead g c = IfOk-weaker c.keep_both.result _ _ (λ live h given ex u k.
     let alive : c.may_be.result ≡ true = search rules in
-    absurd (false≢true (sym (c.may_be.ensures.plain (value_span given (mexpr_tree c.args.e.now)) (c.in_ok-part.ensures.plain given ex u) k) ∙ alive))) c.keep_both.ensures.after
+    absurd (false≢true (sym (c.may_be.ensures.plain (value_span given (mexpr_tree c.args.e.now)) (c.in_ok-part.ensures.plain given ex u) k) ∙ alive)))
+    c.keep_both.ensures.after
 
 pub returns-clause-plain_live : goal.returns-clause-plain_live
 returns-clause-plain_live g c = ok_both _ _ _ c.keep_both.result c.keep_both.ensures.narrows c.keep_both.ensures.cut (λ live narrows cut given ex u is.
@@ -62,4 +63,5 @@ returns-clause-own g c = IfOk-weaker c.keep_both.result _ _ (λ live h.
     let alive : c.may_be.result ≡ true = search rules in
     own_inside (g.D.Oracle.may_range c.args.state.now) (mexpr_tree c.args.e.now) c.in_ok-part.part
     (λ r. (s : Span) → NoWider r (range_of s) → IsTrue (excludes c.args.truth s) → is_live live ≡ false)
-    (λ r p s w e. absurd (false≢true (sym (c.may_be.ensures.plain s (wider c.in_ok-part.part.range r (range_of s) p w) e) ∙ alive))) c.in_ok-part.ensures.own) c.keep_both.ensures.after
+    (λ r p s w e. absurd (false≢true (sym (c.may_be.ensures.plain s (wider c.in_ok-part.part.range r (range_of s) p w) e) ∙ alive))) c.in_ok-part.ensures.own)
+    c.keep_both.ensures.after

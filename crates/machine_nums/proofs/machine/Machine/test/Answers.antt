@@ -43,6 +43,7 @@ returns-clause-plain_live g c = λ given ex u void.
 pub returns-clause-own : goal.returns-clause-own
 returns-clause-own g c = λ was.
     let e = mexpr_tree c.args.e.now in
-    own_map (g.D.Oracle.may_range c.args.self.now.state) e (λ r. IsInside (type_of e) r → (s : Span) → NoWider r (range_of s) → IsTrue (excludes c.args.truth s) → is_live c.in_ok-live.live ≡ false)
+    own_map (g.D.Oracle.may_range c.args.self.now.state) e
+    (λ r. IsInside (type_of e) r → (s : Span) → NoWider r (range_of s) → IsTrue (excludes c.args.truth s) → is_live c.in_ok-live.live ≡ false)
     (λ r. IsInside (type_of e) r → (s : Span) → NoWider r (range_of s) → IsTrue (excludes c.args.truth s) → is_live c.marked.result ≡ false)
     (λ r h i s w k. subst (λ l. is_live l ≡ false) (sym c.marked.ensures.answer) (h i s w k)) c.in_ok-live.ensures.own
