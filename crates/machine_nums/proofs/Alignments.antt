@@ -30,10 +30,12 @@ use Rattle.machine_nums.proofs.Results.{wrapped_some}
 -- ---- remainders
 
 pub multiple_from : (m n : ℤ) → pos 1 ≤ℤ m → int_rem_euclid n m ≡ pos 0 → IsMultiple m n
-multiple_from m n one e = multiple_along m (n -ℤ pos 0) n (omega (arith, ints)) (off_from_in (pos 0) m n (subst (λ (r : ℤ). InResidue (class_of r m) n) e (rem_same n m one)))
+multiple_from m n one e = multiple_along m (n -ℤ pos 0) n (omega (arith, ints))
+    (off_from_in (pos 0) m n (subst (λ (r : ℤ). InResidue (class_of r m) n) e (rem_same n m one)))
 
 pub no_rest : (m n : ℤ) → pos 1 ≤ℤ m → IsMultiple m n → int_rem_euclid n m ≡ pos 0
-no_rest m n one h = rem_unique n m (pos 0) one (in_from_off (pos 0) m n (multiple_along m n (n -ℤ pos 0) (omega (arith, ints)) h)) (omega (arith, ints)) (omega (arith, ints))
+no_rest m n one h = rem_unique n m (pos 0) one (in_from_off (pos 0) m n (multiple_along m n (n -ℤ pos 0) (omega (arith, ints)) h)) (omega (arith, ints))
+    (omega (arith, ints))
 
 pub zero_from : (r : ℤ) → FitsSigned w128 r → eqb (of_z w128 r) 0 ≡ true → r ≡ pos 0
 zero_from r f e = sym (to_z-of_z w128 r f) ∙ ap (to_z w128) (eqb-true (of_z w128 r) 0 e)
@@ -132,7 +134,8 @@ wrapped_multiple t c n one h =
     let moved = multiple_trans c (pos (2 ^ width t)) (wrapped t n -ℤ n) count (wrapped_moves t n) in
     multiple_along c _ (wrapped t n) (omega (arith, ints)) (multiple_add c (wrapped t n -ℤ n) n moved h)
 
-pub value_multiple : (v : List ℤ) (e : MExprTree) (c n : ℤ) → IsAlignment c → ((m : ℤ) → exact_value v e ≡ Some m → IsMultiple c m) → machine_value v e ≡ Some n → IsMultiple c n
+pub value_multiple : (v : List ℤ) (e : MExprTree) (c n : ℤ) → IsAlignment c → ((m : ℤ) → exact_value v e ≡ Some m → IsMultiple c m)
+    → machine_value v e ≡ Some n → IsMultiple c n
 value_multiple v e c n one h q =
     let step = wrapped_some (type_of e) (exact_value v e) n q in
     subst (IsMultiple c) step.2 (wrapped_multiple (type_of e) c step.0 one (h step.0 step.1))
@@ -150,7 +153,8 @@ const_multiple v t m c n one h q = value_multiple v (Const t m) c n one (λ k r.
 
 -- ---- results
 
-pub sum_multiple : (v : List ℤ) (t : IntType) (a b : MExprTree) (c n : ℤ) → ((m : ℤ) → machine_value v a ≡ Some m → IsMultiple c m) → ((m : ℤ) → machine_value v b ≡ Some m → IsMultiple c m)
+pub sum_multiple : (v : List ℤ) (t : IntType) (a b : MExprTree) (c n : ℤ) → ((m : ℤ) → machine_value v a ≡ Some m → IsMultiple c m)
+    → ((m : ℤ) → machine_value v b ≡ Some m → IsMultiple c m)
     → exact_value v (Binary Add t a b) ≡ Some n → IsMultiple c n
 sum_multiple v t a b c n h k q =
     let step = of_two-some (binary_value Add) (machine_value v a) (machine_value v b) n q in
@@ -161,7 +165,8 @@ sum_multiple v t a b c n h k q =
     some_same x y e = cc
 
 pub product_multiple : (v : List ℤ) (t : IntType) (a b : MExprTree) (c d f n : ℤ) → ((x y : ℤ) → IsMultiple d x → IsMultiple f y → IsMultiple c (x *ℤ y))
-    → ((m : ℤ) → machine_value v a ≡ Some m → IsMultiple d m) → ((m : ℤ) → machine_value v b ≡ Some m → IsMultiple f m) → exact_value v (Binary Mul t a b) ≡ Some n → IsMultiple c n
+    → ((m : ℤ) → machine_value v a ≡ Some m → IsMultiple d m) → ((m : ℤ) → machine_value v b ≡ Some m → IsMultiple f m) → exact_value v
+    (Binary Mul t a b) ≡ Some n → IsMultiple c n
 product_multiple v t a b c d f n both h k q =
     let step = of_two-some (binary_value Mul) (machine_value v a) (machine_value v b) n q in
     let same : step.0 *ℤ step.1 ≡ n = some_same (step.0 *ℤ step.1) n step.4 in
@@ -187,7 +192,8 @@ fold_unary c op t a h = elim h [ ]
 pub fold_sum : (c : ℤ) (t : IntType) (a b : MExprTree) → IsFold c (Binary Add t a b) → IsFold c a × IsFold c b
 fold_sum c t a b (sum s p q h k) = (h, k)
 
-pub fold_product : (c : ℤ) (t : IntType) (a b : MExprTree) (P : Type 0) → IsFold c (Binary Mul t a b) → ((s : IntType) (n : ℤ) → a ≡ Const s n → IsMultiple c n → P) → ((s : IntType) (n : ℤ) → b ≡ Const s n → IsMultiple c n → P) → P
+pub fold_product : (c : ℤ) (t : IntType) (a b : MExprTree) (P : Type 0) → IsFold c (Binary Mul t a b)
+    → ((s : IntType) (n : ℤ) → a ≡ Const s n → IsMultiple c n → P) → ((s : IntType) (n : ℤ) → b ≡ Const s n → IsMultiple c n → P) → P
 fold_product c t a b P (left_factor s u n e m) f g = f u n refl m
 fold_product c t a b P (right_factor s u e n m) f g = g u n refl m
 

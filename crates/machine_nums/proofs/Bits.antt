@@ -26,6 +26,7 @@ mask_is (negsuc a) k = ap (λ m. pos (bit_xor (2 ^ k - 1) m)) (and_comm (2 ^ k -
 bits_wrap : (t : IntType) (n : ℤ) → bits_of_both (n -ℤ least t) (pos (2 ^ width t - 1)) +ℤ least t ≡ wrapped t n
 bits_wrap t n = ap (λ (b : ℤ). b +ℤ least t) (mask_is (n -ℤ least t) (width t)) ∙ wrapped_is t n
 
-pub bits_result : (t : IntType) (o : Option ℤ) → of_two (binary_value Add) (of_two (binary_value And) (of_two (binary_value Sub) o (Some (least t))) (Some (pos (2 ^ width t - 1)))) (Some (least t)) ≡ wrapped_value t o
+pub bits_result : (t : IntType) (o : Option ℤ) → of_two (binary_value Add)
+    (of_two (binary_value And) (of_two (binary_value Sub) o (Some (least t))) (Some (pos (2 ^ width t - 1)))) (Some (least t)) ≡ wrapped_value t o
 bits_result t None = refl
 bits_result t (Some n) = ap Some (bits_wrap t n)

@@ -33,7 +33,8 @@ use Rattle.machine_nums.proofs.Results.{wrapped_some}
 wrapped_truth : (t : IntType) (b : Bool) (m n : ℤ) → m ≡ truth b → wrapped t m ≡ n → m ≡ n
 wrapped_truth t b m n e f = sym (wrapped-has t m (truth_has t b m e)) ∙ f
 
-compared_truth : (op : NOp) (wanted : Bool) (how : Standing) (x y m : ℤ) → standing op wanted ≡ Some how → binary_value op x y ≡ Some m → (b : Bool) × (m ≡ truth b)
+compared_truth : (op : NOp) (wanted : Bool) (how : Standing) (x y m : ℤ) → standing op wanted ≡ Some how → binary_value op x y ≡ Some m → (b : Bool)
+    × (m ≡ truth b)
 compared_truth Eq wanted how x y m e f = let same : truth (int_eq x y) ≡ m = cc in (int_eq x y, sym same)
 compared_truth Ne wanted how x y m e f = let same : truth (not (int_eq x y)) ≡ m = cc in (not (int_eq x y), sym same)
 compared_truth Lt wanted how x y m e f = let same : truth (int_lt x y) ≡ m = cc in (int_lt x y, sym same)
@@ -41,7 +42,8 @@ compared_truth Le wanted how x y m e f = let same : truth (int_le x y) ≡ m = c
 compared_truth op wanted how x y m e f = absurd (none-some how e)
 
 -- the sides of a comparison of this truth stand so to each other
-pub sides_stand : (op : NOp) (t : IntType) (a b : MExprTree) (wanted : Bool) (how : Standing) (v : List ℤ) (n : ℤ) → standing op wanted ≡ Some how → machine_value v (Binary op t a b) ≡ Some n → IsTrue (has_truth wanted n)
+pub sides_stand : (op : NOp) (t : IntType) (a b : MExprTree) (wanted : Bool) (how : Standing) (v : List ℤ) (n : ℤ) → standing op wanted ≡ Some how
+    → machine_value v (Binary op t a b) ≡ Some n → IsTrue (has_truth wanted n)
     → (x : ℤ) × (y : ℤ) × (machine_value v a ≡ Some x) × (machine_value v b ≡ Some y) × Stands how x y
 sides_stand op t a b wanted how v n e f h =
     let out = wrapped_some t (exact_value v (Binary op t a b)) n f in
@@ -57,15 +59,20 @@ negated t a wanted v n f h =
     let out = wrapped_some t (exact_value v (Unary Not t a)) n f in
     let step = of_one-some (unary_value Not) (machine_value v a) out.0 out.1 in
     let is : truth (int_eq step.0 (pos 0)) ≡ out.0 = some_same (truth (int_eq step.0 (pos 0))) out.0 step.2 in
-    let same = wrapped_truth t (int_eq step.0 (pos 0)) out.0 n (sym is) out.2 in
-    (step.0, step.1, turned_truth wanted step.0 (truth_is (int_eq step.0 (pos 0)) wanted out.0 step.2 (subst (λ (k : ℤ). IsTrue (has_truth wanted k)) (sym same) h)))
+    let same = wrapped_truth t (int_eq step.0 (pos 0)) out.0 n (sym is) out.2 in (
+      step.0,
+      step.1,
+      turned_truth wanted step.0
+          (truth_is (int_eq step.0 (pos 0)) wanted out.0 step.2 (subst (λ (k : ℤ). IsTrue (has_truth wanted k)) (sym same) h)),
+    )
   where
     some_same : (x y : ℤ) → Some x ≡ Some y → x ≡ y
     some_same x y e = cc
 
 -- ---- cuts
 
-pub cut_holds : (o : Option Cut) (e : NExprTree) (r : Range) (v : List ℤ) (n : ℤ) → IfSome o (λ c. (v : List ℤ) (n : ℤ) → value_of v e ≡ Some n → InRange r n → InRange c.range (value_at v c.x.0))
+pub cut_holds : (o : Option Cut) (e : NExprTree) (r : Range) (v : List ℤ) (n : ℤ)
+    → IfSome o (λ c. (v : List ℤ) (n : ℤ) → value_of v e ≡ Some n → InRange r n → InRange c.range (value_at v c.x.0))
     → value_of v e ≡ Some n → InRange r n → HoldsCut v o
 cut_holds None e r v n h f i = tt
 cut_holds (Some c) e r v n h f i = h v n f i
@@ -75,7 +82,8 @@ read_cut known None x r h k = absurd h
 read_cut known (Some c) x r h k = subst (λ (y : ℕ). NoWider (known y) r) h.0 (subst (λ (s : Range). NoWider (known c.x.0) s) h.1 k)
 
 -- another range at one variable
-pub with_under : (known given : ℕ → Range) (x : ℕ) (r : Range) → ((y : ℕ) → (y ≡ x → ⊥) → NoWider (known y) (given y)) → NoWider (known x) r → IsUnder known (with_range given x r)
+pub with_under : (known given : ℕ → Range) (x : ℕ) (r : Range) → ((y : ℕ) → (y ≡ x → ⊥) → NoWider (known y) (given y)) → NoWider (known x) r
+    → IsUnder known (with_range given x r)
 with_under known given x r u w = λ y. ⊎_elim
     (λ (q : y ≡ x). subst (NoWider (known y)) (sym (cond-true (nat_eq y x) r (given y) (eq-eqb y x q))) (subst (λ (z : ℕ). NoWider (known z) r) (sym q) w))
     (λ (q : y ≡ x → ⊥). subst (NoWider (known y)) (sym (cond-false (nat_eq y x) r (given y) (ne_eqb y x q))) (u y q))
@@ -88,13 +96,16 @@ under_elsewhere known given x r y u q = subst (NoWider (known y)) (cond-false (n
 pub under_here : (known given : ℕ → Range) (x : ℕ) (r : Range) → IsUnder known (with_range given x r) → NoWider (known x) r
 under_here known given x r u = subst (NoWider (known x)) (cond-true (nat_eq x x) r (given x) (eq-eqb x x refl)) (u x)
 
-side_under : (known given : ℕ → Range) (o : Option ℕ) (how : Standing) (s t : Span) → IsUnder known given → ((x : ℕ) → o ≡ Some x → NoWider (known x) (range_of (cut how s t))) → IsUnder known (cut_side given o how s t)
+side_under : (known given : ℕ → Range) (o : Option ℕ) (how : Standing) (s t : Span) → IsUnder known given
+    → ((x : ℕ) → o ≡ Some x → NoWider (known x) (range_of (cut how s t))) → IsUnder known (cut_side given o how s t)
 side_under known given None how s t u h = u
 side_under known given (Some x) how s t u h = with_under known given x (range_of (cut how s t)) (λ y q. u y) (h x refl)
 
-pub sides_under : (known given : ℕ → Range) (a b : Option ℕ) (how : Standing) (s t : Span) → IsUnder known given → ((x : ℕ) → a ≡ Some x → NoWider (known x) (range_of (cut how s t))) → ((x : ℕ) → b ≡ Some x → NoWider (known x) (range_of (cut (turned how) t s)))
+pub sides_under : (known given : ℕ → Range) (a b : Option ℕ) (how : Standing) (s t : Span) → IsUnder known given
+    → ((x : ℕ) → a ≡ Some x → NoWider (known x) (range_of (cut how s t))) → ((x : ℕ) → b ≡ Some x → NoWider (known x) (range_of (cut (turned how) t s)))
     → IsUnder known (cut_sides given a b (Some how) s t)
-sides_under known given a b how s t u left right = side_under known (cut_side given a how s t) b (turned how) t s (side_under known given a how s t u left) right
+sides_under known given a b how s t u left right = side_under known (cut_side given a how s t) b (turned how) t s
+    (side_under known given a how s t u left) right
 
 -- another operator of one operand cuts nothing
 pub tested_other : (given : ℕ → Range) (op : NOp) (t : IntType) (a : MExprTree) (wanted : Bool) → (op ≡ Not → ⊥) → tested given (Unary op t a) wanted ≡ given

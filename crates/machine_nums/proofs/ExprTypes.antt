@@ -102,8 +102,10 @@ wrapped_is t n =
     let m = pos (2 ^ width t) in let x = n -ℤ least t in let r = int_rem_euclid x m in
     let count = numbers_are t in
     let low = rem_low x m count.1 in let high = rem_high x m count.1 in
-    let has : HasNumber t (r +ℤ least t) = has_between t (r +ℤ least t) (from_least r (least t) low) (to_greatest r (least t) (pos (greatest t)) m count.0 high) in
-    let same = in_from_off (r +ℤ least t) m n (multiple_along m (x -ℤ r) (n -ℤ (r +ℤ least t)) (apart n (least t) r) (off_from_in r m x (rem_same x m count.1))) in
+    let has : HasNumber t (r +ℤ least t) = has_between t (r +ℤ least t) (from_least r (least t) low)
+    (to_greatest r (least t) (pos (greatest t)) m count.0 high) in
+    let same = in_from_off (r +ℤ least t) m n
+    (multiple_along m (x -ℤ r) (n -ℤ (r +ℤ least t)) (apart n (least t) r) (off_from_in r m x (rem_same x m count.1))) in
     sym (wrapped_same t n (r +ℤ least t) same ∙ wrapped-has t (r +ℤ least t) has)
 
 -- what wrapping adds is a multiple of how many numbers there are

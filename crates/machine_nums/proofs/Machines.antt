@@ -19,7 +19,8 @@ hull_second r s q w = wider r s (hull q s) w (record { low = lesser_second q.lo 
 
 -- a wider range at the variable that was set
 pub set_under : (known given : ℕ → Range) (x : ℕ) (r s : Range) → IsUnder known (with_range given x r) → NoWider r s → IsUnder known (with_range given x s)
-set_under known given x r s u w = with_under known given x s (λ y q. under_elsewhere known given x r y u q) (wider (known x) r s (under_here known given x r u) w)
+set_under known given x r s u w = with_under known given x s (λ y q. under_elsewhere known given x r y u q)
+    (wider (known x) r s (under_here known given x r u) w)
 
 -- what a void machine is widened to weighs less
 pub weight_stays : (a b : ℕ) (v : Bool) → a ≤ b → (a + 0) ≤ (b + (if v then 1 else 0))

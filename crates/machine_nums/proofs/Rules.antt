@@ -32,7 +32,11 @@ fits_inside t s e =
     record { low = (number_between t s.lo ends.0).0; high = (number_between t s.hi ends.1).1 }
 
 pub type_span_fits : (t : IntType) → FitsSpan (type_span t)
-type_span_fits t = record { low = type_fits t (least t) (le_same (least t)) (type_order t); high = type_fits t (pos (greatest t)) (type_order t) (le_same (pos (greatest t))) }
+type_span_fits t = record {
+  low = type_fits t (least t) (le_same (least t)) (type_order t);
+  high = type_fits t (pos (greatest t)) (type_order t)
+      (le_same (pos (greatest t)));
+}
   where
     le_same : (n : ℤ) → n ≤ℤ n
     le_same n = omega (arith, ints)

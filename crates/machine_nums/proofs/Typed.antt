@@ -104,20 +104,24 @@ bits_result op a b r k l h m n = absurd l
 
 inside_by : (op : NOp) (a b r s : Range) → IsLogical op → BitBounds op a b r → IsOfBits s → NoWider a s → NoWider b s → NoWider r s
 unfolding IsOfBits
-inside_by op a b r s l h (k, inl e) u w = subst (NoWider r) (sym e) (bits_inside_back k r (bits_result op a b r k l h (has_bits k a (subst (NoWider a) e u)) (has_bits k b (subst (NoWider b) e w))))
+inside_by op a b r s l h (k, inl e) u w = subst (NoWider r) (sym e)
+    (bits_inside_back k r (bits_result op a b r k l h (has_bits k a (subst (NoWider a) e u)) (has_bits k b (subst (NoWider b) e w))))
 inside_by op a b r s l h (k, inr e) u w =
     let p = subst (NoWider a) e u in let q = subst (NoWider b) e w in
     subst (NoWider r) (sym e) (natural_back k r (natural_result op a b r l h (natural_is k a p) (natural_is k b q)) (bits_result op a b r k l h (natural_bits k a p) (natural_bits k b q)))
 
 -- of numbers of a type the operators on bits give numbers of it
-pub bits_inside : (op : NOp) (t : IntType) (a b r : Range) → IsLogical op → BitBounds op a b r → NoWider a (range_of (type_span t)) → NoWider b (range_of (type_span t)) → NoWider r (range_of (type_span t))
+pub bits_inside : (op : NOp) (t : IntType) (a b r : Range) → IsLogical op → BitBounds op a b r → NoWider a (range_of (type_span t))
+    → NoWider b (range_of (type_span t)) → NoWider r (range_of (type_span t))
 bits_inside op t a b r l h u w = inside_by op a b r (range_of (type_span t)) l h (of_bits t) u w
 
 -- ---- shifts to the right
 
 quotient_between : (t : IntType) (x : ℤ) (m : ℕ) → HasNumber t x → least t ≤ℤ pos 0 → HasNumber t (int_div_euclid x (pos m))
-quotient_between t (pos a) m h low = let ends = between_has t (pos a) h in let below = div-le_self a m in has_between t (pos (a / m)) (omega (arith, ints, low)) (omega (arith, ints, below, ends.1))
-quotient_between t (negsuc a) m h low = let ends = between_has t (negsuc a) h in let below = div-le_self a m in has_between t (negsuc (a / m)) (omega (arith, ints, below, ends.0)) (omega (arith, ints))
+quotient_between t (pos a) m h low = let ends = between_has t (pos a) h in let below = div-le_self a m in has_between t (pos (a / m))
+    (omega (arith, ints, low)) (omega (arith, ints, below, ends.1))
+quotient_between t (negsuc a) m h low = let ends = between_has t (negsuc a) h in let below = div-le_self a m in has_between t (negsuc (a / m))
+    (omega (arith, ints, below, ends.0)) (omega (arith, ints))
 
 pub shifted_has : (t : IntType) (x y n : ℤ) → HasNumber t x → binary_value Shr x y ≡ Some n → HasNumber t n
 shifted_has t x (pos k) n h e = let same : int_div_euclid x (pos (2 ^ k)) ≡ n = cc in subst (HasNumber t) same (quotient_between t x (2 ^ k) h (least_low t))
@@ -130,7 +134,8 @@ of_cases b t (Some s) u e = inl e
 of_cases true t None u e = let same : type_span t ≡ u = cc in inr (refl, sym same)
 of_cases false t None u e = absurd (none-some u e)
 
-stays_cases : (op : NOp) (t : IntType) (p q : Span) → stays op t p q ≡ true → (IsLogical op × (fits t p ≡ true) × (fits t q ≡ true)) ⊎ ((op ≡ Shr) × (fits t p ≡ true))
+stays_cases : (op : NOp) (t : IntType) (p q : Span) → stays op t p q ≡ true
+    → (IsLogical op × (fits t p ≡ true) × (fits t q ≡ true)) ⊎ ((op ≡ Shr) × (fits t p ≡ true))
 stays_cases And t p q e = let both = and_parts (fits t p) (fits t q) e in inl (tt, both.0, both.1)
 stays_cases Or t p q e = let both = and_parts (fits t p) (fits t q) e in inl (tt, both.0, both.1)
 stays_cases Xor t p q e = let both = and_parts (fits t p) (fits t q) e in inl (tt, both.0, both.1)
@@ -145,7 +150,8 @@ pub typed_under : (op : NOp) (t : IntType) (r s found : Range) (p q u : Span) �
     → NoWider found (range_of u)
 typed_under op t r s found p q u w k e whole bits shift = ⊎_elim whole
     (λ (h : (stays op t p q ≡ true) × (u ≡ type_span t)). subst (λ (v : Span). NoWider found (range_of v)) (sym h.1) (⊎_elim
-    (λ (g : IsLogical op × (fits t p ≡ true) × (fits t q ≡ true)). bits g.0 (wider r (range_of p) (range_of (type_span t)) w (fits_inside t p g.1)) (wider s (range_of q) (range_of (type_span t)) k (fits_inside t q g.2)))
+    (λ (g : IsLogical op × (fits t p ≡ true) × (fits t q ≡ true)). bits g.0 (wider r (range_of p) (range_of (type_span t)) w (fits_inside t p g.1))
+    (wider s (range_of q) (range_of (type_span t)) k (fits_inside t q g.2)))
     (λ (g : (op ≡ Shr) × (fits t p ≡ true)). shift g.0 (wider r (range_of p) (range_of (type_span t)) w (fits_inside t p g.1)))
     (stays_cases op t p q h.0)))
     (of_cases (stays op t p q) t (binary_span op p q) u e)

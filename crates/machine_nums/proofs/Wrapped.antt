@@ -56,7 +56,8 @@ taken_kept t r w = record {
 pub kept_point : (t : IntType) (r : Range) (n : ℤ) → NoWider r (range_of (type_span t)) → IsPoint r n → IsPoint r (wrapped t n)
 kept_point t r n w p = subst (IsPoint r) (sym (wrapped-has t n (inside_has t r n w (point_holds r n p)))) p
 
-module _ (t : IntType) (r : Range) (lo hi low shift high : ℤ) (is : r.lo ≡ Fin lo) (also : r.hi ≡ Fin hi) (first : low ≡ wrapped t lo) (moved : shift ≡ low -ℤ lo) (last : high ≡ hi +ℤ shift) (fit : high ≤ℤ pos (greatest t)) where
+module _ (t : IntType) (r : Range) (lo hi low shift high : ℤ) (is : r.lo ≡ Fin lo) (also : r.hi ≡ Fin hi) (first : low ≡ wrapped t lo)
+    (moved : shift ≡ low -ℤ lo) (last : high ≡ hi +ℤ shift) (fit : high ≤ℤ pos (greatest t)) where
   has : (n : ℤ) → InRange r n → (low ≤ℤ (n +ℤ shift)) × ((n +ℤ shift) ≤ℤ high)
   has n i =
       let above : lo ≤ℤ n = subst (λ (e : Ext). Below e n) is i.low in
@@ -104,7 +105,8 @@ taken_point t r s n m p e f =
     record {
       right = same;
       holds = λ k i. subst (λ (x : Range). InRange x (wrapped t k)) (sym f) (in_point m (wrapped t k) (sym (same k i)));
-      inside = subst (λ (x : Range). NoWider x (range_of (type_span t))) (sym (f ∙ ap (λ (x : ℤ). range_of (point x)) e)) (record { low = ends.0; high = ends.1 });
+      inside = subst (λ (x : Range). NoWider x (range_of (type_span t))) (sym (f ∙ ap (λ (x : ℤ). range_of (point x)) e))
+          (record { low = ends.0; high = ends.1 });
     }
 
 pub point_point : (t : IntType) (r s : Range) (n m k : ℤ) → IsPoint r n → m ≡ wrapped t n → s ≡ range_of (point m) → IsPoint r k → IsPoint s (wrapped t k)
@@ -118,5 +120,6 @@ pub like_product_off : (x y : ℤ) → IsMultiple (pos (2 ^ 64)) ((wrapped LLong
 like_product_off x y =
     let m = pos (2 ^ 64) in let a = wrapped LLong x in let b = wrapped LLong y in
     off_from_in (x *ℤ y) m (a *ℤ b)
-    (in_product x m y m (pos 1) (pos 1) m a b (times_multiple m m (pos 1) (self_multiple m)) (multiple_times m (pos 1) m (self_multiple m)) (x, omega (arith, ints)) (b, omega (arith, ints))
+    (in_product x m y m (pos 1) (pos 1) m a b (times_multiple m m (pos 1) (self_multiple m)) (multiple_times m (pos 1) m (self_multiple m))
+    (x, omega (arith, ints)) (b, omega (arith, ints))
     (in_from_off x m a (wrapped_moves LLong x)) (in_from_off y m b (wrapped_moves LLong y)))

@@ -33,7 +33,8 @@ pub record IsWrappedPart (t : IntType) (before after : Part) : Type 0 where
   pub tells : (v : List ℤ) (n : ℤ) → Tells v before n → Tells v after (wrapped t n)
   pub shows : (known : ℕ → Range) (v : List ℤ) (n : ℤ) → Tells v before n → Shows known v before n → Shows known v after (wrapped t n)
   pub inside : NoWider after.range (range_of (type_span t))
-  pub kept : NoWider before.range (range_of (type_span t)) → (nexpr_tree after.plain ≡ nexpr_tree before.plain) × (after.range ≡ before.range) × (after.is_kept ≡ before.is_kept)
+  pub kept : NoWider before.range (range_of (type_span t)) → (nexpr_tree after.plain ≡ nexpr_tree before.plain) × (after.range ≡ before.range)
+      × (after.is_kept ≡ before.is_kept)
   pub as_it_was : after.is_kept ≡ true → (nexpr_tree after.plain ≡ nexpr_tree before.plain) × (before.is_kept ≡ true)
 
 -- a product of numbers from -2^63 to 2^63 - 1 that are those of two parts up to multiples of 2^64
@@ -54,7 +55,8 @@ pub record IsTold (admits : List ℤ → Type 0) (exact : Bool) (known : ℕ →
 
 -- ---- of a state that admits valuations and knows a range for each variable, what a part says of the exact result of the outermost node
 
-pub record IsResult (admits : List ℤ → Type 0) (exact : Bool) (known : ℕ → Range) (may : NExprTree → Range → Type 0) (e : MExprTree) (part : Part) : Type 0 where
+pub record IsResult (admits : List ℤ → Type 0) (exact : Bool) (known : ℕ → Range) (may : NExprTree → Range → Type 0) (e : MExprTree)
+    (part : Part) : Type 0 where
   pub holds : (v : List ℤ) (n : ℤ) → admits v → exact_value v e ≡ Some n → Tells v part n
   pub shows : (v : List ℤ) (n : ℤ) → IsTrue exact → admits v → OnVariables (IsSharp known v) e → PartsFit v e → FitsSigned w128 n → exact_value v e ≡ Some n
       → Shows known v part n
@@ -66,7 +68,8 @@ pub record IsResult (admits : List ℤ → Type 0) (exact : Bool) (known : ℕ �
 -- and of the value
 pub record IsValue (admits : List ℤ → Type 0) (exact : Bool) (known : ℕ → Range) (may : NExprTree → Range → Type 0) (e : MExprTree) (part : Part) : Type 0 where
   pub holds : (v : List ℤ) (n : ℤ) → admits v → machine_value v e ≡ Some n → Tells v part n
-  pub shows : (v : List ℤ) (n : ℤ) → IsTrue exact → admits v → OnVariables (IsSharp known v) e → PartsFit v e → machine_value v e ≡ Some n → Shows known v part n
+  pub shows : (v : List ℤ) (n : ℤ) → IsTrue exact → admits v → OnVariables (IsSharp known v) e → PartsFit v e → machine_value v e ≡ Some n
+      → Shows known v part n
   pub plain : (given : ℕ → Range) → IsTrue exact → IsUnder known given → NoWider part.range (range_of (value_span given e))
   pub variable : (given : ℕ → Range) (x : ℕ) → IsTrue exact → IsUnder known given → side_variable given e ≡ Some x → nexpr_tree part.plain ≡ Read x
   pub kept : part.is_kept ≡ true → nexpr_tree part.plain ≡ untyped e

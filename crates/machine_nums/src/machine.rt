@@ -134,7 +134,7 @@ impl<D: NumDomain> Machine<D> {
     }
 
     /// A range and a class that hold the exact result of the outermost node, which is not wrapped. Of a void
-    /// machine both hold nothing but 0.
+    /// machine the range holds no number, and the class 0 alone.
     pub fn check_range(&self, e: &MExpr) -> Result<(Range, Residue), NoMemory>
         ensures holds { IfOk result (λ found. (v : List ℤ) (n : ℤ) → Admits D.admits self.now v → exact_value v (mexpr_tree e.now) ≡ Some n
             → InRange found.0 n × InResidue found.1 n) }

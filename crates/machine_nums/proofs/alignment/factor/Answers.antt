@@ -15,7 +15,8 @@ returns-in-Const-clause-divides c = λ v n q.
     let own : FitsSigned w128 c.in-Const.n = search rules in
     let same = to_z-of_z w128 c.alignment.result fits in
     subst (λ (x : ℤ). IsMultiple x n) (sym same)
-    (const_multiple v c.in-Const.field-0 c.in-Const.n c.alignment.result n c.alignment.ensures.one (subst (IsMultiple c.alignment.result) (to_z-of_z w128 c.in-Const.n own) c.alignment.ensures.divides)
+    (const_multiple v c.in-Const.field-0 c.in-Const.n c.alignment.result n c.alignment.ensures.one
+    (subst (IsMultiple c.alignment.result) (to_z-of_z w128 c.in-Const.n own) c.alignment.ensures.divides)
     (subst (λ (e : MExprTree). machine_value v e ≡ Some n) tree q))
 
 pub returns-in-Const-clause-constant : goal.returns-in-Const-clause-constant
@@ -24,7 +25,8 @@ returns-in-Const-clause-constant c = λ t n d q one h.
     let fits : FitsSigned w128 c.alignment.result = search rules in
     let own : FitsSigned w128 c.in-Const.n = search rules in
     let is = const_same c.in-Const.field-0 t c.in-Const.n n (sym tree ∙ q) in
-    subst (IsMultiple d) (sym (to_z-of_z w128 c.alignment.result fits)) (c.alignment.ensures.greatest d one (subst (IsMultiple d) (sym (to_z-of_z w128 c.in-Const.n own ∙ is)) h))
+    subst (IsMultiple d) (sym (to_z-of_z w128 c.alignment.result fits))
+    (c.alignment.ensures.greatest d one (subst (IsMultiple d) (sym (to_z-of_z w128 c.in-Const.n own ∙ is)) h))
 
 pub returns-in-Read-clause-divides : goal.returns-in-Read-clause-divides
 returns-in-Read-clause-divides c = λ v n q. by_one n

@@ -12,7 +12,8 @@ returns-then-a-b-clause-divides c = λ n m h k.
 
 pub returns-then-a-b-clause-first : goal.returns-then-a-b-clause-first
 returns-then-a-b-clause-first c =
-    subst (IsMultiple c.args.a) (sym (to_z-of_z w128 c.args.b c.ranges.b)) (lesser_divides c.args.a c.args.b c.requires.first c.requires.second (omega (arith, ints, c.if-a-b.true)))
+    subst (IsMultiple c.args.a) (sym (to_z-of_z w128 c.args.b c.ranges.b))
+    (lesser_divides c.args.a c.args.b c.requires.first c.requires.second (omega (arith, ints, c.if-a-b.true)))
 
 pub returns-then-a-b-clause-second : goal.returns-then-a-b-clause-second
 returns-then-a-b-clause-second c = subst (IsMultiple c.args.b) (sym (to_z-of_z w128 c.args.b c.ranges.b)) (self_multiple c.args.b)
@@ -26,4 +27,5 @@ returns-else-a-b-clause-first c = subst (IsMultiple c.args.a) (sym (to_z-of_z w1
 
 pub returns-else-a-b-clause-second : goal.returns-else-a-b-clause-second
 returns-else-a-b-clause-second c =
-    subst (IsMultiple c.args.b) (sym (to_z-of_z w128 c.args.a c.ranges.a)) (lesser_divides c.args.b c.args.a c.requires.second c.requires.first (omega (arith, ints, c.if-a-b.false)))
+    subst (IsMultiple c.args.b) (sym (to_z-of_z w128 c.args.a c.ranges.a))
+    (lesser_divides c.args.b c.args.a c.requires.second c.requires.first (omega (arith, ints, c.if-a-b.false)))

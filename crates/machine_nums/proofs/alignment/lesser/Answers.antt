@@ -11,14 +11,16 @@ returns-then-a-b-clause-divides_first c = subst (λ (x : ℤ). IsMultiple x c.ar
 
 pub returns-then-a-b-clause-divides_second : goal.returns-then-a-b-clause-divides_second
 returns-then-a-b-clause-divides_second c =
-    subst (λ (x : ℤ). IsMultiple x c.args.b) (sym (to_z-of_z w128 c.args.a c.ranges.a)) (lesser_divides c.args.a c.args.b c.requires.first c.requires.second (omega (arith, ints, c.if-a-b.true)))
+    subst (λ (x : ℤ). IsMultiple x c.args.b) (sym (to_z-of_z w128 c.args.a c.ranges.a))
+    (lesser_divides c.args.a c.args.b c.requires.first c.requires.second (omega (arith, ints, c.if-a-b.true)))
 
 pub returns-then-a-b-clause-greatest : goal.returns-then-a-b-clause-greatest
 returns-then-a-b-clause-greatest c = λ d h k. subst (IsMultiple d) (sym (to_z-of_z w128 c.args.a c.ranges.a)) h
 
 pub returns-else-a-b-clause-divides_first : goal.returns-else-a-b-clause-divides_first
 returns-else-a-b-clause-divides_first c =
-    subst (λ (x : ℤ). IsMultiple x c.args.a) (sym (to_z-of_z w128 c.args.b c.ranges.b)) (lesser_divides c.args.b c.args.a c.requires.second c.requires.first (omega (arith, ints, c.if-a-b.false)))
+    subst (λ (x : ℤ). IsMultiple x c.args.a) (sym (to_z-of_z w128 c.args.b c.ranges.b))
+    (lesser_divides c.args.b c.args.a c.requires.second c.requires.first (omega (arith, ints, c.if-a-b.false)))
 
 pub returns-else-a-b-clause-divides_second : goal.returns-else-a-b-clause-divides_second
 returns-else-a-b-clause-divides_second c = subst (λ (x : ℤ). IsMultiple x c.args.b) (sym (to_z-of_z w128 c.args.b c.ranges.b)) (self_multiple c.args.b)

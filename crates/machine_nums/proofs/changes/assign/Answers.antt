@@ -17,7 +17,8 @@ returns-clause-sharp_here g c = IfOk-weaker c.accept.result _ _ (λ live h v n e
     let here = c.in_ok-assign.ensures.sharp_here v n ex ad tt shown.sharp shown.fits tells.value in
     let known = g.D.Oracle.known in
     subst (IsPoint (known c.accept.new.self x)) set.here
-    (h w x ex after (subst (InRange c.args.part.now.range) (sym set.here) tells.holds) (subst (IsPoint (known c.assign.new.self x)) (sym set.here) here))) c.accept.ensures.sharp
+    (h w x ex after (subst (InRange c.args.part.now.range) (sym set.here) tells.holds)
+    (subst (IsPoint (known c.assign.new.self x)) (sym set.here) here))) c.accept.ensures.sharp
 
 pub returns-clause-sharp_others : goal.returns-clause-sharp_others
 returns-clause-sharp_others g c = IfOk-weaker c.accept.result _ _ (λ live h v n y ex ad tells shown apart s.
@@ -26,7 +27,8 @@ returns-clause-sharp_others g c = IfOk-weaker c.accept.result _ _ (λ live h v n
     let here = c.in_ok-assign.ensures.sharp_others v n y ex ad tt shown.sharp shown.fits tells.value apart s in
     let known = g.D.Oracle.known in
     subst (IsPoint (known c.accept.new.self y)) (set.others y apart)
-    (h w y ex after (subst (InRange c.args.part.now.range) (sym set.here) tells.holds) (subst (IsPoint (known c.assign.new.self y)) (sym (set.others y apart)) here))) c.accept.ensures.sharp
+    (h w y ex after (subst (InRange c.args.part.now.range) (sym set.here) tells.holds)
+    (subst (IsPoint (known c.assign.new.self y)) (sym (set.others y apart)) here))) c.accept.ensures.sharp
 
 pub returns-clause-plain : goal.returns-clause-plain
 returns-clause-plain g c = ok_both _ _ _ c.accept.result c.accept.ensures.plain c.accept.ensures.cut (λ live plain cut given ex u is.

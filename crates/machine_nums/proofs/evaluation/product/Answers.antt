@@ -14,9 +14,11 @@ use Rattle.machine_nums.proofs.evaluation.product.Goals as goal
 pub returns-in-None : goal.returns-in-None
 returns-in-None g c =
     let a = c.args.a in let b = c.args.b in
-    let none = subst (λ (o : Option Part). IfNone o ((x y : ℤ) → InRange a.range x → InRange b.range y → FitsSigned w128 (x *ℤ y))) c.in-None.is c.in_ok-like.ensures.none in
+    let none = subst (λ (o : Option Part). IfNone o ((x y : ℤ) → InRange a.range x → InRange b.range y → FitsSigned w128 (x *ℤ y))) c.in-None.is
+    c.in_ok-like.ensures.none in
     IfOk-weaker c.wrapped.result _ _ (λ p w d e left right.
-    value_wrapped _ _ _ _ (Binary Mul c.args.t d e) c.in_ok-exact.exact p (c.in_ok-exact.ensures d e left right) w (λ v n ad f q. fit_product _ _ _ _ c.args.t d e a b left right none v n ad q)) c.wrapped.ensures
+    value_wrapped _ _ _ _ (Binary Mul c.args.t d e) c.in_ok-exact.exact p (c.in_ok-exact.ensures d e left right) w
+    (λ v n ad f q. fit_product _ _ _ _ c.args.t d e a b left right none v n ad q)) c.wrapped.ensures
 
 pub returns-then-is_bounded : goal.returns-then-is_bounded
 returns-then-is_bounded g c =
@@ -30,4 +32,5 @@ returns-else-is_bounded g c =
     let a = c.args.a in let b = c.args.b in
     let like = subst (λ (o : Option Part). IfSome o (IsLike a b)) c.in-Some.is c.in_ok-like.ensures.like in
     IfOk-weaker c.wrapped-else-is_bounded.result _ _ (λ p w d e left right.
-    value_like _ _ _ _ c.args.t d e a b c.in_ok-exact.exact c.in-Some.like p left right (c.in_ok-exact.ensures d e left right) (c.is_bounded.ensures.not c.if-is_bounded.false) like w) c.wrapped-else-is_bounded.ensures
+    value_like _ _ _ _ c.args.t d e a b c.in_ok-exact.exact c.in-Some.like p left right (c.in_ok-exact.ensures d e left right)
+    (c.is_bounded.ensures.not c.if-is_bounded.false) like w) c.wrapped-else-is_bounded.ensures

@@ -16,7 +16,8 @@ pub returns-clause-void : goal.returns-clause-void
 returns-clause-void g c = c.marked.ensures.void ∙ ap (λ l. not (is_live l)) (sym c.marked.ensures.answer)
 
 pub returns-clause-sharp : goal.returns-clause-sharp
-returns-clause-sharp g c = λ v y ex ad k s. subst (λ m. IsSharp (g.D.Oracle.known m) v y) (sym c.marked.ensures.state) (c.in_ok-live.ensures.sharp v y ex ad.1 k s)
+returns-clause-sharp g c = λ v y ex ad k s. subst (λ m. IsSharp (g.D.Oracle.known m) v y) (sym c.marked.ensures.state)
+    (c.in_ok-live.ensures.sharp v y ex ad.1 k s)
 
 pub returns-clause-plain : goal.returns-clause-plain
 returns-clause-plain g c = λ given ex u void.
@@ -24,4 +25,5 @@ returns-clause-plain g c = λ given ex u void.
 
 pub returns-clause-cut : goal.returns-clause-cut
 returns-clause-cut g c = λ x r ex e is.
-    subst (λ m. NoWider (g.D.Oracle.known m x.0) r) (sym c.marked.ensures.state) (c.in_ok-live.ensures.cut x r ex e (subst (λ l. IsTrue (is_live l)) c.marked.ensures.answer is))
+    subst (λ m. NoWider (g.D.Oracle.known m x.0) r) (sym c.marked.ensures.state)
+    (c.in_ok-live.ensures.cut x r ex e (subst (λ l. IsTrue (is_live l)) c.marked.ensures.answer is))

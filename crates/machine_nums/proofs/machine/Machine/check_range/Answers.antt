@@ -20,8 +20,13 @@ returns-then-self-clause-fold g c = λ d ex one h. record { rem = zero_multiple 
 pub returns-then-part-clause-own : goal.returns-then-part-clause-own
 returns-then-part-clause-own g c = λ void.
     let part = c.in_ok-part.part in let e = mexpr_tree c.args.e.now in let s = c.args.self.now.state in
-    own_map (g.D.Oracle.may_range s) e (λ r. (part.is_kept ≡ true) × NoWider part.range r) (λ r. NoWider part.range r × g.D.Oracle.may_residue s (untyped e) c.residue-class.result)
-    (λ r p. (p.1, subst (λ (t : NExprTree). g.D.Oracle.may_residue s t c.residue-class.result) (c.in_ok-part.ensures.kept p.0) c.residue-class.ensures.answer)) c.in_ok-part.ensures.own
+    own_map (g.D.Oracle.may_range s) e (λ r. (part.is_kept ≡ true) × NoWider part.range r)
+    (λ r. NoWider part.range r × g.D.Oracle.may_residue s (untyped e) c.residue-class.result)
+    (λ r p. (
+      p.1,
+      subst (λ (t : NExprTree). g.D.Oracle.may_residue s t c.residue-class.result)
+          (c.in_ok-part.ensures.kept p.0) c.residue-class.ensures.answer,
+    )) c.in_ok-part.ensures.own
 
 pub returns-then-part-clause-fold : goal.returns-then-part-clause-fold
 returns-then-part-clause-fold g c = λ d ex one h.
@@ -45,14 +50,16 @@ returns-clause-plain g c = λ given s ex u q f. c.in_ok-part.ensures.plain given
 pub returns-clause-own : goal.returns-clause-own
 returns-clause-own g c = λ void.
     let part = c.in_ok-part.part in let e = mexpr_tree c.args.e.now in let s = c.args.self.now.state in
-    own_map (g.D.Oracle.may_range s) e (λ r. (part.is_kept ≡ true) × NoWider part.range r) (λ r. NoWider part.range r × g.D.Oracle.may_residue s (untyped e) c.multiples.result)
+    own_map (g.D.Oracle.may_range s) e (λ r. (part.is_kept ≡ true) × NoWider part.range r)
+    (λ r. NoWider part.range r × g.D.Oracle.may_residue s (untyped e) c.multiples.result)
     (λ r p. absurd (false≢true (sym c.if-part.false ∙ p.0))) c.in_ok-part.ensures.own
 
 pub returns-clause-fold : goal.returns-clause-fold
 returns-clause-fold g c = λ d ex one h.
     let fits : FitsSigned w128 c.fold_of.result = search rules in
     let same = to_z-of_z w128 c.fold_of.result fits in
-    fold_coarser d c.fold_of.result c.multiples.result (c.fold_of.ensures.greatest d one h) (subst (λ (k : ℤ). IsFoldResidue k c.multiples.result) same c.multiples.ensures.fold)
+    fold_coarser d c.fold_of.result c.multiples.result (c.fold_of.ensures.greatest d one h)
+    (subst (λ (k : ℤ). IsFoldResidue k c.multiples.result) same c.multiples.ensures.fold)
 
 pub multiples-requires : goal.multiples-requires
 multiples-requires g c =

@@ -14,4 +14,5 @@ returns-clause-sharp_others g c = IfOk-weaker c.havoc.result _ _ (λ u h v y ex 
 
 pub returns-clause-plain : goal.returns-clause-plain
 returns-clause-plain g c = IfOk-weaker c.havoc.result _ _ (λ u h given ex under void.
-    subst (λ (r : Range). IsUnder (g.D.Oracle.known c.havoc.new.self) (with_range given c.args.x.0 r)) c.type_range.ensures.value (h given ex (under void))) c.havoc.ensures.plain
+    subst (λ (r : Range). IsUnder (g.D.Oracle.known c.havoc.new.self) (with_range given c.args.x.0 r)) c.type_range.ensures.value
+    (h given ex (under void))) c.havoc.ensures.plain

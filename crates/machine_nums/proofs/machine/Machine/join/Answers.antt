@@ -10,12 +10,14 @@ pub returns-then-self-clause-left : goal.returns-then-self-clause-left
 returns-then-self-clause-left g c = IfOk-weaker c.take.result _ _ (λ u h v ad. absurd (false≢true (sym ad.0 ∙ c.if-self.true))) c.take.ensures.state
 
 pub returns-then-self-clause-right : goal.returns-then-self-clause-right
-returns-then-self-clause-right g c = ok_both _ _ _ c.take.result c.take.ensures.state c.take.ensures.void (λ u state void v ad. (void ∙ ad.0, subst (λ s. g.D.Oracle.admits s v) (sym state) ad.1))
+returns-then-self-clause-right g c = ok_both _ _ _ c.take.result c.take.ensures.state c.take.ensures.void
+    (λ u state void v ad. (void ∙ ad.0, subst (λ s. g.D.Oracle.admits s v) (sym state) ad.1))
 
 pub returns-then-self-clause-plain : goal.returns-then-self-clause-plain
 returns-then-self-clause-plain g c = ok_both _ _ _ c.take.result c.take.ensures.state c.take.ensures.void (λ r state void given found ex u w is x.
     let known = g.D.Oracle.known in
-    subst (λ s. NoWider (known s x) (hull (given x) (found x))) (sym state) (hull_second (known c.args.other.now.state x) (found x) (given x) (w (sym void ∙ is) x)))
+    subst (λ s. NoWider (known s x) (hull (given x) (found x))) (sym state)
+    (hull_second (known c.args.other.now.state x) (found x) (given x) (w (sym void ∙ is) x)))
 
 pub returns-then-self-clause-of_void : goal.returns-then-self-clause-of_void
 returns-then-self-clause-of_void g c = ok_both _ _ _ c.take.result c.take.ensures.state c.take.ensures.void (λ u state void e. (state, void))

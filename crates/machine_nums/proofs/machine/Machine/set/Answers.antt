@@ -37,7 +37,8 @@ returns-clause-plain g c = λ given ex u void.
 pub returns-clause-own : goal.returns-clause-own
 returns-clause-own g c = λ was.
     let part = c.in_ok-part.part in let x = c.args.x.0 in let known = g.D.Oracle.known in
-    own_inside (g.D.Oracle.may_range c.args.self.now.state) (mexpr_tree c.args.e.now) part (λ r. IsTrue g.D.Oracle.exact → c.marked.new.self.is_void ≡ false → NoWider (known c.marked.new.self.state x) r)
+    own_inside (g.D.Oracle.may_range c.args.self.now.state) (mexpr_tree c.args.e.now) part
+    (λ r. IsTrue g.D.Oracle.exact → c.marked.new.self.is_void ≡ false → NoWider (known c.marked.new.self.state x) r)
     (λ r p ex void.
     let old = known c.args.self.now.state in
     let live = not-false _ (sym c.marked.ensures.void ∙ void) in

@@ -23,7 +23,8 @@ pub returns-clause-void : goal.returns-clause-void
 returns-clause-void g c = c.marked.ensures.void ∙ ap (λ l. not (is_live l)) (sym c.marked.ensures.answer)
 
 pub returns-clause-sharp_dead : goal.returns-clause-sharp_dead
-returns-clause-sharp_dead g c = λ v n ex ad on fit q f. subst (λ l. is_live l ≡ false) (sym c.marked.ensures.answer) (c.in_ok-live.ensures.sharp_dead v n ex ad.1 on fit q f)
+returns-clause-sharp_dead g c = λ v n ex ad on fit q f. subst (λ l. is_live l ≡ false) (sym c.marked.ensures.answer)
+    (c.in_ok-live.ensures.sharp_dead v n ex ad.1 on fit q f)
 
 pub returns-clause-sharp_live : goal.returns-clause-sharp_live
 returns-clause-sharp_live g c = λ v n y ex ad on fit q is k.
@@ -31,7 +32,8 @@ returns-clause-sharp_live g c = λ v n y ex ad on fit q is k.
     (c.in_ok-live.ensures.sharp_live v n y ex ad.1 on fit q (subst (λ l. IsTrue (is_live l)) c.marked.ensures.answer is) k)
 
 pub returns-clause-plain_dead : goal.returns-clause-plain_dead
-returns-clause-plain_dead g c = λ given ex u e. subst (λ l. is_live l ≡ false) (sym c.marked.ensures.answer) (c.in_ok-live.ensures.plain_dead given ex (u c.if-self.false) e)
+returns-clause-plain_dead g c = λ given ex u e. subst (λ l. is_live l ≡ false) (sym c.marked.ensures.answer)
+    (c.in_ok-live.ensures.plain_dead given ex (u c.if-self.false) e)
 
 pub returns-clause-plain_live : goal.returns-clause-plain_live
 returns-clause-plain_live g c = λ given ex u void.
@@ -41,6 +43,7 @@ returns-clause-plain_live g c = λ given ex u void.
 pub returns-clause-own : goal.returns-clause-own
 returns-clause-own g c = λ was.
     let e = mexpr_tree c.args.e.now in
-    own_map (g.D.Oracle.may_range c.args.self.now.state) e (λ r. IsInside (type_of e) r → (s : Span) → NoWider r (range_of s) → IsTrue (excludes c.args.truth s) → is_live c.in_ok-live.live ≡ false)
+    own_map (g.D.Oracle.may_range c.args.self.now.state) e
+    (λ r. IsInside (type_of e) r → (s : Span) → NoWider r (range_of s) → IsTrue (excludes c.args.truth s) → is_live c.in_ok-live.live ≡ false)
     (λ r. IsInside (type_of e) r → (s : Span) → NoWider r (range_of s) → IsTrue (excludes c.args.truth s) → is_live c.marked.result ≡ false)
     (λ r h i s w k. subst (λ l. is_live l ≡ false) (sym c.marked.ensures.answer) (h i s w k)) c.in_ok-live.ensures.own

@@ -20,4 +20,5 @@ returns-clause-no_rise g c = weight_stays _ _ c.args.self.now.is_void c.in_ok-wi
 
 pub returns-clause-falls : goal.returns-clause-falls
 returns-clause-falls g c = λ e.
-    weight_falls _ _ c.args.self.now.is_void _ c.in_ok-widen.ensures.no_rise c.in_ok-widen.ensures.falls (not_void_held c.args.next.now.is_void _ c.if-next.false e)
+    weight_falls _ _ c.args.self.now.is_void _ c.in_ok-widen.ensures.no_rise c.in_ok-widen.ensures.falls
+    (not_void_held c.args.next.now.is_void _ c.if-next.false e)
