@@ -1,0 +1,5 @@
+mod Calls
+mod Fuel
+mod Turns
+mod Rows
+mod Variants

@@ -1,0 +1,9 @@
+use Rattle.std.proofs.Common.{ℕ, ◌<◌, ◌≡◌, length, drop}
+use Rattle.std.specs.Prelude.{All}
+use Rattle.csharp_runs.proofs.runs.are_there.Given as goal
+
+-- the names that are left decide for all
+abbrev pub invariant-loop-name : goal.invariant-loop-name
+invariant-loop-name l =
+    (l.count ≡ length l.objects) × (All (λ (name : ℕ). name < length l.objects) (drop l.name-index l.names)
+    → All (λ (name : ℕ). name < length l.objects) l.names)

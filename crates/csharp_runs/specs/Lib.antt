@@ -1,0 +1,3 @@
+pub mod Told
+pub mod Shapes
+pub mod Stages

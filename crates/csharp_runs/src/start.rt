@@ -1,0 +1,31 @@
+// Runs of main.
+
+ghost use Rattle.std.specs.Prelude.{◌≡◌, IfOk};
+ghost use Rattle.csharp.specs.Trees.{csprogram_tree};
+ghost use Rattle.csharp_runs.specs.Stages.{main_of};
+ghost use Rattle.csharp_runs.specs.Told.{over_of, told};
+
+use crate::outcome::{Limits, Outcome};
+use crate::runs::exec;
+use csharp::CsProgram;
+use csharp_acts::{State, Unanswered};
+use std::alloc::Global;
+
+/// Runs main on these inputs, as far as it may go: the outcome, with the state behind it.
+pub fn run(
+    alloc: Global,
+    program: &CsProgram,
+    limits: Limits,
+    inputs: &[i128],
+) -> Result<(Outcome, State), Unanswered>
+    ensures { IfOk result (λ end. told end.0 end.1 ≡ main_of (over_of limits.turns) (csprogram_tree program.now) limits.fuel inputs.now) }
+{
+    let mut state = State::first(alloc, program, inputs)?;
+    match program.functions.as_slice().get(program.main as usize) {
+        Some(main) => {
+            let outcome = exec(alloc, program, limits, &main.body, &mut state)?;
+            Ok((outcome, state))
+        }
+        None => Ok((Outcome::Stuck, state)),
+    }
+}
