@@ -18,7 +18,7 @@ one_then object (Copy offset extent source) inits work = refl
 
 pub one_more_init : (object : ℕ) (inits : List SharedInit) (k : ℕ) (init : SharedInit) (work : List Item) → k < length inits → init ≡ get_or inits k init
     → init_items object (inits_from (init ∷ [])) (init_items object (inits_from (drop (k + 1) inits)) work)
-      ≡ init_items object (inits_from (drop k inits)) work
+    ≡ init_items object (inits_from (drop k inits)) work
 one_more_init object inits k init work below is =
     one_then object (init_tree init) (inits_from (drop (k + 1) inits)) work
     ∙ ap (λ x. init_items object (init_tree x ∷ inits_from (drop (k + 1) inits)) work) is

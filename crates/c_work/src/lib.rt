@@ -16,7 +16,7 @@
 //! | parts of expressions, from left to right | `Expressions`, `Calls` | `put_parts`, `value_scalar`, `place_scalar`, `end_of_call` |
 //! | items of blocks, and marks among them | `Marks` | `put_items`, `Mark::find` |
 //! | parts of statements and initialisers | `Statements` | `put_block`, `put_for`, `put_branches`, `put_inits`, `Loop::of_condition`, `Loop::of_for` |
-#![tactic(auto, using(crate::proofs::Lists::the_lists))]
+#![tactic(auto)]
 
 mod ends;
 mod evaluations;

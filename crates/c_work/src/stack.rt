@@ -1,4 +1,5 @@
 // What stands on the stack.
+#![tactic(auto, using(crate::proofs::Lists::the_lists))]
 
 use block_mem::Value;
 use c_syntax::Pos;

@@ -1,4 +1,5 @@
 // The work that is left.
+#![tactic(auto, using(crate::proofs::Lists::the_lists))]
 
 use crate::items::Item;
 use std::alloc::{AllocError as NoMemory, Global};
