@@ -12,7 +12,7 @@ use Rattle.c_syntax.specs.declared.statement.TStmt.{TStmt}
 use Rattle.c_syntax.specs.declared.statement.TStmt.TheVariants as sources
 use Rattle.c_syntax.specs.declared.statement.TStmts.{TStmts}
 use Rattle.c_syntax.specs.Sizes.{tstmt_size, tstmts_size}
-use Rattle.c_syntax.specs.TypedExpr.{TExprTrees, TExprTree, texpr_tree, texprs_from, texprs_then, none, more}
+use Rattle.c_syntax.specs.TypedExpr.{texpr_tree, texprs_from, texprs_then, more}
 use Rattle.c_syntax.specs.TypedStmt.{TInitTree, TStmtTree, TStmtTrees, tinit_tree, tstmt_tree, tstmts_from, tstmts_then, tstmts_tree}
 use Rattle.c_syntax.specs.TypedStmt as stmts
 use Rattle.c_syntax.proofs.TypedExprTrees.{texprs_push}

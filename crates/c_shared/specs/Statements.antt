@@ -1,5 +1,5 @@
 -- The trees of typed statements whose parts are shared.
-use Rattle.std.specs.Prelude.{ℕ, ℤ, Bool, List, [], ◌∷◌, map, Option, option_map}
+use Rattle.std.specs.Prelude.{List, [], ◌∷◌, map, Option, option_map}
 use Rattle.std.specs.declared.rc.Rc.{Rc}
 use Rattle.std.specs.declared.alloc.Global.{Global}
 use Rattle.c_syntax.specs.Types.{ctype_tree}

@@ -5,7 +5,7 @@ use Rattle.std.specs.declared.alloc.Global.{Global}
 use Rattle.std.proofs.Math.ListN.{drop_of_length-le}
 use Rattle.std.proofs.Math.Seq.{drop-length}
 use Rattle.std.proofs.lemmas.List.{drop_more}
-use Rattle.c_syntax.specs.TypedStmt.{TStmtTree, TStmtTrees, more}
+use Rattle.c_syntax.specs.TypedStmt.{more}
 use Rattle.c_shared.specs.declared.statement.SharedStmt.{SharedStmt}
 use Rattle.c_shared.specs.Statements.{stmt_tree, stmts_from}
 use Rattle.c_shared.proofs.SharedStmtTrees.{stmts_nil, stmts_cons}

@@ -1,6 +1,5 @@
 -- Work items, and what is held, as the definition of the machine has them; of both lists the code's end is the front.
-use Rattle.std.specs.Prelude.{List, [], ◌∷◌, Option, Some, None}
-use Rattle.c_values.specs.declared.values.Given.{Given}
+use Rattle.std.specs.Prelude.{List, [], ◌∷◌}
 use Rattle.c_shared.specs.Expressions.{expr_tree, place_tree}
 use Rattle.c_shared.specs.Statements.{inits_tree, option_tree, stmt_tree, stmts_tree}
 use Rattle.c_steps.specs.Work.{Item, AtEnd, GivesNothing, GivesZero, IsWrong, Loop, Eval, Addr, LoadAt, StoreAt, Named, CopyAt, Modify, StepAt, Un, Bin}

@@ -1,4 +1,4 @@
-use Rattle.std.proofs.Common.{◌≡◌, ◌+◌, true, false, sym, ap, ◌∙◌, arith}
+use Rattle.std.proofs.Common.{◌≡◌, true, false, sym, ap, ◌∙◌, arith}
 use Rattle.c_shared.specs.declared.statement.SharedStmt.{SharedStmt}
 use Rattle.c_shared.specs.Statements.{stmt_tree}
 use Rattle.c_steps.specs.Marks.{is_mark}
