@@ -1,5 +1,7 @@
-//! A small domain of memory that knows a range for each temporary and nothing of objects: an instance of
-//! `mem_api`'s trait in which no law is empty.
+//! Ranges of expressions, their exact results, and what is shown of them and passes a check, where a range is known
+//! for each temporary and nothing of objects.
+//!
+//! In `x + 1` where `x` lies in [0, 4], the value lies in [1, 5]; where `x` is 4, it is the point 5.
 #![tactic(auto)]
 
 mod checks;
