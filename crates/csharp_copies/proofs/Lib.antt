@@ -1,0 +1,2 @@
+mod Variants
+mod Copied
