@@ -1,6 +1,6 @@
 -- What is shown of checks by their kind, and which numbers are allowed.
-use Rattle.std.proofs.Common.{◌≡◌, ◌≤ℤ◌, ◌<ℤ◌, ◌⊎◌, inl, inr, ℕ, ℤ, pos, arith, refl, sym, subst, ap, ◌∙◌, Bool, true, false, List, [], ◌∷◌}
-use Rattle.std.specs.Prelude.{IsTrue, ◌||◌, int_lt}
+use Rattle.std.proofs.Common.{◌≡◌, ◌≤ℤ◌, ◌<ℤ◌, ◌⊎◌, inl, inr, ℤ, pos, arith, refl, sym, subst, ap, ◌∙◌, Bool, true, false, List}
+use Rattle.std.specs.Prelude.{◌||◌, int_lt}
 use Rattle.std.proofs.lemmas.Int.{ints}
 use Rattle.c_syntax.specs.declared.alarm.Pointers.{Pointers}
 use Rattle.c_syntax.specs.declared.alarm.Shown.{Shown}
@@ -20,7 +20,7 @@ use Rattle.num_api.specs.Spans.{span, range_of}
 use Rattle.env_eval.proofs.Parts.{still_point}
 use Rattle.machine_nums.proofs.Wrapped.{in_between, point_holds}
 use Rattle.mem_api.specs.Showing.{IsAlone}
-use Rattle.temp_ranges.specs.Shows.{truth_of, end_by, IsTruth, OperandIn, OperandAlone, OperandsIn, OperandsAlone, IsOfOne, IsSetOf, ShowsNumber, ShowsEnd, ShowsOne, ShowsTwo, IsAllowed}
+use Rattle.temp_ranges.specs.Shows.{truth_of, IsTruth, OperandIn, OperandAlone, IsSetOf, ShowsNumber, ShowsEnd, ShowsOne, ShowsTwo, IsAllowed}
 use Rattle.temp_ranges.proofs.Checking.{truth_small}
 
 module _ (value exact : Range) (w : Shown) where

@@ -1,22 +1,16 @@
 -- What checks look at, and what is shown of it.
-use Rattle.std.proofs.Common.{◌≡◌, ◌≤◌, ◌^◌, ◌-◌, ◌<◌, ℕ, ℤ, pos, arith, refl, sym, subst, ap, ◌∙◌, Bool, true, false, List, [], ◌∷◌, length, Option, Some, None}
-use Rattle.std.specs.Prelude.{not, ◌||◌, if◌then◌else◌, option_map, option_and_then, IsTrue}
-use Rattle.std.specs.Int.RustNames.{FitsSigned, int_lt}
+use Rattle.std.proofs.Common.{◌≡◌, ℤ, pos, arith, refl, sym, subst, Bool, true, false, List, [], ◌∷◌, length, Option, Some, None}
+use Rattle.std.specs.Prelude.{not, if◌then◌else◌, option_map, option_and_then}
 use Rattle.std.specs.Ordering.{int_eq}
-use mir.Syntax.{w128}
 use Rattle.std.proofs.lemmas.Int.{ints}
 use Rattle.c_written.specs.declared.int_type.IntType.{IntType}
 use Rattle.c_written.specs.declared.int_type.IntType.TheVariants as types
-use Rattle.c_written.specs.Integer.{HasNumber}
 use Rattle.c_syntax.specs.declared.alarm.Check.{Check}
-use Rattle.c_syntax.specs.declared.alarm.Shown.{Shown}
 use Rattle.c_syntax.specs.declared.alarm.Spot.{Spot}
 use Rattle.c_syntax.specs.declared.alarm.Spot.TheVariants as spots
 use Rattle.c_syntax.specs.declared.alarm.WrongKind.{WrongKind}
 use Rattle.c_syntax.specs.declared.alarm.WrongKind.TheVariants as kinds
-use Rattle.c_syntax.specs.Types.{ObjectTree}
 use Rattle.c_syntax.specs.Operand.{Operand, Number, Point, Points, Mark, End, LoadMark}
-use Rattle.c_syntax.specs.Operand as operands
 use Rattle.block_mem.specs.declared.types.Pointer as pointers
 use Rattle.block_mem.specs.declared.types.Scalar.{Scalar}
 use Rattle.block_mem.specs.declared.types.Scalar.TheVariants as scalars
@@ -24,9 +18,8 @@ use Rattle.block_mem.specs.declared.types.Value.{Value}
 use Rattle.block_mem.specs.declared.types.Value.TheVariants as values
 use Rattle.block_mem.specs.Blocks.{block_at, bytes_at}
 use Rattle.block_mem.specs.Bytes.{mark_of, size_of}
-use Rattle.c_values.specs.Values.{truth as is_true}
-use Rattle.c_values.specs.Places.{ObjectMemory, spot, point, spot_at, owner_of}
-use Rattle.c_values.specs.Operators.{number, pair_operand}
+use Rattle.c_values.specs.Places.{spot, point, spot_at, owner_of}
+use Rattle.c_values.specs.Operators.{number}
 use Rattle.c_values.specs.Accesses.{mark, test_operand}
 use Rattle.num_api.specs.declared.message.Range.{Range}
 use Rattle.num_api.specs.declared.expr.NOp.TheVariants as ops
@@ -35,14 +28,14 @@ use Rattle.num_api.specs.Value.{truth}
 use Rattle.machine_nums.proofs.Wrapped.{inside_has, point_holds}
 use Rattle.csharp.specs.Trees.{CsExprTree, CsProgramTree}
 use Rattle.csharp.specs.Formed.{AreOperandsTyped, IsNumber, HasType, result_check}
-use Rattle.csharp.specs.States.{State, value_of, on_both, exact_of, end_of, pointed, operand_of}
+use Rattle.csharp.specs.States.{State, value_of, exact_of, end_of, operand_of}
 use Rattle.mem_api.specs.Owned.{IsOwned}
 use Rattle.mem_api.proofs.Anything.{exact_is_number, owner_there}
 use Rattle.temp_ranges.specs.Values.{number_of, IsNoObject}
 use Rattle.temp_ranges.specs.Ranges.{AreIn, AreAll, AreInside}
 use Rattle.temp_ranges.specs.Exprs.{IsRangeOf}
 use Rattle.temp_ranges.specs.Checks.{IsSmall, IsExactOf}
-use Rattle.temp_ranges.specs.Shows.{IsNumberIn, IsNumberAlone, IsSpotOf, end_by, truth_of, IsTruth, OperandIn, OperandAlone, OperandsIn, OperandsAlone, IsOfTwo}
+use Rattle.temp_ranges.specs.Shows.{IsNumberIn, IsNumberAlone, IsSpotOf, end_by, truth_of, IsTruth, OperandIn, OperandAlone}
 use Rattle.temp_ranges.proofs.Bounds.{number_fits, size_of_number}
 use Rattle.temp_ranges.proofs.Results.{truth_has}
 use Rattle.temp_ranges.proofs.Valued.{IsOne}

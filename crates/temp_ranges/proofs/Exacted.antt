@@ -1,15 +1,15 @@
 -- Exact results that are checked.
-use Rattle.std.proofs.Common.{◌⊎◌, inl, inr, ◌≡◌, ◌≢◌, ◌≤◌, ◌<◌, ◌^◌, ◌-◌, ◌*◌, ℕ, ℤ, pos, negsuc, suc, zero, neg_ℤ, ◌+ℤ◌, ◌-ℤ◌, ◌*ℤ◌, ◌≤ℤ◌, ◌<ℤ◌, arith, refl, sym, subst, ap, ◌∙◌, Bool, true, false, Option, Some, None, List}
-use Rattle.std.specs.Prelude.{if◌then◌else◌, option_and_then, nat_abs, not}
+use Rattle.std.proofs.Common.{inl, inr, ◌≡◌, ◌≢◌, ◌≤◌, ◌^◌, ◌*◌, ℤ, pos, negsuc, neg_ℤ, ◌+ℤ◌, ◌-ℤ◌, ◌*ℤ◌, arith, refl, subst, Bool, true, false, Some, None, List}
+use Rattle.std.specs.Prelude.{if◌then◌else◌}
 use Rattle.std.specs.Int.RustNames.{FitsSigned, int_div, unsigned_abs}
 use Rattle.std.specs.Ordering.{int_eq}
 use mir.Syntax.{w128}
 use Rattle.std.proofs.lemmas.Int.{ints, unsigned_abs-mul, fits_signed_from_abs}
 use Rattle.std.proofs.lemmas.Bool.Decides.{Decides-int_eq}
-use Rattle.std.proofs.Math.Nat.{mul-le-mul, pow-le-pow_right}
+use Rattle.std.proofs.Math.Nat.{mul-le-mul}
 use Rattle.c_written.specs.declared.int_type.IntType.{IntType}
 use Rattle.c_written.specs.declared.int_type.IntType.TheVariants as types
-use Rattle.c_written.specs.Integer.{HasNumber, is_signed, width, least, greatest}
+use Rattle.c_written.specs.Integer.{HasNumber, is_signed, least, greatest}
 use Rattle.c_layout.specs.Checks.{range_check}
 use Rattle.c_syntax.specs.declared.alarm.Check.{Check}
 use Rattle.c_syntax.specs.declared.alarm.WrongKind.{WrongKind}
@@ -21,7 +21,7 @@ use Rattle.c_syntax.specs.declared.operator.TUnaryOp.{TUnaryOp}
 use Rattle.c_syntax.specs.declared.operator.TUnaryOp.TheVariants as unaries
 use Rattle.c_syntax.specs.declared.operator.TBinaryOp.{TBinaryOp}
 use Rattle.c_syntax.specs.declared.operator.TBinaryOp.TheVariants as binaries
-use Rattle.c_syntax.specs.Operand.{Operand, Number}
+use Rattle.c_syntax.specs.Operand.{Number}
 use Rattle.block_mem.specs.declared.types.Value.{Value}
 use Rattle.block_mem.specs.declared.types.Value.TheVariants as values
 use Rattle.c_values.specs.Places.{ObjectMemory}
@@ -30,14 +30,14 @@ use Rattle.c_values.specs.Operators.{exact_binary, unary_operand}
 use Rattle.num_api.specs.declared.message.Range.{Range}
 use Rattle.num_api.specs.declared.expr.NOp.{NOp}
 use Rattle.num_api.specs.declared.expr.NOp.TheVariants as ops
-use Rattle.num_api.specs.Ranges.{InRange, IsPoint, NoWider, all_numbers}
+use Rattle.num_api.specs.Ranges.{InRange, IsPoint}
 use Rattle.num_api.specs.Value.{binary_value}
 use Rattle.machine_nums.proofs.Wrapped.{inside_has, point_holds}
 use Rattle.csharp.specs.Trees.{CsExprTree, Unary, Binary}
-use Rattle.csharp.specs.Formed.{result_check, signed_check, arithmetic_check}
+use Rattle.csharp.specs.Formed.{signed_check, arithmetic_check}
 use Rattle.csharp.specs.States.{takes_right, if_taken, value_of}
 use Rattle.temp_ranges.specs.Values.{number_of}
-use Rattle.temp_ranges.specs.Operators.{LiesIn, MayDivide, IsAmount, BinaryFits}
+use Rattle.temp_ranges.specs.Operators.{LiesIn, MayDivide, IsAmount}
 use Rattle.temp_ranges.specs.Checks.{IsSmall, IsExact, IsExactUnary, IsExactOf}
 use Rattle.temp_ranges.specs.Exprs.{IsRangeOf}
 use Rattle.temp_ranges.proofs.Bounds.{quotient_size, power_size}

@@ -7,3 +7,4 @@ pub mod Exacted
 pub mod Showed
 pub mod Checking
 pub mod ByKind
+pub mod Wraps

@@ -1,7 +1,6 @@
 -- Ranges of expressions.
-use Rattle.std.proofs.Common.{◌≡◌, ℕ, ℤ, pos, arith, refl, sym, subst, ap, ◌∙◌, Bool, true, false, List, Option, Some, None}
-use Rattle.std.specs.Prelude.{option_map, option_and_then, slice_get, if◌then◌else◌}
-use Rattle.std.specs.Int.RustNames.{int_le}
+use Rattle.std.proofs.Common.{◌≡◌, ℕ, ℤ, pos, arith, refl, subst, ap, ◌∙◌, List, Option, Some, None}
+use Rattle.std.specs.Prelude.{option_map, option_and_then, slice_get}
 use Rattle.std.proofs.lemmas.Int.{ints}
 use Rattle.c_written.specs.declared.int_type.IntType.{IntType}
 use Rattle.c_written.specs.declared.int_type.IntType.TheVariants as types
@@ -21,23 +20,24 @@ use Rattle.c_values.specs.Operators.{unary_result, binary_result}
 use Rattle.c_values.specs.Typed.{TakesOne, TakesBoth, unary_type, binary_type}
 use Rattle.num_api.specs.declared.message.Range.{Range}
 use Rattle.num_api.specs.Ranges.{InRange, IsPoint, NoWider}
-use Rattle.num_api.specs.Spans.{Span, span, point, range_of, span_between}
+use Rattle.num_api.specs.Spans.{Span, point, range_of, span_between}
 use Rattle.env_eval.proofs.Parts.{wider, as_wide, is_point, in_point, whole_range, inside}
 use Rattle.machine_nums.specs.MExprs.{MExprTree}
 use Rattle.machine_nums.specs.MExprs as numbers
-use Rattle.machine_nums.specs.Rule.{type_span, converted, value_span}
+use Rattle.machine_nums.specs.Rule.{value_span}
 use Rattle.machine_nums.specs.Wrapping.{IsWrapping}
 use Rattle.machine_nums.specs.declared.wrapping.Way.{Way}
 use Rattle.machine_nums.proofs.Rules.{kept_or_all}
-use Rattle.machine_nums.proofs.Wrapped.{has_inside, wrapped_under}
+use Rattle.machine_nums.proofs.Wrapped.{has_inside}
+use Rattle.temp_ranges.proofs.Wraps.{wrapped_under}
 use Rattle.csharp.specs.Trees.{CsExprTree, Const, Null, Temp, Address, Unary, Binary, Convert, CsProgramTree}
 use Rattle.csharp.specs.Formed.{FitsOperand, HasType, AreOperandsTyped}
-use Rattle.csharp.specs.States.{State, value_of, if_taken}
+use Rattle.csharp.specs.States.{value_of, if_taken}
 use Rattle.plain_runs.specs.States.{Plain, given}
 use Rattle.plain_runs.specs.Numbers.{number_expr, of_one, of_two, read}
 use Rattle.temp_ranges.specs.Values.{number_of, IsNoObject}
 use Rattle.temp_ranges.specs.Operators.{LiesIn, UnaryFits, BinaryFits, IsUnary, IsBinary}
-use Rattle.temp_ranges.specs.Ranges.{range_at, AreIn, AreAll, AreInside, AreUnder}
+use Rattle.temp_ranges.specs.Ranges.{range_at, AreInside, AreUnder}
 use Rattle.temp_ranges.specs.Exprs.{IsRangeOf}
 
 same_some : {A : Type 0} (P : A → Type 0) (x y : A) → Some x ≡ Some y → P x → P y

@@ -1,7 +1,6 @@
 -- Ranges of results at a type.
-use Rattle.std.proofs.Common.{◌≡◌, ◌≢◌, ◌<◌, ◌≤◌, ◌^◌, ◌-◌, ◌+◌, ◌%◌, ℕ, ℤ, pos, negsuc, suc, ◌≤ℤ◌, ◌<ℤ◌, ◌-ℤ◌, ◌+ℤ◌, ◌*ℤ◌, neg_ℤ, arith, refl, sym, subst, ap, ◌∙◌, bit_xor, Bool, true, false, Option, Some, None}
-use Rattle.std.specs.Prelude.{IsSomeAnd, nat_abs}
-use Rattle.std.specs.Int.{int_div_euclid}
+use Rattle.std.proofs.Common.{◌≡◌, ◌≢◌, ◌≤◌, ◌^◌, ◌+◌, ◌%◌, ℤ, pos, negsuc, ◌-ℤ◌, ◌+ℤ◌, ◌*ℤ◌, neg_ℤ, arith, refl, sym, subst, ap, ◌∙◌, Bool, true, false, Option, Some, None}
+use Rattle.std.specs.Prelude.{IsSomeAnd}
 use Rattle.std.specs.Int.RustNames.{FitsSigned}
 use mir.Syntax.{w128}
 use Rattle.std.specs.Int.Bits.{xor_zero_r}
@@ -19,14 +18,15 @@ use Rattle.num_api.specs.declared.expr.NOp.{NOp}
 use Rattle.num_api.specs.declared.expr.NOp.TheVariants as ops
 use Rattle.num_api.specs.Ranges.{InRange, IsPoint, NoWider, all_numbers}
 use Rattle.num_api.specs.Residues.{class_of, InResidue, IsMultiple}
-use Rattle.num_api.specs.Spans.{Span, span, point, FitsSpan, range_of}
+use Rattle.num_api.specs.Spans.{Span, point, FitsSpan, range_of}
 use Rattle.num_api.specs.Value.{truth, binary_value, bits_of_one}
 use Rattle.num_api.proofs.Multiples.{in_from_off, in_itself, multiple_along, multiple_neg}
 use Rattle.residues.proofs.LowBits.{low_bits, bit-one}
 use Rattle.env_eval.proofs.Parts.{wider, as_wide, is_point}
 use Rattle.machine_nums.specs.Laws.{StandsForArithmetic, StandsForShift}
-use Rattle.machine_nums.specs.Rule.{type_span, converted, typed_span, fits}
-use Rattle.machine_nums.specs.Wrapping.{IsWrapping, HoldsLike, IsPointLike}
+use Rattle.machine_nums.specs.Rule.{type_span, converted, typed_span}
+use Rattle.machine_nums.specs.Wrapping.{IsWrapping}
+use Rattle.temp_ranges.specs.Products.{HoldsLike, IsPointLike}
 use Rattle.machine_nums.specs.declared.wrapping.Way.{Way}
 use Rattle.machine_nums.proofs.OperatorValues.{quotients, remainders, ands, ors, xors}
 use Rattle.machine_nums.proofs.ExprCongruences.{wrapped_same}
@@ -34,7 +34,8 @@ use Rattle.machine_nums.proofs.ExprTypes.{wrapped_moves}
 use Rattle.machine_nums.proofs.Rules.{fits_span, fits_inside, kept_or_all, converted_fits}
 use Rattle.machine_nums.proofs.Typed.{shifted_has}
 use Rattle.machine_nums.proofs.Values.{has-wrapped, wrapped-has}
-use Rattle.machine_nums.proofs.Wrapped.{inside_has, has_inside, point_holds, point_from, wrapped_under, like_holds, like_point}
+use Rattle.machine_nums.proofs.Wrapped.{inside_has, has_inside, point_holds, point_from}
+use Rattle.temp_ranges.proofs.Wraps.{wrapped_under, like_holds, like_point}
 use Rattle.plain_runs.specs.Numbers.{number_op, shift_op}
 use Rattle.temp_ranges.specs.Operators.{LiesIn, MayDivide, IsArithmetic, IsAmount, IsShifted, IsComplement, IsTestRange}
 use Rattle.temp_ranges.proofs.Bounds.{number_fits, result_fits, shifted_fits}

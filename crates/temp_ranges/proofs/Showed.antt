@@ -1,9 +1,8 @@
 -- What is shown of ranges.
-use Rattle.std.proofs.Common.{◌≡◌, ◌≤ℤ◌, ℕ, ℤ, pos, ◌<◌, ◌⊎◌, inl, inr, arith, refl, sym, subst, ap, Bool, true, false, List, [], Option, Some, None}
-use Rattle.std.specs.Prelude.{IfSome, length}
+use Rattle.std.proofs.Common.{◌≡◌, ◌≤ℤ◌, ℤ, pos, ◌<◌, inr, arith, refl, sym, subst, ap, List, Option, Some, None}
+use Rattle.std.specs.Prelude.{IfSome}
 use Rattle.std.proofs.lemmas.Int.{ints}
 use Rattle.std.proofs.lemmas.List.Elements.{All-nil}
-use Rattle.c_syntax.specs.declared.alarm.Shown.{Shown}
 use Rattle.c_syntax.specs.declared.alarm.Shown.TheVariants as shows
 use Rattle.c_syntax.specs.declared.alarm.Spot.{Spot}
 use Rattle.c_syntax.specs.declared.alarm.Spot.TheVariants as spots
@@ -14,7 +13,7 @@ use Rattle.ext_int.specs.declared.Ext.{Ext}
 use Rattle.ext_int.specs.declared.Ext.TheVariants.{Fin}
 use Rattle.ext_int.specs.Ext.{Below, Above}
 use Rattle.num_api.specs.declared.message.Range.{Range}
-use Rattle.num_api.specs.Ranges.{InRange, IsPoint}
+use Rattle.num_api.specs.Ranges.{IsPoint}
 use Rattle.mem_api.specs.Owned.{any_pointer}
 use Rattle.mem_api.specs.Showing.{IsAlone}
 use Rattle.temp_ranges.specs.Checks.{IsSmall}

@@ -1,6 +1,6 @@
 -- Ranges of what operators give on values.
-use Rattle.std.proofs.Common.{◌≡◌, ◌≢◌, ℕ, ℤ, pos, neg_ℤ, ◌⊎◌, inl, inr, arith, refl, sym, subst, ap, ◌∙◌, Bool, true, false, Option, Some, None}
-use Rattle.std.specs.Prelude.{◌==◌, not, ◌&&◌, if◌then◌else◌, ◌≤ℤ◌, ◌<ℤ◌}
+use Rattle.std.proofs.Common.{◌≡◌, ◌≢◌, ℕ, ℤ, pos, neg_ℤ, inl, inr, arith, refl, sym, subst, ◌∙◌, Bool, true, false, Option, Some, None}
+use Rattle.std.specs.Prelude.{◌==◌, not, if◌then◌else◌, ◌<ℤ◌}
 use Rattle.std.specs.Int.RustNames.{FitsSigned, int_le, int_lt}
 use Rattle.std.specs.Ordering.{int_eq}
 use mir.Syntax.{w128}
@@ -9,33 +9,31 @@ use Rattle.std.proofs.lemmas.Bool.{and_parts}
 use Rattle.std.proofs.lemmas.Bool.Decides.{Decides-int_eq}
 use Rattle.c_written.specs.declared.int_type.IntType.{IntType}
 use Rattle.c_written.specs.declared.int_type.IntType.TheVariants as types
-use Rattle.c_written.specs.Integer.{HasNumber, width, wrapped}
+use Rattle.c_written.specs.Integer.{width, wrapped}
 use Rattle.c_syntax.specs.declared.operator.Arithmetic.{Arithmetic}
 use Rattle.c_syntax.specs.declared.operator.Arithmetic.TheVariants.{Multiply, Divide, Remainder, Add, Subtract, BitAnd, BitXor, BitOr}
 use Rattle.c_syntax.specs.declared.operator.Shift.{Shift}
 use Rattle.c_syntax.specs.declared.operator.Comparison.{Comparison}
 use Rattle.c_syntax.specs.declared.operator.Comparison.TheVariants as comparisons
-use Rattle.c_syntax.specs.declared.operator.TUnaryOp.{TUnaryOp}
 use Rattle.c_syntax.specs.declared.operator.TUnaryOp.TheVariants as unaries
 use Rattle.c_syntax.specs.declared.operator.TBinaryOp.{TBinaryOp}
 use Rattle.c_syntax.specs.declared.operator.TBinaryOp.TheVariants as binaries
-use Rattle.block_mem.specs.declared.types.Scalar.{Scalar}
 use Rattle.block_mem.specs.declared.types.Scalar.TheVariants as scalars
 use Rattle.block_mem.specs.declared.types.Value.{Value}
 use Rattle.block_mem.specs.declared.types.Value.TheVariants as values
 use Rattle.c_values.specs.Numbers.{compares}
 use Rattle.c_values.specs.Numbers as numbers
 use Rattle.c_values.specs.Values.{truth as is_true, bit}
-use Rattle.c_values.specs.Operators.{unary_result, binary_result, moved}
+use Rattle.c_values.specs.Operators.{unary_result, binary_result}
 use Rattle.ext_int.proofs.Ends.{le-from_int_le}
 use Rattle.num_api.specs.declared.message.Range.{Range}
 use Rattle.num_api.specs.declared.expr.NOp.{NOp}
 use Rattle.num_api.specs.declared.expr.NOp.TheVariants as ops
 use Rattle.num_api.specs.Ranges.{InRange, IsPoint, NoWider}
-use Rattle.num_api.specs.Spans.{Span, span, point, FitsSpan, range_of, unary_span}
+use Rattle.num_api.specs.Spans.{Span, span, FitsSpan, range_of, unary_span}
 use Rattle.num_api.specs.Value.{truth, unary_value}
-use Rattle.env_eval.proofs.Parts.{wider, as_wide, only_number}
-use Rattle.machine_nums.specs.Rule.{type_span, converted, value_span, fits}
+use Rattle.env_eval.proofs.Parts.{as_wide, only_number}
+use Rattle.machine_nums.specs.Rule.{type_span, value_span}
 use Rattle.machine_nums.specs.MExprs.{MExprTree, type_of}
 use Rattle.machine_nums.specs.Rule.{exact_span}
 use Rattle.machine_nums.specs.Laws.{IsDivision}
@@ -43,7 +41,8 @@ use Rattle.machine_nums.specs.Wrapping.{IsWrapping}
 use Rattle.machine_nums.specs.declared.wrapping.Way.{Way}
 use Rattle.machine_nums.proofs.Rules.{kept_or_all, converted_fits}
 use Rattle.machine_nums.proofs.Values.{has-wrapped, wrapped-has}
-use Rattle.machine_nums.proofs.Wrapped.{inside_has, has_inside, point_holds, wrapped_under}
+use Rattle.machine_nums.proofs.Wrapped.{inside_has, has_inside, point_holds}
+use Rattle.temp_ranges.proofs.Wraps.{wrapped_under}
 use Rattle.csharp.specs.States.{takes_right, if_taken}
 use Rattle.temp_ranges.specs.Values.{number_of, IsNoObject}
 use Rattle.temp_ranges.specs.Operators.{LiesIn, MayDivide, IsArithmetic, IsAmount, IsShifted, IsComplement, IsTestRange, IsCompared, IsUnary, IsBinary}

@@ -1,17 +1,11 @@
 -- What is asked of ranges of exact results, and of what is shown of ranges.
 use Rattle.std.specs.Prelude.{◌≡◌, ℤ, List, Some}
-use Rattle.std.specs.Int.RustNames.{FitsSigned}
-use mir.Syntax.{w128}
 use Rattle.c_syntax.specs.declared.alarm.WrongKind.TheVariants.{Overflow}
 use Rattle.c_syntax.specs.declared.alarm.Check.{Check}
-use Rattle.c_syntax.specs.declared.alarm.Pointers.{Pointers}
-use Rattle.c_syntax.specs.declared.alarm.Spot.{Spot}
-use Rattle.c_syntax.specs.declared.alarm.Spot.TheVariants as spots
 use Rattle.c_syntax.specs.declared.operator.TUnaryOp.{TUnaryOp}
 use Rattle.c_syntax.specs.declared.operator.TBinaryOp.{TBinaryOp}
-use Rattle.c_syntax.specs.Types.{ObjectTree}
 use Rattle.c_syntax.specs.Operand.{Number}
-use Rattle.c_syntax.specs.Admission.{IsModerate, IsSpotIn, IsProperSet}
+use Rattle.c_syntax.specs.Admission.{IsModerate}
 use Rattle.block_mem.specs.declared.types.Value.{Value}
 use Rattle.c_values.specs.Places.{ObjectMemory}
 use Rattle.c_values.specs.Operators.{exact_binary, unary_operand}

@@ -1,5 +1,5 @@
 -- What is asked of the range of an expression.
-use Rattle.std.specs.Prelude.{◌≡◌, ℕ, ℤ, List, Some}
+use Rattle.std.specs.Prelude.{◌≡◌, List, Some}
 use Rattle.c_written.specs.declared.int_type.IntType.{IntType}
 use Rattle.block_mem.specs.declared.types.Scalar.TheVariants as scalars
 use Rattle.block_mem.specs.declared.types.Value.{Value}

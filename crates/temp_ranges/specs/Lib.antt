@@ -5,3 +5,4 @@ pub mod Exprs
 pub mod Checks
 pub mod Shows
 pub mod Sets
+pub mod Products

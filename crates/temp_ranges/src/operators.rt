@@ -1,19 +1,19 @@
 // Ranges of what C's operators give on values.
 
-ghost use Rattle.std.specs.Prelude.{◌≡◌, ◌≢◌, ◌-ℤ◌, pos, IsTrue, ◌↔◌};
+ghost use Rattle.std.specs.Prelude.{◌≡◌, ◌≢◌, ◌-ℤ◌, ◌*ℤ◌, ℤ, pos, IsTrue, ◌↔◌};
 ghost use Rattle.c_written.specs.Integer.{width};
 ghost use Rattle.c_syntax.specs.declared.operator.Arithmetic.TheVariants.{Multiply};
 ghost use Rattle.c_syntax.specs.declared.operator.TBinaryOp.TheVariants.{ComparePointers};
-ghost use Rattle.num_api.specs.Ranges.{IsPoint};
+ghost use Rattle.num_api.specs.Ranges.{InRange, IsPoint};
 ghost use Rattle.num_api.specs.Spans.{span, range_of};
 ghost use Rattle.plain_runs.specs.Numbers.{number_op, shift_op};
+ghost use Rattle.temp_ranges.specs.Products.{HoldsLike, IsPointLike};
 ghost use Rattle.temp_ranges.specs.Operators.{LiesIn, IsArithmetic, IsShifted, IsComplement, IsTest, IsTestRange, IsCompared, IsUnary, IsBinary};
 
+use c_layout::wrap;
 use c_syntax::{Arithmetic, Comparison, IntType, Shift, TBinaryOp, TUnaryOp};
 use ext_int::Ext;
-use machine_nums::{
-    lies_in, like_product, meet, type_range, typed_range, unary_range, wrap, wrap_range,
-};
+use machine_nums::{lies_in, meet, type_range, typed_range, unary_range, wrap_range};
 use num_api::{NOp, Range};
 
 // The operator on whole numbers whose wrapped results are those of C's.
@@ -50,6 +50,17 @@ fn product_range(t: IntType, r: Range, s: Range) -> Range
         return exact;
     }
     wrap_range(like_product(r, s), t).range
+}
+
+// A range that holds the products up to multiples of 2^64, by the numbers of long long that the factors are
+// up to such multiples.
+fn like_product(r: Range, s: Range) -> Range
+    ensures holds { (x y : ℤ) → InRange r x → InRange s y → HoldsLike result (x *ℤ y) }
+    ensures point { (x y : ℤ) → IsPoint r x → IsPoint s y → IsPointLike result (x *ℤ y) }
+{
+    let a = wrap_range(r, IntType::LLong).range;
+    let b = wrap_range(s, IntType::LLong).range;
+    typed_range(NOp::Mul, IntType::LLong, a, b)
 }
 
 // What the other operators make of numbers of the type.
@@ -112,7 +123,7 @@ pub fn complement_range(t: IntType, r: Range) -> Range
     if !lies_in(r, t) {
         return type_range(t);
     }
-    let ones = Range::point(wrap(-1, t));
+    let ones = Range::point(wrap(t, -1));
     wrap_range(typed_range(NOp::Xor, t, r, ones), t).range
 }
 

@@ -1,4 +1,4 @@
-use Rattle.std.proofs.Common.{◌≡◌, sym, subst, ap, ◌∙◌}
+use Rattle.std.proofs.Common.{sym, subst, ap, ◌∙◌}
 use Rattle.num_api.specs.declared.message.Range.{Range}
 use Rattle.csharp.specs.Trees.{CsExprTree, csexpr_tree}
 use Rattle.csharp.specs.Trees as trees
