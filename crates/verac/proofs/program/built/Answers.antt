@@ -10,3 +10,8 @@ returns-in-Some c =
     let constants = rw c.in-Some.is at c.in_ok-e.ensures.constants in
     λ bytes small typed.
     ((p, one_read c.one_program.ensures c.program_nor_refused.ensures bytes p (expr_tree c.in-Some.e) small typed form, form), constants)
+
+pub returns-in-None : goal.returns-in-None
+returns-in-None c =
+    let none = rw c.in-None.is at c.in_ok-e.ensures.found in
+    λ bytes small typed. (small, (tprogram_tree c.args.program.now, typed, λ form. none form.0 form.1))
