@@ -21,7 +21,7 @@ last_stays p s zero last = refl
 last_stays p s (suc n) last = rw (same_state s (step p s) last) (last_stays p s n last)
 
 -- steps on top of steps
-steps_add : (p : TProgramTree) (s : State) (m k : ℕ) → steps p (m + k) s ≡ steps p k (steps p m s)
+pub steps_add : (p : TProgramTree) (s : State) (m k : ℕ) → steps p (m + k) s ≡ steps p k (steps p m s)
 steps_add p s zero k = let e : zero + k ≡ k = omega arith in subst (λ n. steps p n s ≡ steps p k s) (sym e) refl
 steps_add p s (suc m) k =
     let e : suc m + k ≡ suc (m + k) = omega arith in

@@ -1,2 +1,2 @@
-mod Last
+pub mod Last
 mod Samples

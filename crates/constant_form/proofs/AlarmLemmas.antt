@@ -18,19 +18,21 @@ use Rattle.c_syntax.specs.declared.alarm.Fact.{Fact}
 use Rattle.c_syntax.specs.Operand.{Operand, Number}
 use Rattle.c_syntax.specs.Admission.{IsInShown, IsProper}
 use Rattle.c_syntax.specs.Admission as syntax
-use Rattle.c_syntax.specs.Fact.{FactHolds}
 use Rattle.constant_form.specs.declared.tree.Operator.{Operator}
 use Rattle.constant_form.specs.declared.tree.Operator.TheVariants.{Add, Subtract, Multiply, Divide}
-use Rattle.constant_form.specs.Tree.{ExprTree, Constant, Negate, Binary, Return, returning, HasConstants}
+use Rattle.c_syntax.specs.Program.{TProgramTree}
+use Rattle.c_steps.specs.States.{State}
+use Rattle.constant_form.specs.Tree.{ExprTree, Constant, Negate, Binary, HasConstants}
+use Rattle.constant_form.specs.Form.{IsForm}
 use Rattle.constant_form.specs.Operators.{Outcome, Gives, Fails, checked, negate, operate, fits, least, greatest, IsInt}
 use Rattle.constant_form.specs.Outcome.{Found, Value, found_at, negated, operated, found_of}
 use Rattle.constant_form.specs.Outcome as found
-use Rattle.constant_form.specs.Admission.{int_check, zero_check, checks_of, MakesCheck, IsAdmitted}
-use Rattle.constant_form.specs.Machine.{State, GoesWrong, number_of, spot_of}
-use Rattle.constant_form.specs.Sound.{TellsOf, Covers, IsSound}
+use Rattle.constant_form.specs.Admission.{IsAdmitted}
+use Rattle.constant_form.specs.Sound.{MainGoesWrong, TellsOf, HoldsIn, Covers, IsSound}
 use Rattle.constant_form.specs.Order.{Precedes, IsPrintable, IsNumeric}
-use Rattle.constant_form.proofs.RunLemmas.{WrongOnly, wrong_only}
-use Rattle.constant_form.specs.Walk.{check_of, IsAlarmOf}
+use Rattle.constant_form.proofs.MainLemmas.{WrongOnly, wrong_only}
+use Rattle.constant_form.proofs.CheckLemmas.{operator_checks, Makes, checks_at}
+use Rattle.constant_form.specs.Walk.{check_of, int_check, zero_check, IsAlarmOf}
 use Rattle.constant_form.proofs.SizeLemmas.{IsModest, modest_product, modest_quotient, modest_sum, modest_difference, modest_negation}
 
 fits_int : (n : ℤ) → fits n ≡ true → IsInt n
@@ -67,28 +69,28 @@ zero_is y h = search (arith, ints)
 int_modest : (y : ℤ) → IsInt y → IsModest y
 int_modest y h = (omega (arith, ints), omega (arith, ints))
 
-division_fair : (x y : ℤ) (b : Bool) → IsInt x → IsInt y → int_eq y (pos 0) ≡ b → IsFair (checks_of Divide) (if b then Fails DivideByZero (Number y) else checked Quotient (int_div x y))
+division_fair : (x y : ℤ) (b : Bool) → IsInt x → IsInt y → int_eq y (pos 0) ≡ b → IsFair (operator_checks Divide) (if b then Fails DivideByZero (Number y) else checked Quotient (int_div x y))
 division_fair x y true hx hy e = (y, refl, int_modest y hy, first zero_check (int_check Quotient ∷ []), zero_is y e)
-division_fair x y false hx hy e = quotient_fair (checks_of Divide) (int_div x y) (second zero_check (int_check Quotient) []) (modest_quotient x y hx)
+division_fair x y false hx hy e = quotient_fair (operator_checks Divide) (int_div x y) (second zero_check (int_check Quotient) []) (modest_quotient x y hx)
 
 negate_fair : (x : ℤ) → IsInt x → IsFair (int_check Overflow ∷ []) (negate x)
 negate_fair x h = overflow_fair (int_check Overflow ∷ []) (neg_ℤ x) (first (int_check Overflow) []) (modest_negation x h)
 
-operate_fair : (op : Operator) (x y : ℤ) → IsInt x → IsInt y → IsFair (checks_of op) (operate op x y)
-operate_fair Add x y h i = overflow_fair (checks_of Add) (x +ℤ y) (first (int_check Overflow) []) (modest_sum x y h i)
-operate_fair Subtract x y h i = overflow_fair (checks_of Subtract) (x -ℤ y) (first (int_check Overflow) []) (modest_difference x y h i)
-operate_fair Multiply x y h i = overflow_fair (checks_of Multiply) (x *ℤ y) (first (int_check Overflow) []) (modest_product x y h i)
+operate_fair : (op : Operator) (x y : ℤ) → IsInt x → IsInt y → IsFair (operator_checks op) (operate op x y)
+operate_fair Add x y h i = overflow_fair (operator_checks Add) (x +ℤ y) (first (int_check Overflow) []) (modest_sum x y h i)
+operate_fair Subtract x y h i = overflow_fair (operator_checks Subtract) (x -ℤ y) (first (int_check Overflow) []) (modest_difference x y h i)
+operate_fair Multiply x y h i = overflow_fair (operator_checks Multiply) (x *ℤ y) (first (int_check Overflow) []) (modest_product x y h i)
 operate_fair Divide x y h i = division_fair x y (int_eq y (pos 0)) h i refl
 
 -- what the expression comes to: an int, or a modest number that fails a check which the expression makes there
 abbrev pub IsFairly : ExprTree → Found → Type 0
 IsFairly e (Value n) = IsInt n
-IsFairly e (found.Wrong p kind operand) = (n : ℤ) × (operand ≡ Number n) × IsModest n × MakesCheck e p (check_of kind) × syntax.Fails [] (check_of kind) (Number n)
+IsFairly e (found.Wrong p kind operand) = (n : ℤ) × (operand ≡ Number n) × IsModest n × Makes e p (check_of kind) × syntax.Fails [] (check_of kind) (Number n)
 
 only_check : (a b : Check) → Contains (a ∷ []) b → b ≡ a
 only_check a b (k, h, e) = let z : k ≡ 0 = omega arith in sym (rw z at e)
 
-found_fair : (p : Pos) (e : ExprTree) (checks : List Check) (o : Outcome) → ((check : Check) → Contains checks check → MakesCheck e p check) → IsFair checks o → IsFairly e (found_at p o)
+found_fair : (p : Pos) (e : ExprTree) (checks : List Check) (o : Outcome) → ((check : Check) → Contains checks check → Makes e p check) → IsFair checks o → IsFairly e (found_at p o)
 found_fair p e checks (Gives n) makes h = h
 found_fair p e checks (Fails kind operand) makes (n, same, modest, check, fails) = (n, same, modest, makes (check_of kind) check, fails)
 
@@ -99,22 +101,22 @@ negated_fair p a (Value x) h = found_fair p (Negate p a) (int_check Overflow ∷
 operated_fair : (p : Pos) (op : Operator) (a b : ExprTree) (f g : Found) → IsFairly a f → IsFairly b g → IsFairly (Binary p op a b) (operated p op f g)
 operated_fair p op a b (found.Wrong q kind operand) g (n, same, modest, check, fails) i = (n, same, modest, inr (inl check), fails)
 operated_fair p op a b (Value x) (found.Wrong q kind operand) h (n, same, modest, check, fails) = (n, same, modest, inr (inr check), fails)
-operated_fair p op a b (Value x) (Value y) h i = found_fair p (Binary p op a b) (checks_of op) (operate op x y) (λ check c. inl (refl, c)) (operate_fair op x y h i)
+operated_fair p op a b (Value x) (Value y) h i = found_fair p (Binary p op a b) (operator_checks op) (operate op x y) (λ check c. inl (refl, c)) (operate_fair op x y h i)
 
 pub fairly : (e : ExprTree) → HasConstants e → IsFairly e (found_of e)
 fairly (Constant p n) h = (omega (arith, ints), omega (arith, ints))
 fairly (Negate p a) h = negated_fair p a (found_of a) (fairly a h)
 fairly (Binary p op a b) h = operated_fair p op a b (found_of a) (found_of b) (fairly a h.0) (fairly b h.1)
 
-never_wrong : (e : ExprTree) (v : ℤ) → found_of e ≡ Value v → (inputs : List ℤ) (s : State) (chain : List Pos) (at : Pos) (kind : WrongKind) (operand : Operand)
-    → GoesWrong (returning e) inputs s chain at kind operand → ⊥
-never_wrong e v h inputs s chain at kind operand w = subst (λ (r : Found). WrongOnly r chain at kind operand) h (wrong_only e inputs s chain at kind operand w)
+never_wrong : (p : TProgramTree) (e : ExprTree) (v : ℤ) → IsForm p e → found_of e ≡ Value v → (inputs : List ℤ) (s : State) (chain : List Pos) (at : Pos) (kind : WrongKind) (operand : Operand)
+    → MainGoesWrong p inputs s chain at kind operand → ⊥
+never_wrong p e v form h inputs s chain at kind operand w = subst (λ (r : Found). WrongOnly r chain at kind operand) h (wrong_only p e inputs s chain at kind operand form w)
 
 -- an expression that has a value wants no alarm
-pub none_sound : (e : ExprTree) (v : ℤ) → found_of e ≡ Value v → IsSound (returning e) []
-none_sound e v h = record {
-  misses_none = λ inputs chain at kind w. absurd (never_wrong e v h inputs w.0 chain at kind w.1 w.2);
-  shows = λ inputs s chain at kind operand w. absurd (never_wrong e v h inputs s chain at kind operand w);
+pub none_sound : (p : TProgramTree) (e : ExprTree) (v : ℤ) → found_of e ≡ Value v → IsForm p e → IsSound p []
+none_sound p e v h form = record {
+  misses_none = λ inputs chain at kind w. absurd (never_wrong p e v form h inputs w.0 chain at kind w.1 w.2);
+  shows = λ inputs s chain at kind operand w. absurd (never_wrong p e v form h inputs s chain at kind operand w);
 }
 
 pub none_all : {X : Type 0} (P : X → Type 0) → All P []
@@ -139,20 +141,27 @@ in_class n = omega (arith, ints)
 itself_shown : (n : ℤ) → IsInShown [] (Number n) (shows.Number (Some n) (Some n) (pos 1) (pos 0))
 itself_shown n = ((omega (arith, ints), omega (arith, ints)), (n, in_class n))
 
-covers : (e : ExprTree) (s : State) (p : Pos) (k : WrongKind) (n : ℤ) (a : Alarm) → IsAlarmOf p k n a → (chain : List Pos) (at : Pos) (kind : WrongKind) (operand : Operand)
-    → WrongOnly (found.Wrong p k (Number n)) chain at kind operand → Covers (returning e) s operand a
-covers e s p k n a is chain at kind operand (c, f, g, same) =
-    (rw (is.shown, same) (itself_shown n), subst (λ (facts : List Fact). All (FactHolds [] (number_of s) (spot_of s)) facts) (sym is.facts) (none_all (FactHolds [] (number_of s) (spot_of s))))
+-- a program of the form has no objects
+shown_there : (p : TProgramTree) (e : ExprTree) (n : ℤ) → IsForm p e → IsInShown p.objects (Number n) (shows.Number (Some n) (Some n) (pos 1) (pos 0))
+shown_there p e n form = itself_shown n
+
+covers : (program : TProgramTree) (e : ExprTree) (s : State) (p : Pos) (k : WrongKind) (n : ℤ) (a : Alarm) → IsForm program e → IsAlarmOf p k n a → (chain : List Pos) (at : Pos) (kind : WrongKind) (operand : Operand)
+    → WrongOnly (found.Wrong p k (Number n)) chain at kind operand → Covers program s operand a
+covers program e s p k n a form is chain at kind operand (c, f, g, same) =
+    (rw (is.shown, same) (shown_there program e n form), subst (λ (facts : List Fact). All (HoldsIn program s.memory) facts) (sym is.facts) (none_all (HoldsIn program s.memory)))
 
 -- an expression whose first check fails wants one alarm
-pub one_sound : (e : ExprTree) (p : Pos) (k : WrongKind) (n : ℤ) (a : Alarm) → found_of e ≡ found.Wrong p k (Number n) → IsAlarmOf p k n a → IsSound (returning e) (a ∷ [])
-one_sound e p k n a h is = record {
+pub one_sound : (program : TProgramTree) (e : ExprTree) (p : Pos) (k : WrongKind) (n : ℤ) (a : Alarm) → found_of e ≡ found.Wrong p k (Number n) → IsAlarmOf p k n a → IsForm program e
+    → IsSound program (a ∷ [])
+one_sound program e p k n a h is form = record {
   misses_none = λ inputs chain at kind w.
-      let only : WrongOnly (found.Wrong p k (Number n)) chain at kind w.1 = subst (λ (r : Found). WrongOnly r chain at kind w.1) h (wrong_only e inputs w.0 chain at kind w.1 w.2) in
+      let only : WrongOnly (found.Wrong p k (Number n)) chain at kind w.1 =
+      subst (λ (r : Found). WrongOnly r chain at kind w.1) h (wrong_only program e inputs w.0 chain at kind w.1 form w.2) in
       Any-push (TellsOf chain at kind) [] a (tells p k n a is chain at kind w.1 only);
   shows = λ inputs s chain at kind operand w.
-      let only : WrongOnly (found.Wrong p k (Number n)) chain at kind operand = subst (λ (r : Found). WrongOnly r chain at kind operand) h (wrong_only e inputs s chain at kind operand w) in
-      one_all (λ b. TellsOf chain at kind b → Covers (returning e) s operand b) a (λ t. covers e s p k n a is chain at kind operand only);
+      let only : WrongOnly (found.Wrong p k (Number n)) chain at kind operand =
+      subst (λ (r : Found). WrongOnly r chain at kind operand) h (wrong_only program e inputs s chain at kind operand form w) in
+      one_all (λ b. TellsOf chain at kind b → Covers program s operand b) a (λ t. covers program e s p k n a form is chain at kind operand only);
 }
 
 itself_proper : (n : ℤ) → IsModest n → IsProper (shows.Number (Some n) (Some n) (pos 1) (pos 0))
@@ -169,20 +178,25 @@ kind_of : (k : WrongKind) → (check_of k).kind ≡ k
 kind_of DivideByZero = refl
 kind_of kind = refl
 
-admits : (e : ExprTree) (p : Pos) (k : WrongKind) (n m : ℤ) (a : Alarm) → m ≡ n → IsModest m → MakesCheck e p (check_of k) → syntax.Fails [] (check_of k) (Number m) → IsAlarmOf p k n a → IsAdmitted (returning e) a
-admits e p k n m a same modest check fails is = record {
-  check = (is.chain, rw (is.pos_is, is.check) (0, Return e, omega arith, refl, check));
+fails_there : (p : TProgramTree) (e : ExprTree) (check : Check) (n : ℤ) → IsForm p e → syntax.Fails [] check (Number n) → syntax.Fails p.objects check (Number n)
+fails_there p e check n form fails = rw (form.returns.objects) fails
+
+admits : (program : TProgramTree) (e : ExprTree) (p : Pos) (k : WrongKind) (n m : ℤ) (a : Alarm) → IsForm program e → m ≡ n → IsModest m → Makes e p (check_of k)
+    → syntax.Fails [] (check_of k) (Number m) → IsAlarmOf p k n a → IsAdmitted program a
+admits program e p k n m a form same modest check fails is = record {
+  check = rw (is.chain, is.pos_is, is.check) (checks_at program e form p (check_of k) check);
   kind = ap (λ (c : Check). c.kind) is.check ∙ kind_of k ∙ sym is.kind_is;
-  example_shown = rw (is.example, is.shown) (itself_shown n);
-  example_fails = rw (is.example, is.check) (subst (λ (o : ℤ). syntax.Fails [] (check_of k) (Number o)) same fails);
+  example_shown = rw (is.example, is.shown) (shown_there program e n form);
+  example_fails = rw (is.example, is.check) (fails_there program e (check_of k) n form (subst (λ (o : ℤ). syntax.Fails [] (check_of k) (Number o)) same fails));
   proper = rw is.shown (itself_proper n (subst IsModest same modest));
 }
 
-pub one_admitted : (e : ExprTree) (p : Pos) (k : WrongKind) (n : ℤ) (a : Alarm) → HasConstants e → found_of e ≡ found.Wrong p k (Number n) → IsAlarmOf p k n a → All (IsAdmitted (returning e)) (a ∷ [])
-one_admitted e p k n a h same is =
+pub one_admitted : (program : TProgramTree) (e : ExprTree) (p : Pos) (k : WrongKind) (n : ℤ) (a : Alarm) → HasConstants e → found_of e ≡ found.Wrong p k (Number n) → IsAlarmOf p k n a
+    → IsForm program e → All (IsAdmitted program) (a ∷ [])
+one_admitted program e p k n a h same is form =
     let (m, operand, modest, check, fails) = subst (IsFairly e) same (fairly e h) in
     let number : m ≡ n = cc in
-    one_all (IsAdmitted (returning e)) a (admits e p k n m a number modest check fails is)
+    one_all (IsAdmitted program) a (admits program e p k n m a form number modest check fails is)
 
 numeric : (n : ℤ) (shown : Shown) (example : Example) → shown ≡ shows.Number (Some n) (Some n) (pos 1) (pos 0) → example ≡ examples.Number n → IsNumeric shown example
 numeric n shown example e f = rw (e, f) tt

@@ -16,7 +16,7 @@ use Rattle.c_syntax.specs.Program.{TFunctionTree, tfunction_tree, TProgramTree}
 use Rattle.constant_form.specs.declared.tree.Operator.{Operator}
 use Rattle.constant_form.specs.declared.tree.Expr.{Expr}
 use Rattle.constant_form.specs.Operators.{IsInt, fits}
-use Rattle.constant_form.specs.Tree.{ExprTree, Negate, expr_tree, ProgramTree, returning, HasConstants}
+use Rattle.constant_form.specs.Tree.{ExprTree, Negate, expr_tree, HasConstants}
 use Rattle.constant_form.specs.Tree as trees
 use Rattle.constant_form.specs.Form.{is_int, constant_at, unary_at, operator_of, binary_at, expression, returned_in, IsMainReturning, Returns, IsForm}
 
@@ -48,28 +48,25 @@ pub by_main : {R : Type 0} (view : R → TExprTree) (program : TProgramTree) (fu
 by_main view program function None structs objects one none = λ value h. none_main program function one none value h
 by_main view program function (Some r) structs objects one main = record { structs = structs; objects = objects; functions = (function, one, main) }
 
--- what is read of the expression that a program returns is the program of the form
-pub form_of_returned : (program : TProgramTree) (value : TExprTree) (e : ExprTree) → Returns program value → expression value ≡ Some e → IsForm program (returning e)
-form_of_returned program value e h is = record { read = (value, e, h, is, refl) }
+-- what is read of the expression that a program returns is that of the form
+pub form_of_returned : (program : TProgramTree) (value : TExprTree) (e : ExprTree) → Returns program value → expression value ≡ Some e → IsForm program e
+form_of_returned program value e h is = record { value = value; returns = h; read = is }
 
-pub only_form : (program : TProgramTree) (value : TExprTree) (e : ExprTree) → Returns program value → expression value ≡ Some e → (other : ProgramTree) → IsForm program other → other ≡ returning e
+pub only_form : (program : TProgramTree) (value : TExprTree) (e : ExprTree) → Returns program value → expression value ≡ Some e
+    → (other : ExprTree) → IsForm program other → other ≡ e
 only_form program value e h is other form =
-    let (typed_so, d, k, reads, same) = form.read in
-    let one : typed_so ≡ value = one_returned program typed_so value k h in
-    let tree : d ≡ e = cc in
-    same ∙ ap returning tree
+    let one : form.value ≡ value = one_returned program form.value value form.returns h in
+    the_some (sym form.read ∙ ap expression one ∙ is)
 
-pub no_form : (program : TProgramTree) (value : TExprTree) → Returns program value → expression value ≡ None → (other : ProgramTree) → IsForm program other → ⊥
+pub no_form : (program : TProgramTree) (value : TExprTree) → Returns program value → expression value ≡ None
+    → (other : ExprTree) → IsForm program other → ⊥
 no_form program value h none other form =
-    let (typed_so, d, k, reads, same) = form.read in
-    let one : typed_so ≡ value = one_returned program typed_so value k h in
+    let one : form.value ≡ value = one_returned program form.value value form.returns h in
+    let is : Some other ≡ None = sym form.read ∙ ap expression one ∙ none in
     cc
 
-pub none_returned : (program : TProgramTree) → ((value : TExprTree) → Returns program value → ⊥) → (form : ProgramTree) → IsForm program form → ⊥
-none_returned program none form is = let (value, e, h, reads, same) = is.read in none value h
-
-pub one_form : (program : TProgramTree) (a b : ProgramTree) → IsForm program a → IsForm program b → a ≡ b
-one_form program a b h k = let (value, e, returns, reads, same) = h.read in same ∙ sym (only_form program value e returns reads b k)
+pub none_returned : (program : TProgramTree) → ((value : TExprTree) → Returns program value → ⊥) → (e : ExprTree) → IsForm program e → ⊥
+none_returned program none e is = none is.value is.returns
 
 pub no_items : {X : Type 0} (items : List X) → length items ≡ 0 → items ≡ []
 no_items [] none = refl

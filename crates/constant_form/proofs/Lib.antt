@@ -1,6 +1,10 @@
-pub mod RunLemmas
-pub mod SizeLemmas
-pub mod AlarmLemmas
-pub mod WalkLemmas
+mod OperatorLemmas
+mod ReadLemmas
+mod RunLemmas
+mod MainLemmas
+mod CheckLemmas
+mod AlarmLemmas
 pub mod FormLemmas
-pub mod FoundLemmas
+mod FoundLemmas
+mod SizeLemmas
+mod WalkLemmas

@@ -1,138 +1,129 @@
--- A run reaches what the expression comes to, and a run that stands still stays there.
-use Rattle.std.proofs.Common.{zero-add, ◌≡◌, ◌+◌, ℕ, zero, suc, ℤ, List, [], ◌∷◌, refl, sym, ap, subst, ◌∙◌, None}
-use Rattle.std.specs.Prelude.{reverse}
-use Rattle.std.proofs.Math.Nat.{suc-add}
+-- Evaluation of an expression of the form leads to what it comes to.
+use Rattle.std.proofs.Common.{◌≡◌, ◌+◌, ℕ, ℤ, List, ◌∷◌, refl, sym, ap, subst, ◌∙◌, Some}
 use Rattle.c_written.specs.declared.place.Pos.{Pos}
-use Rattle.c_syntax.specs.declared.alarm.WrongKind.{WrongKind}
-use Rattle.c_syntax.specs.Operand.{Operand}
+use Rattle.c_written.specs.declared.int_type.IntType.{IntType}
+use Rattle.c_written.specs.declared.int_type.IntType.TheVariants as types
+use Rattle.c_syntax.specs.declared.operator.TBinaryOp.{TBinaryOp}
+use Rattle.c_syntax.specs.declared.operator.TBinaryOp.TheVariants as binaries
+use Rattle.c_syntax.specs.declared.operator.TUnaryOp.{TUnaryOp}
+use Rattle.c_syntax.specs.declared.operator.TUnaryOp.TheVariants as unaries
+use Rattle.c_syntax.specs.Program.{TProgramTree}
+use Rattle.c_syntax.specs.TypedExpr.{TExprTree}
+use Rattle.c_syntax.specs.TypedExpr as typed
+use Rattle.block_mem.specs.declared.types.Value.TheVariants as values
+use Rattle.c_values.specs.Looks as looks
+use Rattle.c_values.specs.Places.{ObjectMemory}
+use Rattle.c_steps.specs.Work.{Item, Eval, Un, Bin}
+use Rattle.c_steps.specs.States.{Held, State, state, Goes, goes, held, with_value}
+use Rattle.c_steps.specs.States as machine
+use Rattle.c_steps.specs.Expressions.{value_scalar}
+use Rattle.c_steps.specs.Steps.{step}
+use Rattle.c_steps.specs.Runs.{steps, moved_to, calls_in, chain_of}
+use Rattle.c_steps.proofs.Last.{steps_add}
 use Rattle.constant_form.specs.declared.tree.Operator.{Operator}
-use Rattle.constant_form.specs.Tree.{ExprTree, Constant, Negate, Binary, ProgramTree, returning}
+use Rattle.constant_form.specs.Tree.{ExprTree}
+use Rattle.constant_form.specs.Form.{expression}
 use Rattle.constant_form.specs.Operators.{Outcome, Gives, Fails, negate, operate}
-use Rattle.constant_form.specs.Machine.{Item, Eval, Un, Bin, Close, Leave, Reach, Finish, State, Goes, Ended, goes, after_operator, step, goes_on, moved_to, steps, start, calls_in, GoesWrong}
-use Rattle.constant_form.specs.Machine as machine
-use Rattle.constant_form.specs.Outcome.{Found, Value, found_at, negated, operated, found_of}
+use Rattle.constant_form.specs.Outcome.{Found, found_at, negated, operated, found_of}
 use Rattle.constant_form.specs.Outcome as found
-
-abbrev pub st : List Item → List ℤ → List ℤ → State
-st work stack inputs = record { work = work; stack = stack; inputs = inputs }
-
--- more steps behind some
-steps-add : (program : ProgramTree) (m n : ℕ) (s : State) → steps program (m + n) s ≡ steps program n (steps program m s)
-steps-add program zero n s = rw zero-add refl
-steps-add program (suc m) n s = rw suc-add (steps-add program m n (goes_on program s))
+use Rattle.constant_form.proofs.OperatorLemmas.{given, arithmetic_op, operate_is, negate_is}
+use Rattle.constant_form.proofs.ReadLemmas.{constant_is, IsNegation, unary_is, IsOperation, binary_is}
 
 -- some number of steps leads from one state to the other
-abbrev pub Leads : ProgramTree → State → State → Type 0
-Leads program s t = (n : ℕ) × (steps program n s ≡ t)
+abbrev pub Leads : TProgramTree → State → State → Type 0
+Leads p s t = (n : ℕ) × (steps p n s ≡ t)
 
-then_leads : (program : ProgramTree) (s t u : State) → Leads program s t → Leads program t u → Leads program s u
-then_leads program s t u (m, e) (n, f) = (m + n, steps-add program m n s ∙ ap (λ x. steps program n x) e ∙ f)
+pub then_leads : (p : TProgramTree) (s t u : State) → Leads p s t → Leads p t u → Leads p s u
+then_leads p s t u (m, e) (n, f) = (m + n, steps_add p s m n ∙ ap (λ x. steps p n x) e ∙ f)
 
-one_step : (program : ProgramTree) (s t : State) → step program s ≡ Goes t → Leads program s t
-one_step program s t e = (1, ap (λ x. moved_to s x) e)
+pub one_step : (p : TProgramTree) (s t : State) → step p s ≡ Goes t → Leads p s t
+one_step p s t e = (1, ap (λ x. moved_to s x) e)
+
+abbrev pub int : ℤ → Held
+int n = held (values.Int types.Int n)
 
 -- what evaluation leads to: the value on the stack, or a state in the same calls whose step is wrong
-abbrev Reaches : ProgramTree → State → List Item → List ℤ → List ℤ → Found → Type 0
-Reaches program s work stack inputs (Value n) = Leads program s (st work (n ∷ stack) inputs)
-Reaches program s work stack inputs (found.Wrong p kind operand) =
-    (t : State) × Leads program s t × (step program t ≡ machine.Wrong p kind operand) × (calls_in t.work ≡ calls_in work)
+abbrev pub Reaches : TProgramTree → State → List Item → List Held → ObjectMemory → List ℤ → Found → Type 0
+Reaches p s work stack m i (found.Value n) = Leads p s (state work (int n ∷ stack) m i)
+Reaches p s work stack m i (found.Wrong at kind operand) =
+    (t : State) × Leads p s t × (step p t ≡ machine.Wrong at kind operand) × (chain_of t.work ≡ calls_in work)
 
-reaches_behind : (program : ProgramTree) (s t : State) (work : List Item) (stack inputs : List ℤ) (r : Found) → Leads program s t → Reaches program t work stack inputs r → Reaches program s work stack inputs r
-reaches_behind program s t work stack inputs (Value n) l r = then_leads program s t _ l r
-reaches_behind program s t work stack inputs (found.Wrong p kind operand) l (u, m, e, c) = (u, then_leads program s t u l m, e, c)
+reaches_behind : (p : TProgramTree) (s t : State) (work : List Item) (stack : List Held) (m : ObjectMemory) (i : List ℤ) (r : Found)
+    → Leads p s t → Reaches p t work stack m i r → Reaches p s work stack m i r
+reaches_behind p s t work stack m i (found.Value n) l r = then_leads p s t _ l r
+reaches_behind p s t work stack m i (found.Wrong at kind operand) l (u, k, e, c) = (u, then_leads p s t u l k, e, c)
 
 -- the step of an operator
-operator_reaches : (program : ProgramTree) (s : State) (p : Pos) (work : List Item) (stack inputs : List ℤ) (o : Outcome) → step program s ≡ after_operator p work stack inputs o → calls_in s.work ≡ calls_in work
-    → Reaches program s work stack inputs (found_at p o)
-operator_reaches program s p work stack inputs (Gives n) e c = one_step program s _ e
-operator_reaches program s p work stack inputs (Fails kind operand) e c = (s, (0, refl), e, c)
+operator_reaches : (p : TProgramTree) (s : State) (at : Pos) (work : List Item) (stack : List Held) (m : ObjectMemory) (i : List ℤ) (o : Outcome) (r : looks.Outcome)
+    → r ≡ given o → step p s ≡ with_value r at (λ v. goes work (held v ∷ stack) m i) → chain_of s.work ≡ calls_in work → Reaches p s work stack m i (found_at at o)
+operator_reaches p s at work stack m i (Gives n) r is e c = one_step p s _ (e ∙ ap (λ x. with_value x at (λ v. goes work (held v ∷ stack) m i)) is)
+operator_reaches p s at work stack m i (Fails kind operand) r is e c = (s, (0, refl), e ∙ ap (λ x. with_value x at (λ v. goes work (held v ∷ stack) m i)) is, c)
 
-negation_reaches : (program : ProgramTree) (p : Pos) (a : ExprTree) (work : List Item) (stack inputs : List ℤ) (f : Found)
-    → Reaches program (st (Eval a ∷ Un p ∷ work) stack inputs) (Un p ∷ work) stack inputs f → Reaches program (st (Eval (Negate p a) ∷ work) stack inputs) work stack inputs (negated p f)
-negation_reaches program p a work stack inputs (found.Wrong q kind operand) h = reaches_behind program _ _ work stack inputs (found.Wrong q kind operand) (one_step program _ _ refl) h
-negation_reaches program p a work stack inputs (Value x) h =
-    reaches_behind program _ _ work stack inputs (found_at p (negate x)) (then_leads program _ _ _ (one_step program _ _ refl) h)
-    (operator_reaches program (st (Un p ∷ work) (x ∷ stack) inputs) p work stack inputs (negate x) refl refl)
+abbrev minus : Pos → TExprTree → Item
+minus at a = Un at (unaries.Minus types.Int) (value_scalar a)
 
-both_reach : (program : ProgramTree) (p : Pos) (op : Operator) (a b : ExprTree) (work : List Item) (stack inputs : List ℤ) (f g : Found)
-    → Reaches program (st (Eval a ∷ Eval b ∷ Bin p op ∷ work) stack inputs) (Eval b ∷ Bin p op ∷ work) stack inputs f
-    → ((x : ℤ) → Reaches program (st (Eval b ∷ Bin p op ∷ work) (x ∷ stack) inputs) (Bin p op ∷ work) (x ∷ stack) inputs g)
-    → Reaches program (st (Eval (Binary p op a b) ∷ work) stack inputs) work stack inputs (operated p op f g)
-both_reach program p op a b work stack inputs (found.Wrong q kind operand) g left right = reaches_behind program _ _ work stack inputs (found.Wrong q kind operand) (one_step program _ _ refl) left
-both_reach program p op a b work stack inputs (Value x) (found.Wrong q kind operand) left right =
-    reaches_behind program _ _ work stack inputs (found.Wrong q kind operand) (then_leads program _ _ _ (one_step program _ _ refl) left) (right x)
-both_reach program p op a b work stack inputs (Value x) (Value y) left right =
-    reaches_behind program _ _ work stack inputs (found_at p (operate op x y)) (then_leads program _ _ _ (then_leads program _ _ _ (one_step program _ _ refl) left) (right x))
-    (operator_reaches program (st (Bin p op ∷ work) (y ∷ x ∷ stack) inputs) p work stack inputs (operate op x y) refl refl)
+negation_reaches : (p : TProgramTree) (at : Pos) (a : TExprTree) (work : List Item) (stack : List Held) (m : ObjectMemory) (i : List ℤ) (f : Found)
+    → Reaches p (state (Eval a ∷ minus at a ∷ work) stack m i) (minus at a ∷ work) stack m i f
+    → Reaches p (state (Eval (typed.Unary at (unaries.Minus types.Int) a) ∷ work) stack m i) work stack m i (negated at f)
+negation_reaches p at a work stack m i (found.Wrong q kind operand) h =
+    reaches_behind p _ _ work stack m i (found.Wrong q kind operand) (one_step p _ (state (Eval a ∷ minus at a ∷ work) stack m i) refl) h
+negation_reaches p at a work stack m i (found.Value x) h =
+    reaches_behind p _ _ work stack m i (found_at at (negate x)) (then_leads p _ _ _ (one_step p _ (state (Eval a ∷ minus at a ∷ work) stack m i) refl) h)
+    (operator_reaches p (state (minus at a ∷ work) (int x ∷ stack) m i) at work stack m i (negate x) _ (negate_is p.objects m (value_scalar a) x) refl refl)
+
+abbrev binary_op : Operator → TBinaryOp
+binary_op op = binaries.Arithmetic (arithmetic_op op) types.Int
+
+both_reach : (p : TProgramTree) (at : Pos) (op : Operator) (a b : TExprTree) (work : List Item) (stack : List Held) (m : ObjectMemory) (i : List ℤ) (f g : Found)
+    → Reaches p (state (Eval a ∷ Eval b ∷ Bin at (binary_op op) ∷ work) stack m i) (Eval b ∷ Bin at (binary_op op) ∷ work) stack m i f
+    → ((x : ℤ) → Reaches p (state (Eval b ∷ Bin at (binary_op op) ∷ work) (int x ∷ stack) m i) (Bin at (binary_op op) ∷ work) (int x ∷ stack) m i g)
+    → Reaches p (state (Eval (typed.Binary at (binary_op op) a b) ∷ work) stack m i) work stack m i (operated at op f g)
+both_reach p at op a b work stack m i (found.Wrong q kind operand) g left right =
+    reaches_behind p _ _ work stack m i (found.Wrong q kind operand) (one_step p _ (state (Eval a ∷ Eval b ∷ Bin at (binary_op op) ∷ work) stack m i) refl) left
+both_reach p at op a b work stack m i (found.Value x) (found.Wrong q kind operand) left right =
+    reaches_behind p _ _ work stack m i (found.Wrong q kind operand)
+    (then_leads p _ _ _ (one_step p _ (state (Eval a ∷ Eval b ∷ Bin at (binary_op op) ∷ work) stack m i) refl) left) (right x)
+both_reach p at op a b work stack m i (found.Value x) (found.Value y) left right =
+    reaches_behind p _ _ work stack m i (found_at at (operate op x y))
+    (then_leads p _ _ _ (then_leads p _ _ _ (one_step p _ (state (Eval a ∷ Eval b ∷ Bin at (binary_op op) ∷ work) stack m i) refl) left) (right x))
+    (operator_reaches p (state (Bin at (binary_op op) ∷ work) (int y ∷ int x ∷ stack) m i) at work stack m i (operate op x y) _ (operate_is p.objects m op x y) refl refl)
 
 -- evaluation leads to what the expression comes to
-evaluation : (program : ProgramTree) (e : ExprTree) (work : List Item) (stack inputs : List ℤ) → Reaches program (st (Eval e ∷ work) stack inputs) work stack inputs (found_of e)
-evaluation program (Constant p n) work stack inputs = one_step program _ _ refl
-evaluation program (Negate p a) work stack inputs = negation_reaches program p a work stack inputs (found_of a) (evaluation program a (Un p ∷ work) stack inputs)
-evaluation program (Binary p op a b) work stack inputs =
-    both_reach program p op a b work stack inputs (found_of a) (found_of b) (evaluation program a (Eval b ∷ Bin p op ∷ work) stack inputs) (λ x. evaluation program b (Bin p op ∷ work) (x ∷ stack) inputs)
-
--- no step goes on from here
-abbrev StandsStill : ProgramTree → State → Type 0
-StandsStill program s = goes_on program s ≡ s
-
-still_stays : (program : ProgramTree) (n : ℕ) (s : State) → StandsStill program s → steps program n s ≡ s
-still_stays program zero s e = refl
-still_stays program (suc n) s e = ap (λ x. steps program n x) e ∙ still_stays program n s e
-
--- two states of one run that stand still are one
-same_end : (program : ProgramTree) (m n : ℕ) (s : State) → StandsStill program (steps program m s) → StandsStill program (steps program n s) → steps program m s ≡ steps program n s
-same_end program zero n s e f = sym (still_stays program n s e)
-same_end program (suc m) zero s e f = still_stays program (suc m) s f
-same_end program (suc m) (suc n) s e f = same_end program m n (goes_on program s) e f
-
-wrong_stands : (program : ProgramTree) (s : State) (p : Pos) (kind : WrongKind) (operand : Operand) → step program s ≡ machine.Wrong p kind operand → StandsStill program s
-wrong_stands program s p kind operand e = ap (λ x. moved_to s x) e
-
-ended_stands : (program : ProgramTree) (s : State) (n : ℤ) → step program s ≡ Ended n → StandsStill program s
-ended_stands program s n e = ap (λ x. moved_to s x) e
-
--- what a run of the whole program comes to
-abbrev pub Comes : ProgramTree → List ℤ → Found → Type 0
-Comes program inputs (Value n) = (t : State) × Leads program (start inputs) t × (step program t ≡ Ended n)
-Comes program inputs (found.Wrong p kind operand) = (t : State) × Leads program (start inputs) t × (step program t ≡ machine.Wrong p kind operand) × (calls_in t.work ≡ [])
-
--- the work behind the returned expression
-abbrev behind : List Item
-behind = Leave ∷ Close ∷ Close ∷ Reach None ∷ Finish ∷ []
-
-begins : (e : ExprTree) (inputs : List ℤ) → Leads (returning e) (start inputs) (st (Eval e ∷ behind) [] inputs)
-begins e inputs = (3, refl)
-
-ends : (e : ExprTree) (inputs : List ℤ) (r : Found) → Reaches (returning e) (st (Eval e ∷ behind) [] inputs) behind [] inputs r → Comes (returning e) inputs r
-ends e inputs (Value n) l =
-    (_, then_leads (returning e) _ _ _ (begins e inputs) (then_leads (returning e) _ _ _ l (one_step (returning e) _ (st (Finish ∷ []) (n ∷ []) inputs) refl)), refl)
-ends e inputs (found.Wrong p kind operand) (t, l, w, c) = (t, then_leads (returning e) _ _ _ (begins e inputs) l, w, c)
-
-pub comes : (e : ExprTree) (inputs : List ℤ) → Comes (returning e) inputs (found_of e)
-comes e inputs = ends e inputs (found_of e) (evaluation (returning e) e behind [] inputs)
-
--- a run that goes wrong does so in main, where the expression's first check fails
-abbrev pub WrongOnly : Found → List Pos → Pos → WrongKind → Operand → Type 0
-WrongOnly (Value n) chain at kind operand = ⊥
-WrongOnly (found.Wrong p k o) chain at kind operand = (chain ≡ []) × (at ≡ p) × (kind ≡ k) × (operand ≡ o)
-
-wrong_is : (program : ProgramTree) (inputs : List ℤ) (r : Found) → Comes program inputs r → (s : State) (chain : List Pos) (at : Pos) (kind : WrongKind) (operand : Operand)
-    → GoesWrong program inputs s chain at kind operand → WrongOnly r chain at kind operand
-wrong_is program inputs (Value v) (t, (m, l), e) s chain at kind operand w =
-    let (n, f) = w.reached in
-    let here : steps program m (start inputs) ≡ steps program n (start inputs) =
-    same_end program m n (start inputs) (subst (StandsStill program) (sym l) (ended_stands program t v e)) (subst (StandsStill program) (sym f) (wrong_stands program s at kind operand w.wrong)) in
-    let g : Ended v ≡ machine.Wrong at kind operand = sym e ∙ ap (λ x. step program x) (sym l ∙ here ∙ f) ∙ w.wrong in
-    cc
-wrong_is program inputs (found.Wrong p k o) (t, (m, l), e, c) s chain at kind operand w =
-    let (n, f) = w.reached in
-    let here : steps program m (start inputs) ≡ steps program n (start inputs) =
-    same_end program m n (start inputs) (subst (StandsStill program) (sym l) (wrong_stands program t p k o e)) (subst (StandsStill program) (sym f) (wrong_stands program s at kind operand w.wrong)) in
-    let same : t ≡ s = sym l ∙ here ∙ f in
-    let g : machine.Wrong p k o ≡ machine.Wrong at kind operand = sym e ∙ ap (λ x. step program x) same ∙ w.wrong in
-    (sym w.called ∙ ap (λ (x : State). reverse (calls_in x.work)) (sym same) ∙ ap (λ (x : List Pos). reverse x) c, cc, cc, cc)
-
-pub wrong_only : (e : ExprTree) (inputs : List ℤ) (s : State) (chain : List Pos) (at : Pos) (kind : WrongKind) (operand : Operand)
-    → GoesWrong (returning e) inputs s chain at kind operand → WrongOnly (found_of e) chain at kind operand
-wrong_only e inputs s chain at kind operand w = wrong_is (returning e) inputs (found_of e) (comes e inputs) s chain at kind operand w
+pub evaluation : (p : TProgramTree) (value : TExprTree) (e : ExprTree) → expression value ≡ Some e
+    → (work : List Item) (stack : List Held) (m : ObjectMemory) (i : List ℤ) → Reaches p (state (Eval value ∷ work) stack m i) work stack m i (found_of e)
+evaluation p (typed.Const at ty n) e is work stack m i =
+    let (int_type, same) = constant_is at ty n e is in
+    subst (λ (e : ExprTree). Reaches p (state (Eval (typed.Const at ty n) ∷ work) stack m i) work stack m i (found_of e)) (sym same)
+    (subst (λ (ty : IntType). Leads p (state (Eval (typed.Const at ty n) ∷ work) stack m i) (state work (int n ∷ stack) m i)) (sym int_type)
+    (one_step p _ (state work (int n ∷ stack) m i) refl))
+evaluation p (typed.Unary at op a) e is work stack m i =
+    let h : IsNegation at op a e = unary_is at op a e is in
+    subst (λ (e : ExprTree). Reaches p (state (Eval (typed.Unary at op a) ∷ work) stack m i) work stack m i (found_of e)) (sym h.is)
+    (subst (λ (op : TUnaryOp). Reaches p (state (Eval (typed.Unary at op a) ∷ work) stack m i) work stack m i (negated at (found_of h.operand))) (sym h.op_is)
+    (negation_reaches p at a work stack m i (found_of h.operand) (evaluation p a h.operand h.reads (minus at a ∷ work) stack m i)))
+evaluation p (typed.Binary at op a b) e is work stack m i =
+    let h : IsOperation at op a b e = binary_is at op a b e is in
+    subst (λ (e : ExprTree). Reaches p (state (Eval (typed.Binary at op a b) ∷ work) stack m i) work stack m i (found_of e)) (sym h.is)
+    (subst (λ (op : TBinaryOp). Reaches p (state (Eval (typed.Binary at op a b) ∷ work) stack m i) work stack m i
+    (operated at h.operator (found_of h.left) (found_of h.right))) (sym h.op_is)
+    (both_reach p at h.operator a b work stack m i (found_of h.left) (found_of h.right)
+    (evaluation p a h.left h.reads_left (Eval b ∷ Bin at (binary_op h.operator) ∷ work) stack m i)
+    (λ x. evaluation p b h.right h.reads_right (Bin at (binary_op h.operator) ∷ work) (int x ∷ stack) m i)))
+evaluation p (typed.Null at ty) e is work stack m i = cc
+evaluation p (typed.Load at place) e is work stack m i = cc
+evaluation p (typed.AddressOf at place) e is work stack m i = cc
+evaluation p (typed.Decay at place) e is work stack m i = cc
+evaluation p (typed.Whole at place) e is work stack m i = cc
+evaluation p (typed.Convert at ty operand) e is work stack m i = cc
+evaluation p (typed.Assign at place value) e is work stack m i = cc
+evaluation p (typed.AssignStruct at extent place source) e is work stack m i = cc
+evaluation p (typed.Compound at op place value) e is work stack m i = cc
+evaluation p (typed.Step at time way stride place) e is work stack m i = cc
+evaluation p (typed.And at left right) e is work stack m i = cc
+evaluation p (typed.Or at left right) e is work stack m i = cc
+evaluation p (typed.Cond at ty condition first second) e is work stack m i = cc
+evaluation p (typed.Comma at left right) e is work stack m i = cc
+evaluation p (typed.Call at function ty used args) e is work stack m i = cc
+evaluation p (typed.Any at ty) e is work stack m i = cc
+evaluation p (typed.Assume at operand) e is work stack m i = cc
+evaluation p (typed.Assert at operand) e is work stack m i = cc

@@ -20,7 +20,7 @@ use Rattle.c_syntax.specs.Program.{TFunctionTree, TProgramTree}
 use Rattle.constant_form.specs.declared.tree.Operator.{Operator}
 use Rattle.constant_form.specs.declared.tree.Operator.TheVariants.{Add, Subtract, Multiply, Divide}
 use Rattle.constant_form.specs.Operators.{fits}
-use Rattle.constant_form.specs.Tree.{ExprTree, Negate, Binary, ProgramTree, returning}
+use Rattle.constant_form.specs.Tree.{ExprTree, Negate, Binary}
 use Rattle.constant_form.specs.Tree as trees
 
 abbrev pub is_int : IntType → Bool
@@ -89,6 +89,12 @@ pub record Returns (program : TProgramTree) (value : TExprTree) : Type 0 where
   pub objects : program.objects ≡ []
   pub functions : (function : TFunctionTree) × (program.functions ≡ function ∷ []) × IsMainReturning function value
 
--- the typed program is of the form, and is this program
-pub record IsForm (typed_program : TProgramTree) (program : ProgramTree) : Type 0 where
-  pub read : (value : TExprTree) × (e : ExprTree) × Returns typed_program value × (expression value ≡ Some e) × (program ≡ returning e)
+-- the typed program is of the form, and returns this expression
+pub record IsForm (program : TProgramTree) (e : ExprTree) : Type 0 where
+  pub value : TExprTree
+  pub returns : Returns program value
+  pub read : expression value ≡ Some e
+
+-- the typed program is of the form
+abbrev pub IsBuilt : TProgramTree → Type 0
+IsBuilt program = (e : ExprTree) × IsForm program e

@@ -1,7 +1,6 @@
 pub mod Tree
 pub mod Form
 pub mod Operators
-pub mod Machine
 pub mod Sound
 pub mod Admission
 pub mod Order

@@ -1,32 +1,55 @@
 -- Soundness: every execution that goes wrong is told of, with its operand and the facts of its state.
-use Rattle.std.specs.Prelude.{◌≡◌, ℤ, pos, Some, List, All, Any}
+use Rattle.std.specs.Prelude.{◌≡◌, ℕ, ℤ, pos, Option, Some, List, All, Any, MatchOption}
 use Rattle.c_written.specs.declared.place.Pos.{Pos}
 use Rattle.c_syntax.specs.declared.alarm.WrongKind.{WrongKind}
 use Rattle.c_syntax.specs.declared.alarm.Alarm.{Alarm}
+use Rattle.c_syntax.specs.declared.alarm.Cell.{Cell}
+use Rattle.c_syntax.specs.declared.alarm.Fact.{Fact}
 use Rattle.c_syntax.specs.declared.alarm.Shown.TheVariants as shows
 use Rattle.c_syntax.specs.Operand.{Operand, Number}
+use Rattle.c_syntax.specs.Program.{TProgramTree}
 use Rattle.c_syntax.specs.Admission.{IsInShown}
 use Rattle.c_syntax.specs.Fact.{FactHolds}
-use Rattle.constant_form.specs.Tree.{ProgramTree, objects_of}
-use Rattle.constant_form.specs.Machine.{State, GoesWrong, IsWrongAt, number_of, spot_of}
+use Rattle.c_layout.specs.MainFunction.{main_of}
+use Rattle.c_values.specs.Places.{ObjectMemory}
+use Rattle.c_objects.specs.Cells.{cell_spot, IsCellNumber}
+use Rattle.c_steps.specs.States.{State}
+use Rattle.c_steps.specs.Runs.{GoesWrong}
+
+-- a run of main on these inputs reaches this state, whose step is wrong at this chain, place and kind, with this operand of the failing check
+abbrev pub MainGoesWrong : TProgramTree → List ℤ → State → List Pos → Pos → WrongKind → Operand → Type 0
+MainGoesWrong p inputs s chain at kind operand = (main : ℕ) × (main_of p ≡ Some main) × GoesWrong p main inputs s chain at kind operand
+
+-- the run of main on these inputs goes wrong at this chain, place and kind
+abbrev pub MainIsWrongAt : TProgramTree → List ℤ → List Pos → Pos → WrongKind → Type 0
+MainIsWrongAt p inputs chain at kind = (s : State) × (operand : Operand) × MainGoesWrong p inputs s chain at kind operand
+
+-- each cell has the number that its bytes have in this memory, or none
+abbrev pub AreNumbers : TProgramTree → ObjectMemory → (Cell → Option ℤ) → Type 0
+AreNumbers p m number = (cell : Cell) → MatchOption (number cell)
+    ((n : ℤ) → IsCellNumber p.structs p.objects m cell n → ⊥) (IsCellNumber p.structs p.objects m cell)
+
+-- the fact holds in this memory
+abbrev pub HoldsIn : TProgramTree → ObjectMemory → Fact → Type 0
+HoldsIn p m fact = (number : Cell → Option ℤ) → AreNumbers p m number → FactHolds p.objects number (cell_spot m) fact
 
 -- the alarm is of this chain, place and kind
 abbrev pub TellsOf : List Pos → Pos → WrongKind → Alarm → Type 0
 TellsOf chain at kind alarm = (alarm.chain ≡ chain) × (alarm.pos ≡ at) × (alarm.kind ≡ kind)
 
 -- what a step that goes wrong looks at is shown, and the facts hold there
-abbrev pub Covers : ProgramTree → State → Operand → Alarm → Type 0
-Covers program s operand alarm = IsInShown (objects_of program) operand alarm.shown × All (FactHolds (objects_of program) (number_of s) (spot_of s)) alarm.facts
+abbrev pub Covers : TProgramTree → State → Operand → Alarm → Type 0
+Covers p s operand alarm = IsInShown p.objects operand alarm.shown × All (HoldsIn p s.memory) alarm.facts
 
 -- for all inputs, each run that goes wrong is told of, and each alarm that tells of one covers it
-pub record IsSound (program : ProgramTree) (alarms : List Alarm) : Type 0 where
-  pub misses_none : (inputs : List ℤ) (chain : List Pos) (at : Pos) (kind : WrongKind) → IsWrongAt program inputs chain at kind
+pub record IsSound (p : TProgramTree) (alarms : List Alarm) : Type 0 where
+  pub misses_none : (inputs : List ℤ) (chain : List Pos) (at : Pos) (kind : WrongKind) → MainIsWrongAt p inputs chain at kind
       → Any (TellsOf chain at kind) alarms
   pub shows : (inputs : List ℤ) (s : State) (chain : List Pos) (at : Pos) (kind : WrongKind) (operand : Operand)
-      → GoesWrong program inputs s chain at kind operand
-      → All (λ alarm. TellsOf chain at kind alarm → Covers program s operand alarm) alarms
+      → MainGoesWrong p inputs s chain at kind operand
+      → All (λ alarm. TellsOf chain at kind alarm → Covers p s operand alarm) alarms
 
 -- an alarm shows no more than runs reach: on any inputs the run goes wrong there, with a number that is both ends of what is shown
-abbrev pub IsLeast : ProgramTree → Alarm → Type 0
-IsLeast program alarm = (inputs : List ℤ) → (n : ℤ) × (s : State) × GoesWrong program inputs s alarm.chain alarm.pos alarm.kind (Number n)
+abbrev pub IsLeast : TProgramTree → Alarm → Type 0
+IsLeast p alarm = (inputs : List ℤ) → (n : ℤ) × (s : State) × MainGoesWrong p inputs s alarm.chain alarm.pos alarm.kind (Number n)
     × (alarm.shown ≡ shows.Number (Some n) (Some n) (pos 1) (pos 0))

@@ -1,7 +1,6 @@
 -- The trees of this form without pointers, so that a text has one.
-use Rattle.std.specs.Prelude.{ℤ, List, [], ◌∷◌}
+use Rattle.std.specs.Prelude.{ℤ}
 use Rattle.c_written.specs.declared.place.Pos.{Pos}
-use Rattle.c_syntax.specs.Types.{ObjectTree}
 use Rattle.constant_form.specs.declared.tree.Operator.{Operator}
 use Rattle.constant_form.specs.Operators.{IsInt}
 use Rattle.constant_form.specs.declared.tree.Expr.{Expr}
@@ -18,20 +17,6 @@ abbrev pub expr_tree : Expr → ExprTree
 expr_tree (code.Constant at n) = Constant at n
 expr_tree (code.Negate' at p a) = Negate at (expr_tree a)
 expr_tree (code.Binary' at op p a q b) = Binary at op (expr_tree a) (expr_tree b)
-
-pub data Statement : Type 0 where
-  Return : ExprTree → Statement
-
--- a program: the statements of main, whose result is int
-pub record ProgramTree : Type 0 where
-  pub body : List Statement
-
-abbrev pub returning : ExprTree → ProgramTree
-returning e = record { body = Return e ∷ [] }
-
--- this form has no objects
-abbrev pub objects_of : ProgramTree → List ObjectTree
-objects_of program = []
 
 -- each constant is an int
 abbrev pub HasConstants : ExprTree → Type 0

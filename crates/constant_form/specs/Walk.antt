@@ -13,7 +13,15 @@ use Rattle.ext_int.specs.declared.Ext.TheVariants.{Low, Fin, High}
 use Rattle.intervals.specs.declared.Interval.{Interval}
 use Rattle.intervals.specs.Interval.{IsPoint}
 use Rattle.constant_form.specs.Outcome.{Found, Value, Wrong}
-use Rattle.constant_form.specs.Admission.{int_check, zero_check}
+use Rattle.c_layout.specs.Checks.{plain_check, range_check}
+use Rattle.constant_form.specs.Operators.{least, greatest}
+
+-- a result has to be an int, and a divisor is not to be 0
+abbrev pub int_check : WrongKind → Check
+int_check kind = range_check kind least greatest
+
+abbrev pub zero_check : Check
+zero_check = plain_check DivideByZero
 
 -- the check of this kind that an operator makes
 abbrev pub check_of : WrongKind → Check

@@ -9,7 +9,7 @@ ghost use Rattle.c_syntax.specs.TypedExpr as typed;
 ghost use Rattle.c_syntax.specs.TypedExpr.{texpr_tree};
 ghost use Rattle.c_syntax.specs.TypedStmt.{tstmt_tree, tstmts_tree};
 ghost use Rattle.c_syntax.specs.Program.{tfunction_tree, tprogram_tree};
-ghost use Rattle.constant_form.specs.Tree.{ProgramTree, expr_tree, returning, HasConstants};
+ghost use Rattle.constant_form.specs.Tree.{ExprTree, expr_tree, HasConstants};
 ghost use Rattle.constant_form.specs.Form.{IsForm, IsMainReturning, Returns, arithmetic_of, binary_at, constant_at, expression, is_int, negation_at, operator_of, returned_by, returned_from, returned_in, unary_at};
 
 use crate::tree::{Expr, Operator};
@@ -29,11 +29,11 @@ const GREATEST: i128 = 2_147_483_647;
 /// of another form.
 pub fn form_of(alloc: Global, program: &TProgram) -> Result<Option<Expr>, AllocError>
     ensures found { IfOk result (λ found. MatchOption found
-        ((form : ProgramTree) → IsForm (tprogram_tree program.now) form → ⊥)
-        (λ e. IsForm (tprogram_tree program.now) (returning (expr_tree e)))) }
+        ((e : ExprTree) → IsForm (tprogram_tree program.now) e → ⊥)
+        (λ e. IsForm (tprogram_tree program.now) (expr_tree e))) }
     // The program is of the form in one way.
     ensures only { IfOk result (λ found. IfSome found
-        (λ e. (other : ProgramTree) → IsForm (tprogram_tree program.now) other → other ≡ returning (expr_tree e))) }
+        (λ e. (other : ExprTree) → IsForm (tprogram_tree program.now) other → other ≡ expr_tree e)) }
     ensures constants { IfOk result (λ found. IfSome found (λ e. HasConstants (expr_tree e))) }
 {
     let Some(value) = returned(program) else {

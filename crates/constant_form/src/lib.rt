@@ -6,7 +6,7 @@
 //! | What | Stated in `specs/` | Promised by |
 //! |---|---|---|
 //! | the form, on a typed program | `Form` | `form_of` |
-//! | what a run does, and when it goes wrong | `Machine` | |
+//! | what a run does, and when it goes wrong | `Steps` and `Runs` of c_steps | |
 //! | alarms miss no run, and show no more than runs reach | `Sound` | `alarms_of` |
 //! | which alarms a program admits | `Admission` | `alarms_of` |
 //! | their order | `Order` | `alarms_of` |

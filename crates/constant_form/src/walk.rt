@@ -1,13 +1,15 @@
 // What may go wrong in an expression, by a walk over the intervals of its values.
 ghost use Rattle.std.specs.Prelude.{◌≡◌, ◌≢◌, ◌≤ℤ◌, ◌<ℤ◌, ◌↔◌, ℤ, pos, int_div, All, AllPairs, IfOk, IfSome, IsNone, IsTrue};
 ghost use Rattle.intervals.specs.Interval.{Admits, IsPoint};
-ghost use Rattle.constant_form.specs.Admission.{IsAdmitted, int_check, zero_check};
+ghost use Rattle.c_syntax.specs.Program.{TProgramTree};
+ghost use Rattle.constant_form.specs.Admission.{IsAdmitted};
+ghost use Rattle.constant_form.specs.Form.{IsForm};
 ghost use Rattle.constant_form.specs.Operators.{least, greatest, IsInt, checked, operate};
 ghost use Rattle.constant_form.specs.Outcome.{found_at, found_of};
 ghost use Rattle.constant_form.specs.Order.{Precedes, IsPrintable};
 ghost use Rattle.constant_form.specs.Sound.{IsLeast, IsSound};
-ghost use Rattle.constant_form.specs.Tree.{expr_tree, returning, HasConstants};
-ghost use Rattle.constant_form.specs.Walk.{check_of, IsAlarmOf, Walks, number_at};
+ghost use Rattle.constant_form.specs.Tree.{expr_tree, HasConstants};
+ghost use Rattle.constant_form.specs.Walk.{check_of, int_check, zero_check, IsAlarmOf, Walks, number_at};
 
 use crate::tree::{Expr, Operator};
 use c_syntax::{Alarm, Check, Example, Facts, Places, Pos, Shown, WrongKind};
@@ -19,14 +21,14 @@ const LEAST: i128 = -2_147_483_648;
 
 const GREATEST: i128 = 2_147_483_647;
 
-/// The alarms of a program that returns this expression, in their order.
+/// The alarms of a program of the form that returns this expression, in their order.
 pub fn alarms_of(alloc: Global, e: &Expr) -> Result<Vec<Alarm>, AllocError>
     requires { HasConstants (expr_tree e.now) }
-    ensures sound { IfOk result (λ alarms. IsSound (returning (expr_tree e.now)) alarms.items) }
-    ensures admitted { IfOk result (λ alarms. All (IsAdmitted (returning (expr_tree e.now))) alarms.items) }
+    ensures sound { IfOk result (λ alarms. (p : TProgramTree) → IsForm p (expr_tree e.now) → IsSound p alarms.items) }
+    ensures admitted { IfOk result (λ alarms. (p : TProgramTree) → IsForm p (expr_tree e.now) → All (IsAdmitted p) alarms.items) }
     ensures ordered { IfOk result (λ alarms. AllPairs Precedes alarms.items) }
     ensures printable { IfOk result (λ alarms. All IsPrintable alarms.items) }
-    ensures least { IfOk result (λ alarms. All (IsLeast (returning (expr_tree e.now))) alarms.items) }
+    ensures least { IfOk result (λ alarms. (p : TProgramTree) → IsForm p (expr_tree e.now) → All (IsLeast p) alarms.items) }
 {
     let mut alarms = Vec::new(alloc);
     walk(alloc, e, &mut alarms)?;

@@ -2,7 +2,7 @@
 use Rattle.std.proofs.Common.{◌≡◌, ◌⊎◌, inl, inr, List, ℕ, Option, Some, None}
 use Rattle.std.specs.Prelude.{All, AllPairs, IfSome, IsSomeAnd}
 use Rattle.c_syntax.specs.declared.alarm.Alarm.{Alarm}
-use Rattle.constant_form.specs.Tree.{ProgramTree}
+use Rattle.c_syntax.specs.Program.{TProgramTree}
 use Rattle.constant_form.specs.Sound.{IsSound}
 use Rattle.constant_form.specs.Admission.{IsAdmitted}
 use Rattle.constant_form.specs.Order.{Precedes, IsPrintable}
@@ -39,7 +39,7 @@ pub refused : (name bytes text : List ℕ) (found : Option RefusalTree) → IsSo
 refused name bytes text None is line = absurd is
 refused name bytes text (Some r) is line = (r, is, line)
 
-pub report : (name bytes : List ℕ) (program : ProgramTree) (alarms : List Alarm) (text : List ℕ) → IsOneProgram bytes program
+pub report : (name bytes : List ℕ) (program : TProgramTree) (alarms : List Alarm) (text : List ℕ) → IsOneProgram bytes program
     → IsSound program alarms → All (IsAdmitted program) alarms → AllPairs Precedes alarms → All IsPrintable alarms → text ≡ text_of name alarms → IsReport name bytes alarms text
 report name bytes program alarms text one sound admitted ordered printable text_is = record {
   program = program;

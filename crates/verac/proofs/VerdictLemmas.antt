@@ -17,13 +17,11 @@ use Rattle.c_rules.specs.Outcomes.{AdmittedIsNotRefused, RefusalsAreOne}
 use Rattle.c_rules.specs.Rules.{IsRefused}
 use Rattle.rule_text.specs.Refusals.{RuleRefusal}
 use Rattle.rule_text.specs.RuleText.{names_of}
-use Rattle.constant_form.specs.Tree.{ProgramTree}
-use Rattle.constant_form.specs.Form.{IsForm}
+use Rattle.constant_form.specs.Form.{IsBuilt}
 use Rattle.verac.specs.Program.{IsSource, IsTypedAs, IsAdmittedAs, IsProgram}
 use Rattle.verac.specs.Refusal.{RefusalTree, FileTooLarge, Lexing, Syntax, Unsupported, TooDeep, Typing, Rule, NotBuilt, rule_without_calls, without_calls}
 use Rattle.verac.specs.Verdict.{IsUnparsed, IsUntyped, IsNotAdmitted, IsUnbuilt, IsRefusedFor}
 use Rattle.verac.proofs.RuleLemmas.{asked, one_told}
-use Rattle.constant_form.proofs.FormLemmas.{one_form}
 
 abbrev pub OneCut : Type 0
 OneCut = (file : ℕ) (text : List ℕ) (v w : Tokens) → IsCut file text v → IsCut file text w → v ≡ w
@@ -74,12 +72,8 @@ not_unparsed : OneCut → NotFileAndRefused → (bytes : List ℕ) (file : FileT
 not_unparsed cuts not_both bytes file why at (ts, cut, is) (us, other, (rest, refused, place)) =
     not_both ts.list rest why file is (subst (λ (v : Tokens). grammar.IsRefused v.list rest why) (cuts 0 bytes us ts other cut) refused)
 
-pub one_program : OneCut → OneFile → FilesHaveOne → (bytes : List ℕ) (a b : ProgramTree) → IsProgram bytes a → IsProgram bytes b → a ≡ b
-one_program cuts files outcomes bytes a b is other =
-    let (tree, (typed, admitted), form) = is.read in
-    let (found, (found_typed, found_admitted), found_form) = other.read in
-    let same : found ≡ tree = one_typed cuts files outcomes bytes found tree found_typed typed in
-    one_form tree a b form (subst (λ (p : TProgramTree). IsForm p b) same found_form)
+pub one_program : OneCut → OneFile → FilesHaveOne → (bytes : List ℕ) (a b : TProgramTree) → IsProgram bytes a → IsProgram bytes b → a ≡ b
+one_program cuts files outcomes bytes a b is other = one_typed cuts files outcomes bytes a b is.admitted.0 other.admitted.0
 
 -- a program that is admitted is refused for no rule
 not_ruled : OneCut → OneFile → FilesHaveOne → AdmittedIsNotRefused → (bytes : List ℕ) (tree : TProgramTree) (names : List (List ℕ)) (r : RuleRefusal) → IsAdmittedAs bytes tree → IsNotAdmitted bytes names r → ⊥
@@ -89,23 +83,23 @@ not_ruled cuts files outcomes admits bytes tree names r (typed, admitted) (other
 
 -- what is admitted is not refused but for its form
 not_both_typed :
-    OneCut → NotCutAndUncut → OneFile → NotFileAndRefused → FilesHaveOne → AdmittedIsNotRefused → (bytes : List ℕ) (tree : TProgramTree) (program : ProgramTree) (r : RefusalTree)
-    → length bytes ≤ 4194304 → IsAdmittedAs bytes tree → IsForm tree program → IsRefusedFor bytes r → ⊥
-not_both_typed cuts whole files parsed outcomes admits bytes tree program FileTooLarge small typed form large = absurd (omega arith)
-not_both_typed cuts whole files parsed outcomes admits bytes tree program (Lexing reason at) small ((file, (ts, cut, source), types), admitted) form (low, uncut) = whole 0 bytes ts at reason cut uncut
-not_both_typed cuts whole files parsed outcomes admits bytes tree program (Syntax at) small ((file, source, types), admitted) form (low, r) = not_unparsed cuts parsed bytes file grammar.Syntax at source r
-not_both_typed cuts whole files parsed outcomes admits bytes tree program (Unsupported c at) small ((file, source, types), admitted) form (low, r) = not_unparsed cuts parsed bytes file (grammar.Unsupported c) at source r
-not_both_typed cuts whole files parsed outcomes admits bytes tree program (TooDeep at) small ((file, source, types), admitted) form (low, r) = not_unparsed cuts parsed bytes file grammar.TooDeep at source r
-not_both_typed cuts whole files parsed outcomes admits bytes tree program (Typing r) small (typed, admitted) form (low, untyped) = not_untyped cuts files outcomes bytes tree r typed untyped
-not_both_typed cuts whole files parsed outcomes admits bytes tree program (Rule names r) small typed form (low, refused) = not_ruled cuts files outcomes admits bytes tree names r typed refused
-not_both_typed cuts whole files parsed outcomes admits bytes tree program NotBuilt small (typed, admitted) form (low, (other, (found, also), none)) =
-    none program (subst (λ (p : TProgramTree). IsForm p program) (one_typed cuts files outcomes bytes tree other typed found) form)
+    OneCut → NotCutAndUncut → OneFile → NotFileAndRefused → FilesHaveOne → AdmittedIsNotRefused → (bytes : List ℕ) (tree : TProgramTree) (r : RefusalTree)
+    → length bytes ≤ 4194304 → IsAdmittedAs bytes tree → IsBuilt tree → IsRefusedFor bytes r → ⊥
+not_both_typed cuts whole files parsed outcomes admits bytes tree FileTooLarge small typed form large = absurd (omega arith)
+not_both_typed cuts whole files parsed outcomes admits bytes tree (Lexing reason at) small ((file, (ts, cut, source), types), admitted) form (low, uncut) = whole 0 bytes ts at reason cut uncut
+not_both_typed cuts whole files parsed outcomes admits bytes tree (Syntax at) small ((file, source, types), admitted) form (low, r) = not_unparsed cuts parsed bytes file grammar.Syntax at source r
+not_both_typed cuts whole files parsed outcomes admits bytes tree (Unsupported c at) small ((file, source, types), admitted) form (low, r) = not_unparsed cuts parsed bytes file (grammar.Unsupported c) at source r
+not_both_typed cuts whole files parsed outcomes admits bytes tree (TooDeep at) small ((file, source, types), admitted) form (low, r) = not_unparsed cuts parsed bytes file grammar.TooDeep at source r
+not_both_typed cuts whole files parsed outcomes admits bytes tree (Typing r) small (typed, admitted) form (low, untyped) = not_untyped cuts files outcomes bytes tree r typed untyped
+not_both_typed cuts whole files parsed outcomes admits bytes tree (Rule names r) small typed form (low, refused) = not_ruled cuts files outcomes admits bytes tree names r typed refused
+not_both_typed cuts whole files parsed outcomes admits bytes tree NotBuilt small (typed, admitted) form (low, (other, (found, also), none)) =
+    none (subst IsBuilt (one_typed cuts files outcomes bytes tree other typed found) form)
 
 pub not_both :
-    OneCut → NotCutAndUncut → OneFile → NotFileAndRefused → FilesHaveOne → AdmittedIsNotRefused → (bytes : List ℕ) (program : ProgramTree) (r : RefusalTree) → length bytes ≤ 4194304
+    OneCut → NotCutAndUncut → OneFile → NotFileAndRefused → FilesHaveOne → AdmittedIsNotRefused → (bytes : List ℕ) (program : TProgramTree) (r : RefusalTree) → length bytes ≤ 4194304
     → IsProgram bytes program → IsRefusedFor bytes r → ⊥
 not_both cuts whole files parsed outcomes admits bytes program r small is refused =
-    let (tree, typed, form) = is.read in not_both_typed cuts whole files parsed outcomes admits bytes tree program r small typed form refused
+    not_both_typed cuts whole files parsed outcomes admits bytes program r small is.admitted is.built refused
 
 -- the refusal of a token
 abbrev parsing : Why → Pos → RefusalTree

@@ -3,7 +3,7 @@ use Rattle.std.specs.Prelude.{◌≡◌, ◌≢◌, ℕ, List, [], All, AllPairs
 use Rattle.c_syntax.specs.declared.alarm.Alarm.{Alarm}
 use Rattle.verac.specs.declared.status.Status.{Status}
 use Rattle.verac.specs.declared.status.Status.TheVariants.{NoAlarm, Alarms, Refused, Usage, ReadFault, NoMemory}
-use Rattle.constant_form.specs.Tree.{ProgramTree}
+use Rattle.c_syntax.specs.Program.{TProgramTree}
 use Rattle.verac.specs.Program.{IsProgram}
 use Rattle.constant_form.specs.Sound.{IsSound}
 use Rattle.constant_form.specs.Admission.{IsAdmitted}
@@ -15,9 +15,9 @@ use Rattle.verac.specs.Verdict.{IsRefusedFor}
 
 -- the text is the report of these alarms on the one program of the bytes, which are not refused
 pub record IsReport (name bytes : List ℕ) (alarms : List Alarm) (text : List ℕ) : Type 0 where
-  pub program : ProgramTree
+  pub program : TProgramTree
   pub read : IsProgram bytes program
-  pub only : (other : ProgramTree) → IsProgram bytes other → other ≡ program
+  pub only : (other : TProgramTree) → IsProgram bytes other → other ≡ program
   pub accepted : (r : RefusalTree) → IsRefusedFor bytes r → ⊥
   pub sound : IsSound program alarms
   pub admitted : All (IsAdmitted program) alarms

@@ -7,8 +7,7 @@ use Rattle.c_lexer.specs.Cut.{IsCut}
 use Rattle.c_grammar.specs.Refused.{IsFile}
 use Rattle.c_typing.specs.File.{TypesFile, Program}
 use Rattle.c_rules.specs.Rules.{IsAdmitted}
-use Rattle.constant_form.specs.Tree.{ProgramTree}
-use Rattle.constant_form.specs.Form.{IsForm}
+use Rattle.constant_form.specs.Form.{IsBuilt}
 
 -- the bytes are cut into the tokens of this file, of which none is refused
 abbrev pub IsSource : List ℕ → FileTree → Type 0
@@ -22,6 +21,7 @@ IsTypedAs bytes typed = (file : FileTree) × IsSource bytes file × TypesFile fi
 abbrev pub IsAdmittedAs : List ℕ → TProgramTree → Type 0
 IsAdmittedAs bytes typed = IsTypedAs bytes typed × IsAdmitted typed
 
--- the bytes are this program
-pub record IsProgram (bytes : List ℕ) (program : ProgramTree) : Type 0 where
-  pub read : (typed : TProgramTree) × IsAdmittedAs bytes typed × IsForm typed program
+-- the bytes are this program, which is of the built form
+pub record IsProgram (bytes : List ℕ) (program : TProgramTree) : Type 0 where
+  pub admitted : IsAdmittedAs bytes program
+  pub built : IsBuilt program

@@ -15,8 +15,7 @@ use Rattle.c_rules.specs.declared.error.RuleError.{RuleError}
 use Rattle.c_rules.specs.Rules.{IsRefused}
 use Rattle.rule_text.specs.Refusals.{RuleRefusal, refusal_of}
 use Rattle.rule_text.specs.RuleText.{names_of}
-use Rattle.constant_form.specs.Tree.{ProgramTree}
-use Rattle.constant_form.specs.Form.{IsForm}
+use Rattle.constant_form.specs.Form.{IsBuilt}
 use Rattle.verac.specs.Program.{IsSource, IsTypedAs, IsAdmittedAs}
 use Rattle.verac.specs.Refusal.{RefusalTree, FileTooLarge, Lexing, Syntax, Unsupported, TooDeep, Typing, Rule, NotBuilt}
 
@@ -38,7 +37,7 @@ IsNotAdmitted bytes names r = (typed : TProgramTree) × IsTypedAs bytes typed ×
 
 -- the bytes are a typed program that the rules admit, of another form
 abbrev pub IsUnbuilt : List ℕ → Type 0
-IsUnbuilt bytes = (typed : TProgramTree) × IsAdmittedAs bytes typed × ((program : ProgramTree) → IsForm typed program → ⊥)
+IsUnbuilt bytes = (typed : TProgramTree) × IsAdmittedAs bytes typed × (IsBuilt typed → ⊥)
 
 -- the first of these for which the bytes are refused: their number, a place that is not cut into tokens, a token, a part that has no type,
 -- a rule, and a form that is not built yet
