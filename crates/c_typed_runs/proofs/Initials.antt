@@ -143,7 +143,7 @@ copied_some p m x offset part source extent from (Some b) here lives ok k at row
     let h = room p m x b offset extent.size part ok k here at row.size in
     copy_changes p.objects m (record { block = b; offset = pos offset }) from extent.size k h.made read (bytes_pass m b offset extent.size (align_in p.structs part) h)
 
-copied_value : (p : TProgramTree) (m : ObjectMemory) (x offset : ℕ) (part source : CTypeTree) (extent : Extent) (v : Value) → IsSome (place_of m x) → AreFillable p
+pub copied_value : (p : TProgramTree) (m : ObjectMemory) (x offset : ℕ) (part source : CTypeTree) (extent : Extent) (v : Value) → IsSome (place_of m x) → AreFillable p
     → KeepsIn p m → PartAt p.structs (object_type p x) offset part → CopyRow p.structs extent part source → Has (length m.blocks) scalars.Pointer v
     → judge p.objects (read_looks m v extent.size extent.align) ≡ Passes
     → IsChanged (AreWholeInitials p.initial) p.objects m (option_and_then (λ target. copied_at m target v extent.size) (address m x offset))
