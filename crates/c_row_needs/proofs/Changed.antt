@@ -1,5 +1,5 @@
 -- Stores and copies are made where their looks pass.
-use Rattle.std.proofs.Common.{◌≡◌, ℕ, List, length, Option, Some, None, refl}
+use Rattle.std.proofs.Common.{List, length, Option, refl}
 use Rattle.std.specs.Prelude.{IsSome}
 use Rattle.c_syntax.specs.declared.operator.Extent.{Extent}
 use Rattle.c_syntax.specs.Types.{ObjectTree}

@@ -1,6 +1,6 @@
 -- A function that is entered is there, and its arguments fill its parameters.
 use Rattle.std.proofs.Common.{◌≡◌, ◌<◌, ℕ, zero, suc, List, [], ◌∷◌, ◌++◌, map, length, Option, Some, None, refl, sym, ap, ◌∙◌, subst}
-use Rattle.std.specs.Prelude.{reverse, IsSome, All, Contains, slice_get, slice_index_or}
+use Rattle.std.specs.Prelude.{reverse, IsSome, Contains, slice_get, slice_index_or}
 use Rattle.std.proofs.lemmas.Grind.{reverse_onto}
 use Rattle.std.proofs.lemmas.List.{append-nil, append_assoc, map-append}
 use Rattle.std.proofs.lemmas.List.Elements.{All-weaker}
@@ -24,13 +24,13 @@ use Rattle.c_typed_runs.specs.Wants.{Want, Stacked}
 use Rattle.c_typed_runs.specs.Takes.{args_on, param_wants}
 use Rattle.c_typed_runs.specs.Opens.{Use, Object, Function, Lists, OpensCall}
 use Rattle.c_typed_runs.specs.Fits.{AreLive, IsReady}
-use Rattle.c_typed_runs.proofs.Functions.{AllHave, AreTaken, take_args, AreScalars, no_scalars, more_scalars, IsParam, params_are, params_wanted, params_count, scalar_at, all_have, fill_one}
+use Rattle.c_typed_runs.proofs.Functions.{AllHave, take_args, AreScalars, no_scalars, more_scalars, IsParam, params_are, params_wanted, params_count, scalar_at, all_have, fill_one}
 use Rattle.c_typed_runs.proofs.Kept.{KeepsIn}
 use Rattle.c_typed_runs.proofs.Lives.{all_opened}
 use Rattle.c_typed_runs.proofs.Memory.{IsChanged, changed}
 use Rattle.c_typed_runs.proofs.Runs.{typed_at, params_distinct, params_listed, are_fillable}
 use Rattle.c_typed_runs.proofs.Statements.{free_objects}
-use Rattle.c_row_needs.specs.Needs.{AreFilled, AreThere, IsEntered, IsFilledAs}
+use Rattle.c_row_needs.specs.Needs.{AreFilled, IsEntered, IsFilledAs}
 use Rattle.c_row_needs.proofs.Filled.{filled_with}
 
 -- ---- values that are taken off the stack

@@ -1,6 +1,6 @@
 -- What fills an object is put in.
-use Rattle.std.proofs.Common.{◌≡◌, ◌<◌, ◌≤◌, ◌+◌, ◌^◌, ℕ, pos, Option, Some, None, length, refl, subst, arith}
-use Rattle.std.specs.Prelude.{IsSome, option_map, option_and_then}
+use Rattle.std.proofs.Common.{◌≡◌, ◌<◌, ◌^◌, ℕ, Option, Some, None, length, refl, subst, arith}
+use Rattle.std.specs.Prelude.{IsSome, option_and_then}
 use Rattle.c_syntax.specs.declared.operator.Extent.{Extent}
 use Rattle.c_syntax.specs.Types.{CTypeTree}
 use Rattle.c_syntax.specs.Program.{TProgramTree}
@@ -14,7 +14,6 @@ use Rattle.block_mem.specs.declared.types.Scalar.TheVariants as scalars
 use Rattle.block_mem.specs.declared.types.Value.{Value}
 use Rattle.block_mem.specs.Bytes.{size_of}
 use Rattle.c_values.specs.Places.{ObjectMemory, place_of}
-use Rattle.c_objects.specs.Opening.{address}
 use Rattle.c_objects.specs.Statics.{AreWholeInitials}
 use Rattle.c_objects.specs.Writing.{copied_at}
 use Rattle.c_steps.specs.Changes.{stored}

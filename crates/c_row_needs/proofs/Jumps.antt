@@ -1,5 +1,5 @@
 -- What jumps look for stands in the work, and the objects that the work will end are there.
-use Rattle.std.proofs.Common.{◌≡◌, ◌⊎◌, inl, inr, ℕ, ◌<◌, ◌≤◌, true, List, [], ◌∷◌, length, Option, Some, None, sym, subst, arith}
+use Rattle.std.proofs.Common.{◌⊎◌, inl, inr, ℕ, ◌<◌, ◌≤◌, true, List, [], ◌∷◌, length, None, arith}
 use Rattle.std.specs.Prelude.{Contains, All, IsSome, IsTrue}
 use Rattle.std.proofs.lemmas.Bool.{cases_lt}
 use Rattle.std.proofs.lemmas.List.{get_or_past}
@@ -17,7 +17,7 @@ use Rattle.c_typed_runs.specs.Takes.{IsLevel, at_do, at_close, at_begin, at_agai
 use Rattle.c_typed_runs.specs.Fits.{Closes, AreLive}
 use Rattle.c_typed_runs.proofs.Jumps.{breaks_in, continues_in, labels_in, level_not_end}
 use Rattle.c_typed_runs.proofs.Work.{label_there}
-use Rattle.c_row_needs.specs.Needs.{AreThere, CanBreak, CanContinue, CanGoTo, CanReturn, EndsThere}
+use Rattle.c_row_needs.specs.Needs.{CanBreak, CanContinue, CanGoTo, CanReturn, EndsThere}
 
 -- ---- jumps
 

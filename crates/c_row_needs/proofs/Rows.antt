@@ -1,9 +1,8 @@
 -- What each item finds, by the rule by which the work takes values there.
-use Rattle.std.proofs.Common.{◌≡◌, ◌<◌, inl, inr, ℕ, ℤ, List, [], ◌∷◌, length, Some, refl, sym, ap, subst}
-use Rattle.std.specs.Prelude.{Contains, IsSome, slice_get}
+use Rattle.std.proofs.Common.{◌<◌, inl, inr, ℕ, ℤ, List, [], ◌∷◌, length, refl, sym, subst}
+use Rattle.std.specs.Prelude.{Contains, slice_get}
 use Rattle.c_written.specs.declared.int_type.IntType.{IntType}
 use Rattle.c_written.specs.declared.int_type.IntType.TheVariants as ints
-use Rattle.c_written.specs.Integer.{HasNumber}
 use Rattle.c_syntax.specs.declared.operator.Stride.{Stride}
 use Rattle.c_syntax.specs.declared.operator.Stride.TheVariants as strides
 use Rattle.c_syntax.specs.declared.operator.TBinaryOp.{TBinaryOp}
@@ -22,12 +21,12 @@ use Rattle.block_mem.specs.declared.types.Value.TheVariants as values
 use Rattle.block_mem.specs.Bytes.{IsOf}
 use Rattle.block_mem.specs.Proper.{IsMade}
 use Rattle.c_values.specs.Operators.{one}
-use Rattle.c_values.specs.Places.{ObjectMemory, place_of}
+use Rattle.c_values.specs.Places.{ObjectMemory}
 use Rattle.c_objects.proofs.Keeping.{keeps_where}
 use Rattle.c_steps.specs.Work.{Item}
 use Rattle.c_steps.specs.States.{Held, state, held}
 use Rattle.c_steps.specs.Changes.{step_operator}
-use Rattle.c_typed_runs.specs.Wants.{Want, Of, is_value, is_struct, is_any, Stacked, on_top}
+use Rattle.c_typed_runs.specs.Wants.{Want, is_value, is_struct, Stacked, on_top}
 use Rattle.c_typed_runs.specs.Surroundings.{around, scope_at, TypedStmt}
 use Rattle.c_typed_runs.specs.Takes as rules
 use Rattle.c_typed_runs.specs.Takes.{IsLevel, Changes, Takes, eval, addr, load, store, named, copy, modify, step_at, un, bin, convert, to_void, move, and_then, or_else, truth_of, pick, choose, keep, sure, drop, enter, leave, reach, close, begin, turn, again, select, switch_end, fill, fill_copy, rest, finish}

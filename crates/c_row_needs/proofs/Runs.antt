@@ -1,12 +1,6 @@
 -- The states of a run, from the first one on.
-use Rattle.std.proofs.Common.{◌≡◌, subst}
-use Rattle.c_syntax.specs.declared.program.Plan.{Plan}
-use Rattle.c_syntax.specs.Program.{TProgramTree}
-use Rattle.c_layout.specs.Plans.{IsPlanFor}
-use Rattle.c_layout.specs.WellTyped.{IsWellTyped}
-use Rattle.c_steps.specs.States.{State, Next, Goes}
-use Rattle.c_steps.specs.Steps.{step}
-use Rattle.c_typed_runs.specs.Fits.{Fits}
+use Rattle.std.proofs.Common.{subst}
+use Rattle.c_steps.specs.States.{Next}
 use Rattle.c_typed_runs.proofs.Rules.{On}
 use Rattle.c_typed_runs.proofs.Runs.{is_runnable}
 use Rattle.c_typed_runs.proofs.Start as start

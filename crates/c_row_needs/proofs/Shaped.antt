@@ -8,7 +8,7 @@ use Rattle.c_values.specs.Places.{ObjectMemory}
 use Rattle.c_written.specs.declared.place.Pos.{Pos}
 use Rattle.c_steps.specs.Work.{Item, AtEnd}
 use Rattle.c_steps.specs.States.{Held, state}
-use Rattle.c_typed_runs.specs.Wants.{Want, is_value, is_struct, is_any, Stacked, on_top}
+use Rattle.c_typed_runs.specs.Wants.{Want, is_value, is_struct, Stacked, on_top}
 use Rattle.c_typed_runs.specs.Takes.{GivesAtEnd, nothing, zero, zero_any, wrong, Takes, eval, addr, load, store, named, copy, modify, step_at, un, bin, convert, to_void, move, and_then, or_else, truth_of, pick, choose, keep, sure, drop, enter, leave, reach, does, close, begin, turn, again, select, switch_end, fill, fill_copy, rest, finish}
 use Rattle.c_typed_runs.specs.Fits.{Fits}
 use Rattle.c_row_needs.specs.Shapes.{IsCalled, HasShape}

@@ -1,5 +1,5 @@
 -- That each state of a typed run has what the row of its item asks for.
-use Rattle.std.specs.Prelude.{ℕ, ◌≡◌, ℤ, List, [], ◌∷◌, length}
+use Rattle.std.specs.Prelude.{◌≡◌, ℤ, List, [], ◌∷◌, length}
 use Rattle.c_syntax.specs.declared.program.Plan.{Plan}
 use Rattle.c_syntax.specs.Program.{TProgramTree}
 use Rattle.c_layout.specs.Plans.{IsPlanFor}

@@ -1,8 +1,6 @@
 -- What kinds of things stand on top of the stack where an item is next.
-use Rattle.std.specs.Prelude.{ℤ, List, ◌∷◌, Option, Some, None, IsSome}
-use Rattle.c_written.specs.declared.int_type.IntType.{IntType}
+use Rattle.std.specs.Prelude.{List, ◌∷◌, Option, Some, None, IsSome}
 use Rattle.c_written.specs.declared.place.Pos.{Pos}
-use Rattle.block_mem.specs.declared.types.Value.{Value}
 use Rattle.block_mem.specs.declared.types.Value.TheVariants as values
 use Rattle.c_values.specs.declared.values.Given.TheVariants as givens
 use Rattle.c_steps.specs.Work.{Item, AtEnd, GivesNothing, GivesZero, IsWrong, LoadAt, StoreAt, Named, CopyAt, Modify, StepAt, Un, Bin, Conv, Move, AndThen, OrElse, Truth, Pick}

@@ -1,4 +1,4 @@
-use Rattle.c_objects.proofs.Keeping.{Keeps, keeps_kept, kept_keeps, keeps_none, keeps_opened}
+use Rattle.c_objects.proofs.Keeping.{keeps_kept, kept_keeps, keeps_none, keeps_opened}
 use Rattle.c_objects.proofs.Shutting.{keeps_shut}
 use Rattle.c_objects.proofs.Writes.{keeps_stored, keeps_copied, keeps_undefined, keeps_rest}
 use Rattle.c_objects.specs.Opening.{no_objects, opened, shut}
