@@ -19,7 +19,7 @@ use Rattle.c_objects.specs.Opening.{no_objects, opened}
 use Rattle.c_objects.specs.Statics as statics
 use Rattle.c_objects.specs.Statics.{open_statics, opened_statics, with_initial, initial_at, with_initials}
 use Rattle.c_objects.proofs.Keeping.{none_lives}
-use Rattle.c_objects.proofs.Starting.{start_is_kept, start_placed}
+use Rattle.c_objects.proofs.Starting.{start_is_kept, start_keeps_objects, start_placed}
 use Rattle.c_lifetimes.proofs.Listed.{by_sum, contains_flat}
 use Rattle.c_lifetimes.proofs.Starts.{start_only}
 use Rattle.c_steps.specs.Work.{Enter, GivesZero, Finish}
@@ -101,7 +101,8 @@ module _ (p : TProgramTree) (plan : Plan) (runs : Runs p plan) where
         stacked = bottom;
         parted = (main_uses, tt, ((λ u o. absurd o), tt, tt));
         live = ((λ y o. start_placed p runs.typed runs.bits y (by_sum o (λ s. s) (λ c. absurd c))), (λ y h. inl (start_only p.objects p.initial y h)));
-        kept = start_is_kept p runs.typed runs.bits runs.whole;
+        kept = start_keeps_objects p runs.typed runs.bits;
+        whole = λ b. (start_is_kept p runs.typed runs.bits b).whole;
       }
 
 pub runs_fit : RunsFit
