@@ -245,7 +245,7 @@ module _ (program : TProgramTree) (objects : List ObjectTree) (initials : List I
   own_start : m ≡ start program.objects program.initial
   own_start = e ∙ ap (λ x. with_initials x initials) at ∙ ap (λ x. start x initials) (sym os) ∙ ap (λ x. start program.objects x) (sym is)
 
-  own_bits : AreEightBits program.initial
+  pub own_bits : AreEightBits program.initial
   own_bits = all_bits program program.initial w.initial
       (subst (λ x. All (HasBitsIn (opened_statics program.objects)) x) (sym is)
       (subst (λ x. All (HasBitsIn (opened_statics x)) initials) (sym os) (subst (λ (x : ObjectMemory). All (HasBitsIn x) initials) at bits)))

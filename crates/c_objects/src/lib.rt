@@ -30,5 +30,6 @@ mod statics;
 mod tests;
 mod writing;
 
+pub use initial::NamedBytes;
 pub use laws::{cells_are_read_at_their_types, memory_keeps, objects_keep, start_keeps};
 pub use memory::ObjectMemory;
