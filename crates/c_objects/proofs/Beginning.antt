@@ -4,25 +4,24 @@ use Rattle.std.specs.Prelude.{if◌then◌else◌, IsTrue, IsSomeAnd, slice_get}
 use Rattle.std.proofs.lemmas.List.{get_or-set_same, get_or-set_other}
 use Rattle.c_syntax.specs.Types.{ObjectTree}
 use Rattle.c_values.specs.Places.{ObjectMemory, place_of}
-use Rattle.c_objects.specs.Kept.{IsKept}
 use Rattle.c_objects.specs.Opening.{no_objects, opened}
 use Rattle.c_objects.specs.Statics.{open_statics, opened_statics}
-use Rattle.c_objects.proofs.Keeping.{kept_opened, kept_none, none_lives}
+use Rattle.c_objects.proofs.Keeping.{Keeps, keeps_opened, keeps_none, none_lives}
 
 module _ (objects : List ObjectTree) where
   -- no object from number x on lives yet
   record IsReady (m : ObjectMemory) (x : ℕ) : Type 0 where
-    kept : IsKept objects m
+    kept : Keeps (Unit {0}) objects m
     free : (y : ℕ) → x ≤ y → place_of m y ≡ None
 
   next_ready : (m : ObjectMemory) (x : ℕ) (s : Bool) → IsReady m x → x < length objects → IsReady (if s then opened objects m x else m) (suc x)
   next_ready m x true r h = record {
-    kept = kept_opened objects m x r.kept h (r.free x (omega arith));
+    kept = keeps_opened (Unit {0}) objects m x r.kept h (r.free x (omega arith));
     free = λ y l. get_or-set_other m.places x y (Some (length m.blocks)) None (λ e. omega (arith, l, e)) ∙ r.free y (omega arith);
   }
   next_ready m x false r h = record { kept = r.kept; free = λ y l. r.free y (omega arith) }
 
-  statics_kept : (os : List ObjectTree) (x : ℕ) (m : ObjectMemory) → x + length os ≤ length objects → IsReady m x → IsKept objects (open_statics objects os x m)
+  statics_kept : (os : List ObjectTree) (x : ℕ) (m : ObjectMemory) → x + length os ≤ length objects → IsReady m x → Keeps (Unit {0}) objects (open_statics objects os x m)
   statics_kept [] x m h r = r.kept
   statics_kept (o ∷ os) x m h r = statics_kept os (suc x) (if o.is_static then opened objects m x else m) (omega arith)
       (next_ready m x o.is_static r (omega arith))
@@ -57,9 +56,9 @@ module _ (objects : List ObjectTree) where
       (rest.0, ap (λ y. place_of (open_statics objects (o ∷ os) x m) y) more ∙ rest.1)
 
   ready : IsReady (no_objects (length objects)) 0
-  ready = record { kept = kept_none objects; free = λ y h. none_lives (length objects) y }
+  ready = record { kept = keeps_none (Unit {0}) objects; free = λ y h. none_lives (length objects) y }
 
-  pub opened_kept : IsKept objects (opened_statics objects)
+  pub opened_kept : Keeps (Unit {0}) objects (opened_statics objects)
   opened_kept = statics_kept objects 0 (no_objects (length objects)) (omega arith) ready
 
   -- each static object has a block

@@ -17,9 +17,39 @@ use Rattle.block_mem.proofs.Proper.{proper-start, proper-made}
 use Rattle.block_mem.proofs.Whole.{whole_more, whole-empty, whole-undefined}
 use Rattle.c_values.specs.Memory.{Fits}
 use Rattle.c_values.specs.Places.{ObjectMemory, place_of, owner_of}
-use Rattle.c_objects.specs.Kept.{IsKept, IsPlaced}
+use Rattle.c_objects.specs.Kept.{IsKept, IsPlaced, KeepsObjects}
 use Rattle.c_objects.specs.Opening.{no_objects, opened, size_of, is_read_only}
 use Rattle.c_objects.specs.Writing.{with_blocks}
+
+-- ---- with and without pointers that are whole
+
+-- what memory keeps, where pointers are whole under a premise: `IsKept` where there is none, `KeepsObjects` where it never holds
+pub record Keeps (W : Type 0) (objects : List ObjectTree) (m : ObjectMemory) : Type 0 where
+  pub owned : length m.owners ≡ length m.blocks
+  pub counted : length m.places ≡ length objects
+  pub fits : (b : ℕ) → b < length m.blocks → Fits objects m b
+  pub placed : (x b : ℕ) → place_of m x ≡ Some b → IsPlaced m x b
+  pub lives : (b : ℕ) → b < length m.blocks → (block_at m.blocks b).live ≡ true → place_of m (owner_of m b) ≡ Some b
+  pub proper : AreProper m.blocks
+  pub whole : W → AreWhole m.blocks
+
+pub keeps_where : (W : Type 0) (objects : List ObjectTree) (m : ObjectMemory) → KeepsObjects objects m → (W → AreWhole m.blocks) → Keeps W objects m
+keeps_where W objects m k whole =
+    record { owned = k.owned; counted = k.counted; fits = k.fits; placed = k.placed; lives = k.lives; proper = k.proper; whole = whole }
+
+pub keeps_kept : (objects : List ObjectTree) (m : ObjectMemory) → IsKept objects m → Keeps (Unit {0}) objects m
+keeps_kept objects m k =
+    record { owned = k.owned; counted = k.counted; fits = k.fits; placed = k.placed; lives = k.lives; proper = k.proper; whole = λ w. k.whole }
+
+pub kept_keeps : (objects : List ObjectTree) (m : ObjectMemory) → Keeps (Unit {0}) objects m → IsKept objects m
+kept_keeps objects m k =
+    record { owned = k.owned; counted = k.counted; fits = k.fits; placed = k.placed; lives = k.lives; proper = k.proper; whole = k.whole tt }
+
+pub keeps_objects : (W : Type 0) (objects : List ObjectTree) (m : ObjectMemory) → Keeps W objects m → KeepsObjects objects m
+keeps_objects W objects m k = record { owned = k.owned; counted = k.counted; fits = k.fits; placed = k.placed; lives = k.lives; proper = k.proper }
+
+pub objects_keep : (objects : List ObjectTree) (m : ObjectMemory) → KeepsObjects objects m → Keeps ⊥ objects m
+objects_keep objects m k = keeps_where ⊥ objects m k (λ no. absurd no)
 
 -- ---- an object that begins
 
@@ -28,7 +58,7 @@ some_object [] x h = absurd (omega arith)
 some_object (o ∷ os) zero h = (o, refl)
 some_object (o ∷ os) (suc x) h = some_object os x (omega arith)
 
-module _ (objects : List ObjectTree) (m : ObjectMemory) (x : ℕ) (k : IsKept objects m) (there : x < length objects) (free : place_of m x ≡ None) where
+module _ (W : Type 0) (objects : List ObjectTree) (m : ObjectMemory) (x : ℕ) (k : Keeps W objects m) (there : x < length objects) (free : place_of m x ≡ None) where
   new : BlockView
   new = new_block (size_of objects x) (is_read_only objects x)
 
@@ -107,15 +137,15 @@ module _ (objects : List ObjectTree) (m : ObjectMemory) (x : ℕ) (k : IsKept ob
       subst (λ n. place_of (opened objects m x) (owner_of (opened objects m x) n) ≡ Some n) same (ap (λ n. place_of (opened objects m x) n) owner_new
       ∙ place_new)
 
-  pub kept_opened : IsKept objects (opened objects m x)
-  kept_opened = record {
+  pub keeps_opened : Keeps W objects (opened objects m x)
+  keeps_opened = record {
     owned = length-append m.owners (x ∷ []) ∙ ap (λ n. n + 1) k.owned ∙ sym count;
     counted = length-set m.places x (Some (length m.blocks)) ∙ k.counted;
     fits = λ b h. fits_case b (subst (λ n. b < n) count h) (cases_lt b (length m.blocks));
     placed = λ y b h. placed_case y b h (cases_eq y x);
     lives = λ b h live. lives_case b (subst (λ n. b < n) count h) live (cases_lt b (length m.blocks));
     proper = proper-made m.blocks (size_of objects x) (is_read_only objects x) k.proper;
-    whole = whole_more m.blocks (new_block (size_of objects x) (is_read_only objects x)) k.whole (whole-undefined (size_of objects x));
+    whole = λ w. whole_more m.blocks (new_block (size_of objects x) (is_read_only objects x)) (k.whole w) (whole-undefined (size_of objects x));
   }
 
 -- ---- memory in which nothing lives
@@ -125,15 +155,15 @@ none_lives zero y = refl
 none_lives (suc n) zero = refl
 none_lives (suc n) (suc y) = none_lives n y
 
-pub kept_none : (objects : List ObjectTree) → IsKept objects (no_objects (length objects))
-kept_none objects = record {
+pub keeps_none : (W : Type 0) (objects : List ObjectTree) → Keeps W objects (no_objects (length objects))
+keeps_none W objects = record {
   owned = refl;
   counted = length-replicate (length objects) None;
   fits = λ b h. absurd (omega arith);
   placed = λ y b h. let no : None ≡ Some b = sym (none_lives (length objects) y) ∙ h in absurd (cc);
   lives = λ b h live. absurd (omega arith);
   proper = proper-start;
-  whole = λ b. whole-empty;
+  whole = λ w b. whole-empty;
 }
 
 -- ---- blocks that keep their marks and their sizes
@@ -144,9 +174,9 @@ pub record SameShape (old new : List BlockView) : Type 0 where
   pub mark : (b : ℕ) → (block_at new b).read_only ≡ (block_at old b).read_only
   pub size : (b : ℕ) → length (block_at new b).bytes ≡ length (block_at old b).bytes
 
-pub kept_blocks : (objects : List ObjectTree) (m : ObjectMemory) (bs : List BlockView) → IsKept objects m → SameShape m.blocks bs → AreProper bs
-    → AreWhole bs → IsKept objects (with_blocks m bs)
-kept_blocks objects m bs k s proper whole = record {
+pub keeps_blocks : (W : Type 0) (objects : List ObjectTree) (m : ObjectMemory) (bs : List BlockView) → Keeps W objects m → SameShape m.blocks bs
+    → AreProper bs → (W → AreWhole bs) → Keeps W objects (with_blocks m bs)
+keeps_blocks W objects m bs k s proper whole = record {
   owned = k.owned ∙ sym s.count;
   counted = k.counted;
   fits = λ b h. let f = k.fits b (subst (λ n. b < n) s.count h) in record {

@@ -10,10 +10,11 @@ use Rattle.block_mem.specs.Blocks.{no_block, block_at, with_ended}
 use Rattle.block_mem.proofs.Proper.{proper-ended}
 use Rattle.block_mem.proofs.Whole.{whole_set}
 use Rattle.c_values.specs.Places.{ObjectMemory, place_of, owner_of}
-use Rattle.c_objects.specs.Kept.{IsKept, IsPlaced}
+use Rattle.c_objects.specs.Kept.{IsPlaced}
 use Rattle.c_objects.specs.Opening.{ended_at, shut}
+use Rattle.c_objects.proofs.Keeping.{Keeps}
 
-module _ (objects : List ObjectTree) (m : ObjectMemory) (x : ℕ) (k : IsKept objects m) where
+module _ (W : Type 0) (objects : List ObjectTree) (m : ObjectMemory) (x : ℕ) (k : Keeps W objects m) where
   -- it has no place then
   gone : (x < length m.places) ⊎ (length m.places ≤ x) → place_of (shut m x) x ≡ None
   gone (inl h) = get_or-set_same m.places x None None h
@@ -31,8 +32,8 @@ module _ (objects : List ObjectTree) (m : ObjectMemory) (x : ℕ) (k : IsKept ob
   not_free free b e h = let no : None ≡ Some b = sym free ∙ ap (λ n. place_of m n) (sym e) ∙ h in absurd (cc)
 
   -- without a place nothing dies
-  kept_unplaced : place_of m x ≡ None → IsKept objects (record m { places = slice_set m.places x None })
-  kept_unplaced free = record {
+  keeps_unplaced : place_of m x ≡ None → Keeps W objects (record m { places = slice_set m.places x None })
+  keeps_unplaced free = record {
     owned = k.owned;
     counted = length-set m.places x None ∙ k.counted;
     fits = λ b h. let f = k.fits b h in record { object = f.object; is = f.is; size = f.size; mark = f.mark };
@@ -83,8 +84,8 @@ module _ (objects : List ObjectTree) (m : ObjectMemory) (x : ℕ) (k : IsKept ob
     owner_other : (c : ℕ) → (c ≡ b → ⊥) → place_of m (owner_of m c) ≡ Some c → owner_of m c ≡ x → ⊥
     owner_other c h e f = let same : Some c ≡ Some b = sym e ∙ ap (λ n. place_of m n) f ∙ here in let eq : c ≡ b = cc in h eq
 
-    kept_ended : IsKept objects (record m { blocks = with_ended m.blocks b; places = slice_set m.places x None })
-    kept_ended = record {
+    keeps_ended : Keeps W objects (record m { blocks = with_ended m.blocks b; places = slice_set m.places x None })
+    keeps_ended = record {
       owned = k.owned ∙ sym count;
       counted = length-set m.places x None ∙ k.counted;
       fits = λ c h. let f = k.fits c (subst (λ n. c < n) count h) in
@@ -102,12 +103,12 @@ module _ (objects : List ObjectTree) (m : ObjectMemory) (x : ℕ) (k : IsKept ob
           let was = k.lives c (subst (λ n. c < n) count h) (sym (ap (λ (v : BlockView). v.live) (ended_other c other)) ∙ live) in
           elsewhere (owner_of m c) (owner_other c other was) ∙ was;
       proper = proper-ended m.blocks b placed_here.made k.proper;
-      whole = whole_set m.blocks b (record (block_at m.blocks b) { live = false }) placed_here.made k.whole (k.whole b);
+      whole = λ w. whole_set m.blocks b (record (block_at m.blocks b) { live = false }) placed_here.made (k.whole w) (k.whole w b);
     }
 
-  kept_at : (o : Option ℕ) → place_of m x ≡ o → IsKept objects (record m { blocks = ended_at m.blocks o; places = slice_set m.places x None })
-  kept_at None e = kept_unplaced e
-  kept_at (Some b) e = kept_ended b e
+  keeps_at : (o : Option ℕ) → place_of m x ≡ o → Keeps W objects (record m { blocks = ended_at m.blocks o; places = slice_set m.places x None })
+  keeps_at None e = keeps_unplaced e
+  keeps_at (Some b) e = keeps_ended b e
 
-  pub kept_shut : IsKept objects (shut m x)
-  kept_shut = kept_at (place_of m x) refl
+  pub keeps_shut : Keeps W objects (shut m x)
+  keeps_shut = keeps_at (place_of m x) refl

@@ -27,7 +27,7 @@ use Rattle.c_objects.specs.Statics.{open_statics, initial_byte, block_of, put_fr
 use Rattle.c_objects.specs.Statics.{with_initials, opened_statics, start, HasBlock, FitsInitial}
 use Rattle.c_objects.specs.Statics.{FitInitials, HasBitsIn, HasEightBits, AreEightBits, HasPiece, AreWholeBytes, AreWholeInitials}
 use Rattle.c_objects.specs.Writing.{with_blocks}
-use Rattle.c_objects.proofs.Keeping.{SameShape, same_shape}
+use Rattle.c_objects.proofs.Keeping.{same_shape, keeps_blocks, keeps_objects, objects_keep}
 use Rattle.c_objects.proofs.Beginning.{opened_kept, static_placed}
 
 -- ---- all bytes of a block
@@ -91,21 +91,6 @@ whole_bytes m bs h = record {
 
 -- ---- memory with other bytes
 
-keeps_blocks : (objects : List ObjectTree) (m : ObjectMemory) (bs : List BlockView) → KeepsObjects objects m → SameShape m.blocks bs → AreProper bs
-    → KeepsObjects objects (with_blocks m bs)
-keeps_blocks objects m bs k s proper = record {
-  owned = k.owned ∙ sym s.count;
-  counted = k.counted;
-  fits = λ b h. let f = k.fits b (subst (λ n. b < n) s.count h) in
-      record { object = f.object; is = f.is; size = f.size ∙ sym (s.size b); mark = f.mark ∙ sym (s.mark b) };
-  placed = λ y b h. let p = k.placed y b h in record { made = subst (λ n. b < n) (sym s.count) p.made; live = s.live b ∙ p.live; owner = p.owner };
-  lives = λ b h live. k.lives b (subst (λ n. b < n) s.count h) (sym (s.live b) ∙ live);
-  proper = proper;
-}
-
-keeps_objects : (objects : List ObjectTree) (m : ObjectMemory) → IsKept objects m → KeepsObjects objects m
-keeps_objects objects m k = record { owned = k.owned; counted = k.counted; fits = k.fits; placed = k.placed; lives = k.lives; proper = k.proper }
-
 with_whole : (objects : List ObjectTree) (m : ObjectMemory) → KeepsObjects objects m → AreWhole m.blocks → IsKept objects m
 with_whole objects m k w =
     record { owned = k.owned; counted = k.counted; fits = k.fits; placed = k.placed; lives = k.lives; proper = k.proper; whole = w }
@@ -140,7 +125,7 @@ module _ (program : TProgramTree) where
 
   begun : IsBegun (opened_statics program.objects)
   begun = record {
-    keeps = keeps_objects program.objects (opened_statics program.objects) (opened_kept program.objects);
+    keeps = keeps_objects (Unit {0}) program.objects (opened_statics program.objects) (opened_kept program.objects);
     placed = static_placed program.objects;
   }
 
@@ -181,10 +166,10 @@ module _ (program : TProgramTree) where
       let long : length new ≡ length (block_at m.blocks p.0).bytes = length-map i.bytes (initial_byte m) ∙ size in
       let is : with_initial m i ≡ with_blocks m (with_bytes m.blocks p.0 new) =
       ap (λ (o : Option ℕ). initial_at m o i.bytes) p.1 ∙ ap (with_blocks m) (put_all m p.0 0 i.bytes m.blocks made (omega (arith, size))) in
-      let keeps = keeps_blocks program.objects m (with_bytes m.blocks p.0 new) s.keeps (same_shape m.blocks p.0 new made long)
-      (proper_with m.blocks p.0 new made s.keeps.proper (proper_bytes m i.bytes s t.bytes h)) in
+      let keeps = keeps_blocks ⊥ program.objects m (with_bytes m.blocks p.0 new) (objects_keep program.objects m s.keeps)
+      (same_shape m.blocks p.0 new made long) (proper_with m.blocks p.0 new made s.keeps.proper (proper_bytes m i.bytes s t.bytes h)) (λ no. absurd no) in
       subst (Next m i.bytes) (sym is) (
-        record { keeps = keeps; placed = s.placed },
+        record { keeps = keeps_objects ⊥ program.objects (with_blocks m (with_bytes m.blocks p.0 new)) keeps; placed = s.placed },
         λ w b. whole_set m.blocks p.0 (record (block_at m.blocks p.0) { bytes = new }) made w (whole_bytes m i.bytes b),
       )
 
@@ -208,7 +193,7 @@ module _ (program : TProgramTree) where
   pub start_is_kept : IsWellTyped program → AreEightBits program.initial → AreWholeInitials program.initial
       → IsKept program.objects (start program.objects program.initial)
   start_is_kept w h b = with_whole program.objects (start program.objects program.initial) (start_keeps_objects w h)
-      (all_whole (opened_statics program.objects) program.initial begun w.initial h (opened_kept program.objects).whole b)
+      (all_whole (opened_statics program.objects) program.initial begun w.initial h ((opened_kept program.objects).whole tt) b)
 
   pub start_placed : IsWellTyped program → AreEightBits program.initial → (x : ℕ) → IsStaticObject program x
       → IsSome (place_of (start program.objects program.initial) x)
@@ -260,7 +245,7 @@ module _ (program : TProgramTree) (objects : List ObjectTree) (initials : List I
   own_start : m ≡ start program.objects program.initial
   own_start = e ∙ ap (λ x. with_initials x initials) at ∙ ap (λ x. start x initials) (sym os) ∙ ap (λ x. start program.objects x) (sym is)
 
-  own_bits : AreEightBits program.initial
+  pub own_bits : AreEightBits program.initial
   own_bits = all_bits program program.initial w.initial
       (subst (λ x. All (HasBitsIn (opened_statics program.objects)) x) (sym is)
       (subst (λ x. All (HasBitsIn (opened_statics x)) initials) (sym os) (subst (λ (x : ObjectMemory). All (HasBitsIn x) initials) at bits)))

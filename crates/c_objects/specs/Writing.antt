@@ -1,11 +1,10 @@
 -- Stores, copies, and what is left of an initialiser.
-use Rattle.std.specs.Prelude.{◌≡◌, ℕ, zero, suc, pos, ◌+◌, ◌≤◌, nat_le, nat_lt, Bool, false, ◌&&◌, ◌||◌, if◌then◌else◌, List, [], ◌∷◌, length, Option, Some, None}
+use Rattle.std.specs.Prelude.{◌≡◌, ℕ, zero, suc, pos, ◌+◌, ◌≤◌, nat_le, nat_lt, Bool, false, ◌&&◌, ◌||◌, if◌then◌else◌, List, [], ◌∷◌, length, map, Option, Some, None}
 use Rattle.std.specs.Prelude.{option_map}
 use Rattle.c_written.specs.declared.int_type.IntType.TheVariants as ints
 use Rattle.c_syntax.specs.declared.alarm.WrongKind.{WrongKind}
 use Rattle.c_syntax.specs.TypedStmt.{TInitTree, Store, Copy}
 use Rattle.c_layout.specs.Checks.{scalar_bytes}
-use Rattle.c_layout.specs.TypedNodes.{init_start}
 use Rattle.block_mem.specs.declared.types.Scalar.{Scalar}
 use Rattle.block_mem.specs.declared.types.Value.{Value}
 use Rattle.block_mem.specs.declared.types.Value.TheVariants as values
@@ -13,6 +12,7 @@ use Rattle.block_mem.specs.Block.{BlockView}
 use Rattle.block_mem.specs.Blocks.{block_at, store, copy, wrong_access}
 use Rattle.block_mem.specs.Bytes.{size_of}
 use Rattle.c_values.specs.Places.{ObjectMemory, place_of}
+use Rattle.c_objects.specs.declared.initial.NamedBytes.{NamedBytes}
 
 -- the memory with other blocks
 abbrev pub with_blocks : ObjectMemory → List BlockView → ObjectMemory
@@ -34,23 +34,31 @@ copied_at m (values.Ptr to) (values.Ptr from) n =
     unless_wrong (wrong_access m.blocks from n 1 false) (unless_wrong (wrong_access m.blocks to n 1 false) (Some (with_blocks m (copy m.blocks to from n))))
 copied_at m to from n = None
 
+-- the bytes that an item of an initialiser names
+abbrev pub named_by : TInitTree → NamedBytes
+named_by (Store offset ty value) = record { first = offset; count = scalar_bytes ty }
+named_by (Copy offset extent source) = record { first = offset; count = extent.size }
+
+-- a byte of the object is one of those
+abbrev pub names_byte : NamedBytes → ℕ → Bool
+names_byte named k = nat_le named.first k && nat_lt k (named.first + named.count)
+
+abbrev pub are_named : List NamedBytes → ℕ → Bool
+are_named [] k = false
+are_named (named ∷ rest) k = names_byte named k || are_named rest k
+
 -- a byte of the object is one that an item of its initialiser names (C11 6.7.9p10 and p21)
-abbrev pub names_byte : TInitTree → ℕ → Bool
-names_byte (Store offset ty value) k = nat_le offset k && nat_lt k (offset + scalar_bytes ty)
-names_byte (Copy offset extent source) k = nat_le offset k && nat_lt k (offset + extent.size)
-
 abbrev pub is_named : List TInitTree → ℕ → Bool
-is_named [] k = false
-is_named (init ∷ inits) k = names_byte init k || is_named inits k
+is_named inits = are_named (map named_by inits)
 
--- items of which none begins before a byte, nor before the one that it follows
-abbrev pub Rise : ℕ → List TInitTree → Type 0
+-- none of these begins before a byte, nor before the one that it follows
+abbrev pub Rise : ℕ → List NamedBytes → Type 0
 Rise low [] = Unit {0}
-Rise low (init ∷ inits) = (low ≤ init_start init) × Rise (init_start init) inits
+Rise low (named ∷ rest) = (low ≤ named.first) × Rise named.first rest
 
--- of the bytes from one on the two lists of items name the same
-abbrev pub NameSame : ℕ → List TInitTree → List TInitTree → Type 0
-NameSame from inits others = (k : ℕ) → from ≤ k → is_named inits k ≡ is_named others k
+-- of the bytes from one on the two lists name the same
+abbrev pub NameSame : ℕ → List NamedBytes → List NamedBytes → Type 0
+NameSame from these those = (k : ℕ) → from ≤ k → are_named these k ≡ are_named those k
 
 -- a byte of a block becomes 0
 abbrev pub zero_at : ℕ → ℕ → List BlockView → List BlockView

@@ -42,6 +42,22 @@ pub fn memory_keeps()
         → rest m x inits ≡ Some n → IsKept objects n }
 {}
 
+/// So it stays where pointers may be in parts: the same calls keep all the rest.
+pub fn objects_keep()
+    ensures none { (objects : List ObjectTree) → KeepsObjects objects (no_objects (length objects)) }
+    ensures opened { (objects : List ObjectTree) (m : spots.ObjectMemory) (x : ℕ) → KeepsObjects objects m → x < length objects → place_of m x ≡ None
+        → KeepsObjects objects (opened objects m x) }
+    ensures shut { (objects : List ObjectTree) (m : spots.ObjectMemory) (x : ℕ) → KeepsObjects objects m → KeepsObjects objects (shut m x) }
+    ensures stored { (objects : List ObjectTree) (m : spots.ObjectMemory) (ty : Scalar) (to v : Value) (n : spots.ObjectMemory) → KeepsObjects objects m
+        → IsMade (length m.blocks) to → IsOf ty v → IsMade (length m.blocks) v → stored_at m ty to v ≡ Some n → KeepsObjects objects n }
+    ensures copied { (objects : List ObjectTree) (m : spots.ObjectMemory) (to from : Value) (size : ℕ) (n : spots.ObjectMemory) → KeepsObjects objects m
+        → IsMade (length m.blocks) to → copied_at m to from size ≡ Some n → KeepsObjects objects n }
+    ensures undefined { (objects : List ObjectTree) (m : spots.ObjectMemory) (x : ℕ) (n : spots.ObjectMemory) → KeepsObjects objects m
+        → undefined m x ≡ Some n → KeepsObjects objects n }
+    ensures rest { (objects : List ObjectTree) (m : spots.ObjectMemory) (x : ℕ) (inits : List TInitTree) (n : spots.ObjectMemory) → KeepsObjects objects m
+        → rest m x inits ≡ Some n → KeepsObjects objects n }
+{}
+
 /// The memory at the start of a run of a well typed program, whose initial bytes have eight bits as each in the
 /// code has: each object of static duration has a block, of its size and with its mark, and pieces name blocks
 /// that were made. Pointers are whole where the initial bytes have each pointer whole, which well typing alone

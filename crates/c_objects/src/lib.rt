@@ -16,7 +16,7 @@
 //! | accesses | `c_values`, `Accesses`; `Writing` | `check_read`, `check_write`, `load`, `store`, `copy` |
 //! | initialisers | `Writing` | `initialise`, `fill_rest` |
 //! | the start of a run | `Statics` | `start` |
-//! | what every memory keeps | `Kept` | `memory_keeps`, `start_keeps` |
+//! | what every memory keeps | `Kept` | `memory_keeps`, `objects_keep`, `start_keeps` |
 //! | what facts say of cells | `Cells` | `cells_are_read_at_their_types` |
 #![tactic(auto)]
 
@@ -30,5 +30,6 @@ mod statics;
 mod tests;
 mod writing;
 
-pub use laws::{cells_are_read_at_their_types, memory_keeps, start_keeps};
+pub use initial::NamedBytes;
+pub use laws::{cells_are_read_at_their_types, memory_keeps, objects_keep, start_keeps};
 pub use memory::ObjectMemory;

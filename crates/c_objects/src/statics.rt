@@ -6,7 +6,7 @@ ghost use Rattle.c_layout.specs.WellTyped.{IsWellTyped};
 ghost use Rattle.block_mem.specs.Blocks.{block_at, set_byte};
 ghost use Rattle.c_objects.specs.Kept.{IsKept, KeepsObjects};
 ghost use Rattle.c_objects.specs.Statics as statics;
-ghost use Rattle.c_objects.specs.Statics.{AreWholeInitials, FitInitials, FitsInitial, HasBitsIn, HasBlock, HasEightBits, initial_byte};
+ghost use Rattle.c_objects.specs.Statics.{AreEightBits, AreWholeInitials, FitInitials, FitsInitial, HasBitsIn, HasBlock, HasEightBits, initial_byte};
 ghost use Rattle.block_mem.specs.Proper.{IsProper};
 ghost use Rattle.c_values.specs.Places.{place_of};
 ghost use Rattle.c_objects.specs.Writing.{with_blocks};
@@ -19,8 +19,8 @@ use std::alloc::{AllocError as NoMemory, Global};
 impl ObjectMemory {
     /// The memory at the start of a run: each object of static duration lives, in the order of their
     /// numbers, and has its initial bytes. The blocks of all are there before any byte is put in. Of a
-    /// well typed program it is one that calls keep; pointers in it are whole where the initial bytes
-    /// have each pointer whole.
+    /// well typed program it is one that calls keep, and each initial number has eight bits; pointers
+    /// in it are whole where the initial bytes have each pointer whole.
     pub fn start(
         alloc: Global,
         objects: &[Object],
@@ -28,6 +28,8 @@ impl ObjectMemory {
     ) -> Result<ObjectMemory, NoMemory>
         requires { FitInitials (statics.opened_statics (map object_tree objects.now)) initials.now }
         ensures start { IfOk result (λ m. m ≡ statics.start (map object_tree objects.now) initials.now) }
+        ensures bits { IfOk result (λ m. (program : TProgramTree) → IsWellTyped program → program.objects ≡ map object_tree objects.now
+            → program.initial ≡ initials.now → AreEightBits program.initial) }
         ensures kept { IfOk result (λ m. (program : TProgramTree) → IsWellTyped program → program.objects ≡ map object_tree objects.now
             → program.initial ≡ initials.now → KeepsObjects program.objects m) }
         ensures whole { IfOk result (λ m. (program : TProgramTree) → IsWellTyped program → program.objects ≡ map object_tree objects.now

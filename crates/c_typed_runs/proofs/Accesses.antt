@@ -38,7 +38,6 @@ use Rattle.c_values.specs.Typed.{IsSettled, TakesOne, binary_type, unary_type}
 use Rattle.c_values.specs.Values.{converted_to, truth, bit}
 use Rattle.c_values.proofs.Accesses.{loads}
 use Rattle.c_values.proofs.Settled.{wrapped_is_of}
-use Rattle.c_objects.specs.Kept.{IsKept}
 use Rattle.c_objects.specs.Writing.{copied_at}
 use Rattle.c_steps.specs.Work.{Item, LoadAt, Un, Bin, Conv, Move}
 use Rattle.c_steps.specs.States.{Held, Plain, Struct, Next, goes, held, judged, with_value, with_some}
@@ -53,6 +52,9 @@ use Rattle.c_typed_runs.proofs.Loads.{loaded_is}
 use Rattle.c_typed_runs.proofs.Rows.{one_number}
 use Rattle.c_typed_runs.proofs.Rules.{On, fit}
 use Rattle.c_typed_runs.proofs.Values.{Has, judged_after, value_after, operator_settles, operator_made, taken_alone, unary_made, member_made, HasSome, converted_has}
+use Rattle.c_typed_runs.proofs.Kept.{KeepsIn}
+use Rattle.c_objects.proofs.Keeping.{Keeps}
+use Rattle.c_objects.specs.Statics.{AreWholeInitials}
 
 -- ---- looks
 
@@ -137,14 +139,14 @@ loaded_ok : (s : Spot) (r : Result Value WrongKind) (v : Value) → load_outcome
 loaded_ok s (Ok u) v e = let same : u ≡ v = cc in ap (λ x. Ok x) same
 loaded_ok s (Err k) v e = absurd (cc)
 
-load_settles : (ty : Scalar) (objects : List ObjectTree) (m : ObjectMemory) (v : Value) → IsKept objects m → Has (length m.blocks) scalars.Pointer v
+load_settles : {W : Type 0} (ty : Scalar) (objects : List ObjectTree) (m : ObjectMemory) (v : Value) → Keeps W objects m → Has (length m.blocks) scalars.Pointer v
     → IsSettled ty (load_at objects m (Some ty) v)
 load_settles ty objects m (values.Ptr p) k hv =
     subst (λ o. IsSettled ty o) (sym (loads objects m p ty (k.fits p.block hv.made))) (loaded_settles ty (spot_at m p) (load m.blocks p ty) (λ v e. (loaded_is m.blocks p ty v k.proper e).typed))
 load_settles ty objects m values.Null k hv = tt
 load_settles ty objects m (values.Int t z) k hv = absurd hv.typed
 
-load_made : (ty : Scalar) (objects : List ObjectTree) (m : ObjectMemory) (v x : Value) → IsKept objects m → Has (length m.blocks) scalars.Pointer v
+load_made : {W : Type 0} (ty : Scalar) (objects : List ObjectTree) (m : ObjectMemory) (v x : Value) → Keeps W objects m → Has (length m.blocks) scalars.Pointer v
     → load_at objects m (Some ty) v ≡ Gives x → Has (length m.blocks) ty x
 load_made ty objects m (values.Ptr p) x k hv e =
     loaded_is m.blocks p ty x k.proper (loaded_ok (spot_at m p) (load m.blocks p ty) x (sym (loads objects m p ty (k.fits p.block hv.made)) ∙ e))
@@ -153,11 +155,11 @@ load_made ty objects m (values.Int t z) x k hv e = absurd hv.typed
 
 module _ (p : TProgramTree) where
   push : (r : CTypeTree) (w : List Item) (s : List Held) (m : ObjectMemory) (i : List ℤ) (ts : List Want) (ty : Scalar) (v : Value) → Has (length m.blocks) ty v
-      → Takes p r w (Of ty ∷ ts) → Stacked (length m.blocks) ts s → Parted (OpensCall p) p w → AreLive p w m → IsKept p.objects m → On p (goes w (held v ∷ s) m i)
+      → Takes p r w (Of ty ∷ ts) → Stacked (length m.blocks) ts s → Parted (OpensCall p) p w → AreLive p w m → KeepsIn p m → On p (goes w (held v ∷ s) m i)
   push r w s m i ts ty v g k d q l h = fit p r w (held v ∷ s) m i _ k (on_top (is_value g.typed g.made) d) q l h
 
   pub load_row : (at : Pos) (ty : Scalar) (v : Value) (r : CTypeTree) (w : List Item) (ts : List Want) → Takes p r w (Of ty ∷ ts) → (s : List Held) (m : ObjectMemory)
-      (i : List ℤ) → Has (length m.blocks) scalars.Pointer v → Stacked (length m.blocks) ts s → Parted (OpensCall p) p w → AreLive p w m → IsKept p.objects m
+      (i : List ℤ) → Has (length m.blocks) scalars.Pointer v → Stacked (length m.blocks) ts s → Parted (OpensCall p) p w → AreLive p w m → KeepsIn p m
       → On p (item_step p (LoadAt at (Some ty)) w (held v ∷ s) m i)
   load_row at ty v r w ts k s m i hv d q l h =
       value_after (Fits p) ty (load_at p.objects m (Some ty) v) at (λ new. goes w (held new ∷ s) m i) (load_settles ty p.objects m v h hv)
@@ -165,7 +167,7 @@ module _ (p : TProgramTree) where
 
   -- what comes behind a change of memory
   changed_after : (m : ObjectMemory) {o : Option ObjectMemory} (x : Held) (want : Want) (r : CTypeTree) (w : List Item) (ts : List Want) (s : List Held) (i : List ℤ)
-      → IsChanged p.objects m o → HasWant (length m.blocks) want x → Takes p r w (want ∷ ts) → Stacked (length m.blocks) ts s → Parted (OpensCall p) p w → AreLive p w m
+      → IsChanged (AreWholeInitials p.initial) p.objects m o → HasWant (length m.blocks) want x → Takes p r w (want ∷ ts) → Stacked (length m.blocks) ts s → Parted (OpensCall p) p w → AreLive p w m
       → On p (with_some o (λ n. goes w (x ∷ s) n i))
   changed_after m x want r w ts s i (changed n kept blocks places) hx k d q l =
       fit p r w (x ∷ s) n i _ k (subst (λ c. Stacked c (want ∷ ts) (x ∷ s)) (sym blocks) (on_top hx d)) q (
@@ -175,7 +177,7 @@ module _ (p : TProgramTree) where
 
   pub store_row : (at : Pos) (ty : Scalar) (v u x : Value) (r : CTypeTree) (w : List Item) (ts : List Want) → Takes p r w (Of ty ∷ ts) → (s : List Held)
       (m : ObjectMemory) (i : List ℤ) → Has (length m.blocks) ty u → Has (length m.blocks) ty x → Has (length m.blocks) scalars.Pointer v
-      → Stacked (length m.blocks) ts s → Parted (OpensCall p) p w → AreLive p w m → IsKept p.objects m → On p (store_step p.objects at (Some ty) v u x w s m i)
+      → Stacked (length m.blocks) ts s → Parted (OpensCall p) p w → AreLive p w m → KeepsIn p m → On p (store_step p.objects at (Some ty) v u x w s m i)
   store_row at ty v u x r w ts k s m i hu hx hv d q l h =
       judged_after (Fits p) (judge p.objects (store_looks m (Some ty) v)) at (with_some (stored m (Some ty) v u) (λ n. goes w (held x ∷ s) n i))
       (store_has p.objects m h ty v hv)
@@ -183,7 +185,7 @@ module _ (p : TProgramTree) where
 
   pub copy_row : (at from : Pos) (extent : Extent) (u v : Value) (r : CTypeTree) (w : List Item) (ts : List Want) → Takes p r w (OfStruct ∷ ts) → (s : List Held)
       (m : ObjectMemory) (i : List ℤ) → Has (length m.blocks) scalars.Pointer u → Has (length m.blocks) scalars.Pointer v → Stacked (length m.blocks) ts s
-      → Parted (OpensCall p) p w → AreLive p w m → IsKept p.objects m → On p (copy_step p.objects at extent from u v w s m i)
+      → Parted (OpensCall p) p w → AreLive p w m → KeepsIn p m → On p (copy_step p.objects at extent from u v w s m i)
   copy_row at from extent u v r w ts k s m i hu hv d q l h =
       judged_after (Fits p) (judge p.objects (read_looks m u extent.size extent.align)) from
       (judged (judge p.objects (write_looks m v extent.size extent.align)) at (with_some (copied_at m v u extent.size) (λ n. goes w (Struct at v ∷ s) n i)))
@@ -194,7 +196,7 @@ module _ (p : TProgramTree) where
 
   pub un_row : (at : Pos) (op : TUnaryOp) (a : Scalar) (v : Value) (r : CTypeTree) (w : List Item) (ts : List Want) → OperatesOn op a
       → Takes p r w (Of (unary_type op) ∷ ts) → (s : List Held) (m : ObjectMemory) (i : List ℤ) → Has (length m.blocks) a v → Stacked (length m.blocks) ts s
-      → Parted (OpensCall p) p w → AreLive p w m → IsKept p.objects m → On p (item_step p (Un at op (Some a)) w (held v ∷ s) m i)
+      → Parted (OpensCall p) p w → AreLive p w m → KeepsIn p m → On p (item_step p (Un at op (Some a)) w (held v ∷ s) m i)
   un_row at op a v r w ts t k s m i hv d q l h =
       value_after (Fits p) (unary_type op) (unary p.objects m op (Some a) v) at (λ new. goes w (held new ∷ s) m i)
       (unary_settles p.objects m op a v (taken_alone op a v t hv.typed))
@@ -202,7 +204,7 @@ module _ (p : TProgramTree) where
 
   pub bin_row : (at : Pos) (op : TBinaryOp) (a b : Scalar) (v u : Value) (r : CTypeTree) (w : List Item) (ts : List Want) → Operates op a b
       → Takes p r w (Of (binary_type op) ∷ ts) → (s : List Held) (m : ObjectMemory) (i : List ℤ) → Has (length m.blocks) a v → Has (length m.blocks) b u
-      → Stacked (length m.blocks) ts s → Parted (OpensCall p) p w → AreLive p w m → IsKept p.objects m → On p (item_step p (Bin at op) w (held u ∷ held v ∷ s) m i)
+      → Stacked (length m.blocks) ts s → Parted (OpensCall p) p w → AreLive p w m → KeepsIn p m → On p (item_step p (Bin at op) w (held u ∷ held v ∷ s) m i)
   bin_row at op a b v u r w ts t k s m i hv hu d q l h =
       value_after (Fits p) (binary_type op) (binary p.objects m op v u) at (λ new. goes w (held new ∷ s) m i)
       (operator_settles p.objects m t v u hv.typed hu.typed)
@@ -211,7 +213,7 @@ module _ (p : TProgramTree) where
 
   pub move_row : (at : Pos) (offset : ℕ) (v : Value) (r : CTypeTree) (w : List Item) (ts : List Want) → Takes p r w (Of scalars.Pointer ∷ ts) → (s : List Held)
       (m : ObjectMemory) (i : List ℤ) → Has (length m.blocks) scalars.Pointer v → Stacked (length m.blocks) ts s → Parted (OpensCall p) p w → AreLive p w m
-      → IsKept p.objects m → On p (item_step p (Move at offset) w (held v ∷ s) m i)
+      → KeepsIn p m → On p (item_step p (Move at offset) w (held v ∷ s) m i)
   move_row at offset v r w ts k s m i hv d q l h =
       value_after (Fits p) scalars.Pointer (member p.objects m v offset) at (λ new. goes w (held new ∷ s) m i) (member_settles p.objects m v offset hv.typed)
       (λ x e typed. push r w s m i ts scalars.Pointer x (record { typed = typed; made = member_made (length m.blocks) p.objects m v x offset hv e }) k d q l h)
@@ -245,7 +247,7 @@ module _ (p : TProgramTree) where
 
   pub sure_row : (at : Pos) (ty : Scalar) (v : Value) (r : CTypeTree) (w : List Item) (ts : List Want) → Takes p r w (Anything ∷ ts) → (s : List Held)
       (m : ObjectMemory) (i : List ℤ) → Has (length m.blocks) ty v → Stacked (length m.blocks) ts s → Parted (OpensCall p) p w → AreLive p w m
-      → IsKept p.objects m → On p (sure_step p.objects at (Some ty) v w s m i)
+      → KeepsIn p m → On p (sure_step p.objects at (Some ty) v w s m i)
   sure_row at ty v r w ts k s m i hv d q l h =
       judged_after (Fits p) (judge p.objects (assert_looks m (Some ty) v)) at (goes w (Plain givens.Nothing ∷ s) m i) (sure_has ty v m hv)
       (λ e. fit p r w (Plain givens.Nothing ∷ s) m i _ k (on_top is_any d) q l h)
@@ -262,7 +264,7 @@ module _ (p : TProgramTree) where
 
   changes_after : (at at_place : Pos) (ty right : Scalar) (op : TBinaryOp) (time : StepTime) (v u : Value) (r : CTypeTree) (w : List Item) (ts : List Want) (c : Changes op ty right)
       → Takes p r w (Of ty ∷ ts) → (s : List Held) (m : ObjectMemory) (i : List ℤ) → Has (length m.blocks) right u → Has (length m.blocks) scalars.Pointer v
-      → Stacked (length m.blocks) ts s → Parted (OpensCall p) p w → AreLive p w m → IsKept p.objects m
+      → Stacked (length m.blocks) ts s → Parted (OpensCall p) p w → AreLive p w m → KeepsIn p m
       → On p (with_value (load_at p.objects m (Some ty) v) at_place (λ old.
       with_some (as_scalar (Some c.left) old) (λ left.
       with_value (binary p.objects m op left u) at (λ result.
@@ -280,7 +282,7 @@ module _ (p : TProgramTree) where
 
   pub modify_row : (at at_place : Pos) (ty right : Scalar) (op : TBinaryOp) (time : StepTime) (v u : Value) (r : CTypeTree) (w : List Item) (ts : List Want) → Changes op ty right
       → Takes p r w (Of ty ∷ ts) → (s : List Held) (m : ObjectMemory) (i : List ℤ) → Has (length m.blocks) right u → Has (length m.blocks) scalars.Pointer v
-      → Stacked (length m.blocks) ts s → Parted (OpensCall p) p w → AreLive p w m → IsKept p.objects m
+      → Stacked (length m.blocks) ts s → Parted (OpensCall p) p w → AreLive p w m → KeepsIn p m
       → On p (modify_step p.objects at at_place (Some ty) op time v u w s m i)
   modify_row at at_place ty right op time v u r w ts c k s m i hu hv d q l h =
       rw (c.is_left) (changes_after at at_place ty right op time v u r w ts c k s m i hu hv d q l h)
@@ -288,7 +290,7 @@ module _ (p : TProgramTree) where
   -- ---- conversions
 
   pub convert_row : {from to : Scalar} (v : Value) (r : CTypeTree) (w : List Item) (ts : List Want) → Converts from to → Takes p r w (Of to ∷ ts) → (s : List Held)
-      (m : ObjectMemory) (i : List ℤ) → Has (length m.blocks) from v → Stacked (length m.blocks) ts s → Parted (OpensCall p) p w → AreLive p w m → IsKept p.objects m
+      (m : ObjectMemory) (i : List ℤ) → Has (length m.blocks) from v → Stacked (length m.blocks) ts s → Parted (OpensCall p) p w → AreLive p w m → KeepsIn p m
       → On p (item_step p (Conv (Some to)) w (held v ∷ s) m i)
   convert_row (values.Int u z) r w ts (to_int {t = t}) k s m i hv d q l h =
       push r w s m i ts (scalars.Int t) (values.Int t (wrapped t z)) (record { typed = (refl, wrapped_is_of t z); made = tt }) k d q l h
@@ -299,6 +301,6 @@ module _ (p : TProgramTree) where
   convert_row values.Null r w ts to_pointer k s m i hv d q l h = push r w s m i ts scalars.Pointer values.Null hv k d q l h
 
   pub void_row : (x : Held) (r : CTypeTree) (w : List Item) (ts : List Want) → Takes p r w (Anything ∷ ts) → (s : List Held) (m : ObjectMemory) (i : List ℤ)
-      → Stacked (length m.blocks) ts s → Parted (OpensCall p) p w → AreLive p w m → IsKept p.objects m → On p (item_step p (Conv None) w (x ∷ s) m i)
+      → Stacked (length m.blocks) ts s → Parted (OpensCall p) p w → AreLive p w m → KeepsIn p m → On p (item_step p (Conv None) w (x ∷ s) m i)
   void_row (Plain g) r w ts k s m i d q l h = fit p r w _ m i _ k (on_top is_any d) q l h
   void_row (Struct at v) r w ts k s m i d q l h = fit p r w _ m i _ k (on_top is_any d) q l h

@@ -18,7 +18,6 @@ use Rattle.c_values.specs.Places.{ObjectMemory}
 use Rattle.c_values.specs.Typed.{IsElement}
 use Rattle.c_values.specs.Values.{scalar_of}
 use Rattle.c_values.proofs.Settled.{wrapped_is_of}
-use Rattle.c_objects.specs.Kept.{IsKept}
 use Rattle.c_steps.specs.Work.{Item}
 use Rattle.c_steps.specs.States.{Held}
 use Rattle.c_steps.specs.Expressions.{eval_step, input_step}
@@ -29,6 +28,7 @@ use Rattle.c_typed_runs.specs.Opens.{Use, Opens, OpensCall}
 use Rattle.c_typed_runs.specs.Fits.{AreLive, IsReady, Parted}
 use Rattle.c_typed_runs.proofs.Rows.{Is, pointer_is, integer_is, scalar_is, same_want, want_is, struct_want, decays, binary_row, compound_row, step_row, unary_row, store_row}
 use Rattle.c_typed_runs.proofs.Rules.{On, fit, as_top, as_two}
+use Rattle.c_typed_runs.proofs.Kept.{KeepsIn}
 
 -- the types of expressions and places point to elements that are as large as may be
 pub record AreSized (p : TProgramTree) : Type 0 where
@@ -44,7 +44,7 @@ binary_want op a b c d s e f is = ap (λ x. want_of (parts.binary_type op x d)) 
 
 module _ (p : TProgramTree) where
   input_after : (t : IntType) (r : CTypeTree) (w : List Item) (s : List Held) (m : ObjectMemory) (i : List ℤ) (ts : List Want) → Takes p r w (Of (scalars.Int t) ∷ ts)
-      → Stacked (length m.blocks) ts s → Parted (OpensCall p) p w → AreLive p w m → IsKept p.objects m → On p (input_step t w s m i)
+      → Stacked (length m.blocks) ts s → Parted (OpensCall p) p w → AreLive p w m → KeepsIn p m → On p (input_step t w s m i)
   input_after t r w s m [] ts k d q l h = tt
   input_after t r w s m (v ∷ i) ts k d q l h = fit p r w _ m i _ k (on_top (is_value (refl, wrapped_is_of t v) tt) d) q l h
 
@@ -52,11 +52,11 @@ module _ (p : TProgramTree) where
   CallRows = (at : Pos) (g : ℕ) (ty : CTypeTree) (used : Bool) (args : TExprTrees) (wanted : Bool) (r : CTypeTree) (w : List Item) (ts : List Want)
       → IsTypedExpr (scope_at p r w) wanted (Call at g ty used args) → Takes p r w (want_of (given_type (Call at g ty used args)) ∷ ts) → (s : List Held) (m : ObjectMemory)
       (i : List ℤ) → Stacked (length m.blocks) ts s → ((y : Use) → Opens (OpensCall p) (Call at g ty used args) y → IsReady p w y) → Parted (OpensCall p) p w
-      → AreLive p w m → IsKept p.objects m → On p (eval_step p (Call at g ty used args) w s m i)
+      → AreLive p w m → KeepsIn p m → On p (eval_step p (Call at g ty used args) w s m i)
 
   pub eval_row : AreSized p → CallRows → (e : TExprTree) (wanted : Bool) (r : CTypeTree) (w : List Item) (ts : List Want) → (scope_at p r w).program ≡ p
       → IsTypedExpr (scope_at p r w) wanted e → Takes p r w (want_of (given_type e) ∷ ts) → (s : List Held) (m : ObjectMemory) (i : List ℤ)
-      → Stacked (length m.blocks) ts s → ((y : Use) → Opens (OpensCall p) e y → IsReady p w y) → Parted (OpensCall p) p w → AreLive p w m → IsKept p.objects m
+      → Stacked (length m.blocks) ts s → ((y : Use) → Opens (OpensCall p) e y → IsReady p w y) → Parted (OpensCall p) p w → AreLive p w m → KeepsIn p m
       → On p (eval_step p e w s m i)
   unfolding IsTypedExpr
   eval_row sized calls (Const at ty v) wanted r w ts z t k s m i d f q l h = fit p r w _ m i _ k (on_top (is_value (refl, t) tt) d) q l h

@@ -20,7 +20,6 @@ use Rattle.block_mem.specs.declared.types.Value.TheVariants as values
 use Rattle.c_values.specs.declared.values.Given.TheVariants as givens
 use Rattle.c_values.specs.Values.{scalar_of}
 use Rattle.c_values.specs.Places.{ObjectMemory, place_of}
-use Rattle.c_objects.specs.Kept.{IsKept}
 use Rattle.c_objects.specs.Opening.{open_all}
 use Rattle.c_lifetimes.proofs.Listed.{by_sum, first_in, rest_in}
 use Rattle.c_steps.specs.Work.{Item, AtEnd, Do, Close, Reach}
@@ -42,6 +41,9 @@ use Rattle.c_typed_runs.proofs.Rows.{Is, scalar_is, want_is}
 use Rattle.c_typed_runs.proofs.Rules.{On, fit, stacked_more}
 use Rattle.c_typed_runs.proofs.Statements.{none_typed, free_objects}
 use Rattle.c_typed_runs.proofs.Values.{Has, made_more}
+use Rattle.c_typed_runs.proofs.Kept.{KeepsIn}
+use Rattle.c_objects.proofs.Keeping.{Keeps}
+use Rattle.c_objects.specs.Statics.{AreWholeInitials}
 
 -- ---- arguments
 
@@ -55,12 +57,12 @@ abbrev pub wants : List Scalar → List Want
 wants tys = map (λ ty. Of ty) tys
 
 -- so many values are taken off a stack that has them
-record AreTaken (n : ℕ) (tys : List Scalar) (ts : List Want) (before : List Value) (k : ℕ) (s : List Held) : Type 0 where
-  vs : List Value
-  left : List Held
-  is : taken k s before ≡ Some (vs ++ before, left)
-  typed : AllHave n tys vs
-  stacked : Stacked n ts left
+pub record AreTaken (n : ℕ) (tys : List Scalar) (ts : List Want) (before : List Value) (k : ℕ) (s : List Held) : Type 0 where
+  pub vs : List Value
+  pub left : List Held
+  pub is : taken k s before ≡ Some (vs ++ before, left)
+  pub typed : AllHave n tys vs
+  pub stacked : Stacked n ts left
 
 pair_of : (a b : List Value × List Held) → Some a ≡ Some b → a ≡ b
 pair_of a b e = cc
@@ -86,7 +88,7 @@ one_taken n ty tys ts before vs k s left is typed (on_top {s = rest} (is_value {
   stacked = d;
 }
 
-take_args : (n : ℕ) (tys : List Scalar) (ts : List Want) (before : List Value) (s : List Held) → Stacked n (args_on (wants tys) ts) s → AreTaken n tys ts before (length tys) s
+pub take_args : (n : ℕ) (tys : List Scalar) (ts : List Want) (before : List Value) (s : List Held) → Stacked n (args_on (wants tys) ts) s → AreTaken n tys ts before (length tys) s
 take_args n [] ts before s d = record { vs = []; left = s; is = refl; typed = tt; stacked = d }
 take_args n (ty ∷ tys) ts before s d =
     let h = take_args n tys (Of ty ∷ ts) before s d in one_taken n ty tys ts before h.vs (length tys) s h.left h.is h.typed h.stacked
@@ -101,51 +103,51 @@ pub data AreScalars (p : TProgramTree) : List ℕ → List Scalar → Type 0 whe
 abbrev pub IsParam : TProgramTree → ℕ → Type 0
 IsParam p param = (param < length p.objects) × IsScalar (object_type p param)
 
-params_are : (p : TProgramTree) (xs : List ℕ) → All (IsParam p) xs → (tys : List Scalar) × AreScalars p xs tys
+pub params_are : (p : TProgramTree) (xs : List ℕ) → All (IsParam p) xs → (tys : List Scalar) × AreScalars p xs tys
 params_are p [] h = ([], no_scalars)
 params_are p (x ∷ xs) h =
     let first = All-head (IsParam p) x xs h in
     let rest = params_are p xs (All-tail (IsParam p) x xs h) in
     let a = scalar_is (object_type p x) first.1 in (a.0 ∷ rest.0, more_scalars a.1 rest.1)
 
-params_wanted : (p : TProgramTree) {xs : List ℕ} {tys : List Scalar} → AreScalars p xs tys → map (λ x. want_of (object_type p x)) xs ≡ wants tys
+pub params_wanted : (p : TProgramTree) {xs : List ℕ} {tys : List Scalar} → AreScalars p xs tys → map (λ x. want_of (object_type p x)) xs ≡ wants tys
 params_wanted p no_scalars = refl
 params_wanted p (more_scalars {x = x} {xs = xs} {ty = ty} is h) =
     ap (λ w. w ∷ map (λ x. want_of (object_type p x)) xs) (want_is (object_type p x) ty is) ∙ ap (λ ws. Of ty ∷ ws) (params_wanted p h)
 
-params_count : (p : TProgramTree) {xs : List ℕ} {tys : List Scalar} → AreScalars p xs tys → length tys ≡ length xs
+pub params_count : (p : TProgramTree) {xs : List ℕ} {tys : List Scalar} → AreScalars p xs tys → length tys ≡ length xs
 params_count p no_scalars = refl
 params_count p (more_scalars is h) = ap suc (params_count p h)
 
-scalar_at : (o : Option ObjectTree) (s : Scalar) → Is (unwrap_or (option_map (λ object. object.ty) o) Void) s → option_and_then (λ object. scalar_of object.ty) o ≡ Some s
+pub scalar_at : (o : Option ObjectTree) (s : Scalar) → Is (unwrap_or (option_map (λ object. object.ty) o) Void) s → option_and_then (λ object. scalar_of object.ty) o ≡ Some s
 scalar_at None s e = absurd (cc)
 scalar_at (Some x) s e = e
 
 -- ---- parameters have their values
 
-all_have : (n k : ℕ) (tys : List Scalar) (vs : List Value) → n ≤ k → AllHave n tys vs → AllHave k tys vs
+pub all_have : (n k : ℕ) (tys : List Scalar) (vs : List Value) → n ≤ k → AllHave n tys vs → AllHave k tys vs
 all_have n k [] [] le h = tt
 all_have n k (ty ∷ tys) (v ∷ vs) le (h, hs) = (record { typed = h.typed; made = made_more n k v le h.made }, all_have n k tys vs le hs)
 all_have n k [] (v ∷ vs) le h = absurd h
 all_have n k (ty ∷ tys) [] le h = absurd h
 
-changed_on : (objects : List ObjectTree) (m n : ObjectMemory) → length n.blocks ≡ length m.blocks → n.places ≡ m.places → {o : Option ObjectMemory} → IsChanged objects n o
-    → IsChanged objects m o
+changed_on : {W : Type 0} (objects : List ObjectTree) (m n : ObjectMemory) → length n.blocks ≡ length m.blocks → n.places ≡ m.places → {o : Option ObjectMemory} → IsChanged W objects n o
+    → IsChanged W objects m o
 changed_on objects m n blocks places (changed k kept b s) = changed k kept (b ∙ blocks) (s ∙ places)
 
-changed_then : (objects : List ObjectTree) (m : ObjectMemory) (next : ObjectMemory → Option ObjectMemory) {o : Option ObjectMemory} → IsChanged objects m o
-    → ((n : ObjectMemory) → IsKept objects n → length n.blocks ≡ length m.blocks → n.places ≡ m.places → IsChanged objects n (next n))
-    → IsChanged objects m (option_and_then next o)
+changed_then : {W : Type 0} (objects : List ObjectTree) (m : ObjectMemory) (next : ObjectMemory → Option ObjectMemory) {o : Option ObjectMemory} → IsChanged W objects m o
+    → ((n : ObjectMemory) → Keeps W objects n → length n.blocks ≡ length m.blocks → n.places ≡ m.places → IsChanged W objects n (next n))
+    → IsChanged W objects m (option_and_then next o)
 changed_then objects m next (changed n kept blocks places) go = changed_on objects m n blocks places (go n kept blocks places)
 
 module _ (p : TProgramTree) (ok : AreFillable p) where
-  fill_one : (m : ObjectMemory) (x : ℕ) (ty : Scalar) (v : Value) → IsKept p.objects m → IsSome (place_of m x) → Is (object_type p x) ty → Has (length m.blocks) ty v
-      → IsChanged p.objects m (filled m (object_scalar p.objects x) x 0 v)
+  pub fill_one : (m : ObjectMemory) (x : ℕ) (ty : Scalar) (v : Value) → KeepsIn p m → IsSome (place_of m x) → Is (object_type p x) ty → Has (length m.blocks) ty v
+      → IsChanged (AreWholeInitials p.initial) p.objects m (filled m (object_scalar p.objects x) x 0 v)
   fill_one m x ty v k lives is hv =
       rw (scalar_at (slice_get p.objects x) ty is) (filled_some p m x 0 (object_type p x) ty v (place_of m x) refl lives ok k (whole (object_type p x)) is hv)
 
-  fill_all : {xs : List ℕ} {tys : List Scalar} → AreScalars p xs tys → (vs : List Value) (m : ObjectMemory) → IsKept p.objects m
-      → ((y : ℕ) → Contains xs y → IsSome (place_of m y)) → AllHave (length m.blocks) tys vs → IsChanged p.objects m (all_filled p.objects xs vs m)
+  fill_all : {xs : List ℕ} {tys : List Scalar} → AreScalars p xs tys → (vs : List Value) (m : ObjectMemory) → KeepsIn p m
+      → ((y : ℕ) → Contains xs y → IsSome (place_of m y)) → AllHave (length m.blocks) tys vs → IsChanged (AreWholeInitials p.initial) p.objects m (all_filled p.objects xs vs m)
   fill_all no_scalars [] m k lives hv = changed m k refl refl
   fill_all no_scalars (v ∷ vs) m k lives hv = absurd hv
   fill_all (more_scalars is h) [] m k lives hv = absurd hv
@@ -218,7 +220,7 @@ module _ (p : TProgramTree) (ok : AreFillable p) where
   pub body_row : (at : Option Pos) (f : ℕ) (end : AtEnd) (function : TFunctionTree) (body : TStmtTree) (tys : List Scalar) (vs : List Value) (want : Want) (r : CTypeTree)
       (w : List Item) (ts : List Want) → IsBody f function body → AreScalars p function.params tys → GivesAtEnd function.result at end want → Takes p r w (want ∷ ts)
       → (s : List Held) (m : ObjectMemory) (i : List ℤ) → AllHave (length m.blocks) tys vs → Stacked (length m.blocks) ts s → ((u : Use) → OpensCall p f u → IsReady p w u)
-      → Parted (OpensCall p) p w → AreLive p w m → IsKept p.objects m → On p (enter_body p at end function.params body vs w s m i)
+      → Parted (OpensCall p) p w → AreLive p w m → KeepsIn p m → On p (enter_body p at end function.params body vs w s m i)
   body_row at f end function body tys vs want r w ts b scalars_are gives k s m i hv d may q l h =
       let xs = function.params in
       let o = all_opened p.objects xs m b.distinct (free_objects p xs w m (λ u c. may u (lists_use f function body b u c)) l) h in
@@ -238,7 +240,7 @@ module _ (p : TProgramTree) (ok : AreFillable p) where
   pub enter_row : (at : Option Pos) (f : ℕ) (end : AtEnd) (function : TFunctionTree) (body : TStmtTree) (want : Want) (r : CTypeTree) (w : List Item) (ts : List Want)
       → IsBody f function body → slice_get p.functions f ≡ Some function → function.body ≡ Some body → GivesAtEnd function.result at end want → Takes p r w (want ∷ ts)
       → (s : List Held) (m : ObjectMemory) (i : List ℤ) → Stacked (length m.blocks) (args_on (param_wants p function) ts) s → ((u : Use) → OpensCall p f u → IsReady p w u)
-      → Parted (OpensCall p) p w → AreLive p w m → IsKept p.objects m → On p (enter_step p at f end w s m i)
+      → Parted (OpensCall p) p w → AreLive p w m → KeepsIn p m → On p (enter_step p at f end w s m i)
   enter_row at f end function body want r w ts b found is gives k s m i d may q l h =
       let a = params_are p function.params b.params in
       let args = take_args (length m.blocks) a.0 ts [] s (subst (λ ws. Stacked (length m.blocks) (args_on ws ts) s) (params_wanted p a.1) d) in
@@ -249,7 +251,7 @@ module _ (p : TProgramTree) (ok : AreFillable p) where
 
   pub reach_row : (at : Option Pos) (end : AtEnd) {result : CTypeTree} {want : Want} (r : CTypeTree) (w : List Item) (ts : List Want) → GivesAtEnd result at end want
       → Takes p r w (want ∷ ts) → (s : List Held) (m : ObjectMemory) (i : List ℤ) → Stacked (length m.blocks) ts s → Parted (OpensCall p) p w → AreLive p w m
-      → IsKept p.objects m → On p (reach_step at end w s m i)
+      → KeepsIn p m → On p (reach_step at end w s m i)
   reach_row at end r w ts rules.nothing k s m i d q l h = fit p r w _ m i _ k (on_top is_any d) q l h
   reach_row at end r w ts rules.zero k s m i d q l h = fit p r w _ m i _ k (on_top (is_value {v = values.Int ints.Int (pos 0)} zero_number tt) d) q l h
   reach_row at end r w ts rules.zero_any k s m i d q l h = fit p r w _ m i _ k (on_top is_any d) q l h

@@ -30,10 +30,9 @@ use Rattle.c_values.specs.Accesses.{read_looks}
 use Rattle.c_values.specs.Looks.{judge, Passes}
 use Rattle.c_values.specs.Values.{scalar_of}
 use Rattle.c_values.specs.Places.{ObjectMemory, place_of}
-use Rattle.c_objects.specs.Kept.{IsKept}
 use Rattle.c_objects.specs.Opening.{address, undefined}
 use Rattle.c_objects.specs.Writing.{with_blocks, copied_at, is_named, zero_at, zeroed, rest}
-use Rattle.c_objects.proofs.Writes.{kept_undefined, kept_rest}
+use Rattle.c_objects.proofs.Writes.{keeps_undefined, keeps_rest}
 use Rattle.c_steps.specs.Work.{Item, Fill, FillCopy, Eval}
 use Rattle.c_steps.specs.States.{Held, goes, with_some}
 use Rattle.c_steps.specs.Changes.{stored, fill_step, fill_copy_step}
@@ -49,6 +48,9 @@ use Rattle.c_typed_runs.proofs.Memory.{IsChanged, changed, passes_at, passes_byt
 use Rattle.c_typed_runs.proofs.Rows.{Is, want_is, store_row}
 use Rattle.c_typed_runs.proofs.Rules.{On, fit, as_top}
 use Rattle.c_typed_runs.proofs.Values.{Has, judged_after}
+use Rattle.c_typed_runs.proofs.Kept.{KeepsIn}
+use Rattle.c_objects.proofs.Keeping.{Keeps}
+use Rattle.c_objects.specs.Statics.{AreWholeInitials}
 
 -- ---- what a part of an object is in memory
 
@@ -72,7 +74,7 @@ int_size structs ints.LLong = (refl, refl)
 int_size structs ints.ULLong = (refl, refl)
 
 -- the size and the alignment of a scalar
-scalar_size : (structs : List StructDefTree) (ty : CTypeTree) (s : Scalar) → Is ty s → (size_in structs ty ≡ Some (size_of s)) × (align_in structs ty ≡ size_of s)
+pub scalar_size : (structs : List StructDefTree) (ty : CTypeTree) (s : Scalar) → Is ty s → (size_in structs ty ≡ Some (size_of s)) × (align_in structs ty ≡ size_of s)
 scalar_size structs Void s e = absurd (cc)
 scalar_size structs (Int t) s e = let same : scalars.Int t ≡ s = cc in subst (λ z. (size_in structs (Int t) ≡ Some (size_of z)) × (align_in structs (Int t) ≡ size_of z)) same (int_size structs t)
 scalar_size structs (Pointer to c) s e = let same : scalars.Pointer ≡ s = cc in subst (λ z. (size_in structs (Pointer to c) ≡ Some (size_of z)) × (align_in structs (Pointer to c) ≡ size_of z)) same (refl, refl)
@@ -81,11 +83,11 @@ scalar_size structs (Struct n) s e = absurd (cc)
 scalar_size structs (Function n) s e = absurd (cc)
 
 -- where the object of a part is, and that the part lies inside its block, at a multiple of its alignment
-record Room (m : ObjectMemory) (b offset size align : ℕ) : Type 0 where
-  made : b < length m.blocks
-  live : (block_at m.blocks b).live ≡ true
-  inside : offset + size ≤ length (block_at m.blocks b).bytes
-  aligned : offset % align ≡ 0
+pub record Room (m : ObjectMemory) (b offset size align : ℕ) : Type 0 where
+  pub made : b < length m.blocks
+  pub live : (block_at m.blocks b).live ≡ true
+  pub inside : offset + size ≤ length (block_at m.blocks b).bytes
+  pub aligned : offset % align ≡ 0
 
 whole_size : (o : Option ObjectTree) (x : ObjectTree) → o ≡ Some x → unwrap_or (option_map (λ object. object.ty) o) Void ≡ x.ty
 whole_size o x e = rw e refl
@@ -94,7 +96,7 @@ at_most : (o : Option ℕ) (n k : ℕ) → o ≡ Some n → IsSomeAnd o (λ z. k
 at_most None n k e h = absurd h
 at_most (Some z) n k e h = let same : z ≡ n = cc in subst (λ y. k ≤ y) same h
 
-room : (p : TProgramTree) (m : ObjectMemory) (x b offset size : ℕ) (part : CTypeTree) → AreFillable p → IsKept p.objects m → place_of m x ≡ Some b
+pub room : (p : TProgramTree) (m : ObjectMemory) (x b offset size : ℕ) (part : CTypeTree) → AreFillable p → KeepsIn p m → place_of m x ≡ Some b
     → PartAt p.structs (object_type p x) offset part → size_in p.structs part ≡ Some size → Room m b offset size (align_in p.structs part)
 room p m x b offset size part ok k here at is =
     let placed = k.placed x b here in
@@ -123,8 +125,8 @@ bytes_pass m b offset size align h = passes_bytes m.blocks (record { block = b; 
 
 -- a scalar that fills a part of an object that lives
 pub filled_some : (p : TProgramTree) (m : ObjectMemory) (x offset : ℕ) (part : CTypeTree) (ty : Scalar) (v : Value) (o : Option ℕ) → place_of m x ≡ o → IsSome o → AreFillable p
-    → IsKept p.objects m → PartAt p.structs (object_type p x) offset part → Is part ty → Has (length m.blocks) ty v
-    → IsChanged p.objects m (option_and_then (λ place. stored m (Some ty) place v) (option_map (λ b. values.Ptr (record { block = b; offset = pos offset })) o))
+    → KeepsIn p m → PartAt p.structs (object_type p x) offset part → Is part ty → Has (length m.blocks) ty v
+    → IsChanged (AreWholeInitials p.initial) p.objects m (option_and_then (λ place. stored m (Some ty) place v) (option_map (λ b. values.Ptr (record { block = b; offset = pos offset })) o))
 filled_some p m x offset part ty v None here lives ok k at is hv = absurd (cc)
 filled_some p m x offset part ty v (Some b) here lives ok k at is hv =
     let z = scalar_size p.structs part ty is in
@@ -133,29 +135,29 @@ filled_some p m x offset part ty v (Some b) here lives ok k at is hv =
     (subst (λ a. wrong_access m.blocks (record { block = b; offset = pos offset }) (size_of ty) a false ≡ None) z.1 (access_passes m b offset (size_of ty) (align_in p.structs part) h))
 
 copied_some : (p : TProgramTree) (m : ObjectMemory) (x offset : ℕ) (part source : CTypeTree) (extent : Extent) (from : Address) (o : Option ℕ) → place_of m x ≡ o → IsSome o
-    → AreFillable p → IsKept p.objects m → PartAt p.structs (object_type p x) offset part → CopyRow p.structs extent part source
+    → AreFillable p → KeepsIn p m → PartAt p.structs (object_type p x) offset part → CopyRow p.structs extent part source
     → wrong_access m.blocks from extent.size 1 false ≡ None
-    → IsChanged p.objects m (option_and_then (λ target. copied_at m target (values.Ptr from) extent.size) (option_map (λ b. values.Ptr (record { block = b; offset = pos offset })) o))
+    → IsChanged (AreWholeInitials p.initial) p.objects m (option_and_then (λ target. copied_at m target (values.Ptr from) extent.size) (option_map (λ b. values.Ptr (record { block = b; offset = pos offset })) o))
 copied_some p m x offset part source extent from None here lives ok k at row read = absurd (cc)
 copied_some p m x offset part source extent from (Some b) here lives ok k at row read =
     let h = room p m x b offset extent.size part ok k here at row.size in
     copy_changes p.objects m (record { block = b; offset = pos offset }) from extent.size k h.made read (bytes_pass m b offset extent.size (align_in p.structs part) h)
 
-copied_value : (p : TProgramTree) (m : ObjectMemory) (x offset : ℕ) (part source : CTypeTree) (extent : Extent) (v : Value) → IsSome (place_of m x) → AreFillable p
-    → IsKept p.objects m → PartAt p.structs (object_type p x) offset part → CopyRow p.structs extent part source → Has (length m.blocks) scalars.Pointer v
+pub copied_value : (p : TProgramTree) (m : ObjectMemory) (x offset : ℕ) (part source : CTypeTree) (extent : Extent) (v : Value) → IsSome (place_of m x) → AreFillable p
+    → KeepsIn p m → PartAt p.structs (object_type p x) offset part → CopyRow p.structs extent part source → Has (length m.blocks) scalars.Pointer v
     → judge p.objects (read_looks m v extent.size extent.align) ≡ Passes
-    → IsChanged p.objects m (option_and_then (λ target. copied_at m target v extent.size) (address m x offset))
+    → IsChanged (AreWholeInitials p.initial) p.objects m (option_and_then (λ target. copied_at m target v extent.size) (address m x offset))
 copied_value p m x offset part source extent (values.Ptr from) lives ok k at row hv e =
     copied_some p m x offset part source extent from (place_of m x) refl lives ok k at row (read_passes p.objects m k from extent hv e)
 copied_value p m x offset part source extent values.Null lives ok k at row hv e = absurd (cc)
 copied_value p m x offset part source extent (values.Int t z) lives ok k at row hv e = absurd hv.typed
 
 -- memory after its bytes lost their values, and after the rest became 0
-undefined_some : (objects : List ObjectTree) (m : ObjectMemory) (x : ℕ) (o : Option ℕ) → place_of m x ≡ o → IsSome o → IsKept objects m
-    → IsChanged objects m (option_map (λ b. record m { blocks = with_undefined m.blocks b }) o)
+undefined_some : {W : Type 0} (objects : List ObjectTree) (m : ObjectMemory) (x : ℕ) (o : Option ℕ) → place_of m x ≡ o → IsSome o → Keeps W objects m
+    → IsChanged W objects m (option_map (λ b. record m { blocks = with_undefined m.blocks b }) o)
 undefined_some objects m x None e h k = absurd (cc)
 undefined_some objects m x (Some b) e h k =
-    changed (record m { blocks = with_undefined m.blocks b }) (kept_undefined objects m k x _ (ap (option_map (λ b. record m { blocks = with_undefined m.blocks b })) e)) (length-set _ _ _) refl
+    changed (record m { blocks = with_undefined m.blocks b }) (keeps_undefined _ objects m k x _ (ap (option_map (λ b. record m { blocks = with_undefined m.blocks b })) e)) (length-set _ _ _) refl
 
 zero_count : (z : Bool) (b k : ℕ) (m : List BlockView) → length (if z then m else zero_at b k m) ≡ length m
 zero_count true b k m = refl
@@ -165,14 +167,14 @@ zeroed_count : (named : ℕ → Bool) (b k : ℕ) (m : List BlockView) → lengt
 zeroed_count named b zero m = refl
 zeroed_count named b (suc k) m = zero_count (named k) b k (zeroed named b k m) ∙ zeroed_count named b k m
 
-rest_some : (objects : List ObjectTree) (m : ObjectMemory) (x : ℕ) (inits : List TInitTree) (o : Option ℕ) → place_of m x ≡ o → IsSome o → IsKept objects m
-    → IsChanged objects m (option_map (λ b. with_blocks m (zeroed (is_named inits) b (length (block_at m.blocks b).bytes) m.blocks)) o)
+rest_some : {W : Type 0} (objects : List ObjectTree) (m : ObjectMemory) (x : ℕ) (inits : List TInitTree) (o : Option ℕ) → place_of m x ≡ o → IsSome o → Keeps W objects m
+    → IsChanged W objects m (option_map (λ b. with_blocks m (zeroed (is_named inits) b (length (block_at m.blocks b).bytes) m.blocks)) o)
 rest_some objects m x inits None e h k = absurd (cc)
 rest_some objects m x inits (Some b) e h k =
     let bytes = length (block_at m.blocks b).bytes in
     let is : rest m x inits ≡ Some (with_blocks m (zeroed (is_named inits) b bytes m.blocks)) =
     ap (option_map (λ c. with_blocks m (zeroed (is_named inits) c (length (block_at m.blocks c).bytes) m.blocks))) e in
-    changed (with_blocks m (zeroed (is_named inits) b bytes m.blocks)) (kept_rest objects m x inits _ k is) (zeroed_count (is_named inits) b bytes m.blocks) refl
+    changed (with_blocks m (zeroed (is_named inits) b bytes m.blocks)) (keeps_rest _ objects m x inits _ k is) (zeroed_count (is_named inits) b bytes m.blocks) refl
 
 -- ---- the items of an initialiser
 
@@ -251,7 +253,7 @@ parted_inits p x (Copy offset extent e ∷ inits) w f q =
 module _ (p : TProgramTree) (ok : AreFillable p) where
   -- what comes behind a change of memory that gives nothing to the stack
   pub goes_after : (m : ObjectMemory) {o : Option ObjectMemory} (r : CTypeTree) (w : List Item) (ts : List Want) (s : List Held) (i : List ℤ)
-      → IsChanged p.objects m o → Takes p r w ts → Stacked (length m.blocks) ts s → Parted (OpensCall p) p w → AreLive p w m → On p (with_some o (λ n. goes w s n i))
+      → IsChanged (AreWholeInitials p.initial) p.objects m o → Takes p r w ts → Stacked (length m.blocks) ts s → Parted (OpensCall p) p w → AreLive p w m → On p (with_some o (λ n. goes w s n i))
   goes_after m r w ts s i (changed n kept blocks places) k d q l =
       fit p r w s n i _ k (subst (λ c. Stacked c ts s) (sym blocks) d) q (
         (λ y o. subst (λ (ps : List (Option ℕ)). IsSome (slice_index_or ps y None)) (sym places) (l.0 y o)),
@@ -260,13 +262,13 @@ module _ (p : TProgramTree) (ok : AreFillable p) where
 
   pub fill_row : (x offset : ℕ) (part : CTypeTree) (ty : Scalar) (v : Value) (r : CTypeTree) (w : List Item) (ts : List Want) → Lives p w x
       → PartAt p.structs (object_type p x) offset part → Is part ty → Takes p r w ts → (s : List Held) (m : ObjectMemory) (i : List ℤ) → Has (length m.blocks) ty v
-      → Stacked (length m.blocks) ts s → Parted (OpensCall p) p w → AreLive p w m → IsKept p.objects m → On p (fill_step x offset (Some ty) v w s m i)
+      → Stacked (length m.blocks) ts s → Parted (OpensCall p) p w → AreLive p w m → KeepsIn p m → On p (fill_step x offset (Some ty) v w s m i)
   fill_row x offset part ty v r w ts lives at is k s m i hv d q l h =
       goes_after m r w ts s i (filled_some p m x offset part ty v (place_of m x) refl (l.0 x lives) ok h at is hv) k d q l
 
   pub fill_copy_row : (x offset : ℕ) (part source : CTypeTree) (extent : Extent) (from : Pos) (v : Value) (r : CTypeTree) (w : List Item) (ts : List Want) → Lives p w x
       → PartAt p.structs (object_type p x) offset part → CopyRow p.structs extent part source → Takes p r w ts → (s : List Held) (m : ObjectMemory) (i : List ℤ)
-      → Has (length m.blocks) scalars.Pointer v → Stacked (length m.blocks) ts s → Parted (OpensCall p) p w → AreLive p w m → IsKept p.objects m
+      → Has (length m.blocks) scalars.Pointer v → Stacked (length m.blocks) ts s → Parted (OpensCall p) p w → AreLive p w m → KeepsIn p m
       → On p (fill_copy_step p.objects x offset extent from v w s m i)
   fill_copy_row x offset part source extent from v r w ts lives at row k s m i hv d q l h =
       judged_after (Fits p) (judge p.objects (read_looks m v extent.size extent.align)) from
@@ -275,7 +277,7 @@ module _ (p : TProgramTree) (ok : AreFillable p) where
       (λ e. goes_after m r w ts s i (copied_value p m x offset part source extent v (l.0 x lives) ok h at row hv e) k d q l)
 
   pub rest_row : (x : ℕ) (inits : List TInitTree) (r : CTypeTree) (w : List Item) (ts : List Want) → Lives p w x → Takes p r w ts → (s : List Held) (m : ObjectMemory)
-      (i : List ℤ) → Stacked (length m.blocks) ts s → Parted (OpensCall p) p w → AreLive p w m → IsKept p.objects m → On p (rest_step (rest m x inits) w s i)
+      (i : List ℤ) → Stacked (length m.blocks) ts s → Parted (OpensCall p) p w → AreLive p w m → KeepsIn p m → On p (rest_step (rest m x inits) w s i)
   rest_row x inits r w ts lives k s m i d q l h = goes_after m r w ts s i (rest_some p.objects m x inits (place_of m x) refl (l.0 x lives) h) k d q l
 
   -- the declaration of an object: it loses its value, and then its items are done
@@ -302,7 +304,7 @@ module _ (p : TProgramTree) (ok : AreFillable p) where
 
   pub declare_row : (x : ℕ) (inits : List TInitTree) (z : Bool) (r : CTypeTree) (w : List Item) (ts : List Want) → (scope_at p r w).program ≡ p → Lives p w x
       → LivesAt p r w x → All (IsTypedIn p (scope_at p r w) x) inits → Takes p r w ts → (s : List Held) (m : ObjectMemory) (i : List ℤ) → Stacked (length m.blocks) ts s
-      → ((u : Use) → OpensInits (OpensCall p) inits u → IsReady p w u) → Parted (OpensCall p) p w → AreLive p w m → IsKept p.objects m
+      → ((u : Use) → OpensInits (OpensCall p) inits u → IsReady p w u) → Parted (OpensCall p) p w → AreLive p w m → KeepsIn p m
       → On p (with_some (undefined m x) (λ n. goes (init_items x inits (rest_items x inits z w)) s n i))
   declare_row x inits z r w ts same lives here typed k s m i d f q l h =
       let a = around_rest x inits z r w in

@@ -8,7 +8,6 @@ use Rattle.c_syntax.specs.TypedStmt.{TStmtTrees}
 use Rattle.c_syntax.specs.Program.{TProgramTree}
 use Rattle.c_layout.specs.Jumps.{labels_among}
 use Rattle.c_values.specs.Places.{ObjectMemory}
-use Rattle.c_objects.specs.Kept.{IsKept}
 use Rattle.c_objects.specs.Opening.{shut_all}
 use Rattle.c_steps.specs.Work.{Item, AtEnd, Again, Close, SwitchEnd}
 use Rattle.c_steps.specs.States.{Held, Next, goes}
@@ -25,12 +24,13 @@ use Rattle.c_typed_runs.proofs.Lives.{all_shut}
 use Rattle.c_typed_runs.proofs.Rows.{want_is}
 use Rattle.c_typed_runs.proofs.Rules.{On, fit}
 use Rattle.c_typed_runs.proofs.Work.{takes_does, live_does, parted_does, typed_behind, opens_behind, apart_behind, label_there}
+use Rattle.c_typed_runs.proofs.Kept.{KeepsIn}
 
-breaks_in : (z : Bool) (xs : List ℕ) (items : TStmtTrees) (c : Around) → IsTrue (in_items z xs items c).standing.breaks → z ≡ false → IsTrue c.standing.breaks
+pub breaks_in : (z : Bool) (xs : List ℕ) (items : TStmtTrees) (c : Around) → IsTrue (in_items z xs items c).standing.breaks → z ≡ false → IsTrue c.standing.breaks
 breaks_in true xs items c h e = absurd (cc)
 breaks_in false xs items c h e = h
 
-continues_in : (z : Bool) (xs : List ℕ) (items : TStmtTrees) (c : Around) → IsTrue (in_items z xs items c).standing.continues → IsTrue c.standing.continues
+pub continues_in : (z : Bool) (xs : List ℕ) (items : TStmtTrees) (c : Around) → IsTrue (in_items z xs items c).standing.continues → IsTrue c.standing.continues
 continues_in true xs items c h = h
 continues_in false xs items c h = h
 
@@ -52,7 +52,7 @@ other_way : (z : Bool) → z ≡ true → z ≡ false → ⊥
 other_way true a b = absurd (cc)
 other_way false a b = absurd (cc)
 
-labels_in : (z : Bool) (xs : List ℕ) (items : TStmtTrees) (c : Around) (j : ℕ) → Contains (in_items z xs items c).labels j
+pub labels_in : (z : Bool) (xs : List ℕ) (items : TStmtTrees) (c : Around) (j : ℕ) → Contains (in_items z xs items c).labels j
     → Contains (labels_among items) j ⊎ Contains c.labels j
 labels_in z xs items c j h = Contains-append_cases (labels_among items) c.labels j h
 
@@ -62,8 +62,8 @@ module _ (p : TProgramTree) where
   EndsReady xs items w = (u : Use) → Lists xs u ⊎ OpensItems (OpensCall p) items u → IsReady p w u
 
   after_close : (ts : List Want) (xs : List ℕ) (items : TStmtTrees) (w : List Item) (s : List Held) (m : ObjectMemory) (next : ObjectMemory → Next)
-      → EndsReady xs items w → Stacked (length m.blocks) ts s → AreLive p (Close xs items ∷ w) m → IsKept p.objects m
-      → ((n : ObjectMemory) → length n.blocks ≡ length m.blocks → Stacked (length n.blocks) ts s → AreLive p w n → IsKept p.objects n → On p (next n))
+      → EndsReady xs items w → Stacked (length m.blocks) ts s → AreLive p (Close xs items ∷ w) m → KeepsIn p m
+      → ((n : ObjectMemory) → length n.blocks ≡ length m.blocks → Stacked (length n.blocks) ts s → AreLive p w n → KeepsIn p n → On p (next n))
       → On p (next (shut_all m xs))
   after_close ts xs items w s m next f d l h go =
       let c = all_shut p w xs items m (λ y o. (f (Object y) (inl o)).1) l h in
@@ -85,7 +85,7 @@ module _ (p : TProgramTree) where
       → has (AtLabel j) items ≡ z → Contains (labels_among items) j ⊎ Contains (around p r w).labels j
       → TypedItems (in_items (ends_switch w) xs items (around p r w)) items → IsBehind w → Takes p r w ts
       → EndsReady xs items w → ApartBlock (OpensCall p) xs items → Parted (OpensCall p) p w → Stacked (length m.blocks) ts s
-      → AreLive p (Close xs items ∷ w) m → IsKept p.objects m → (Contains (around p r w).labels j → On p (jumped j w s (shut_all m xs) i))
+      → AreLive p (Close xs items ∷ w) m → KeepsIn p m → (Contains (around p r w).labels j → On p (jumped j w s (shut_all m xs) i))
       → On p (if z then goes (does (behind (AtLabel j) items) (Close xs items ∷ w)) s m i else jumped j w s (shut_all m xs) i)
   in_or_out r ts j xs items w s m i true e c t v k f g q d l h go =
       fit p r (does (behind (AtLabel j) items) (Close xs items ∷ w)) s m i ts
@@ -99,7 +99,7 @@ module _ (p : TProgramTree) where
   in_or_out r ts j xs items w s m i false e (inr c) t v k f g q d l h go = go c
 
   pub after_break : {r : CTypeTree} {w : List Item} {ts : List Want} → IsLevel w → Takes p r w ts → (s : List Held) (m : ObjectMemory) (i : List ℤ)
-      → IsTrue (around p r w).standing.breaks → Stacked (length m.blocks) ts s → Parted (OpensCall p) p w → AreLive p w m → IsKept p.objects m → On p (broken w s m i)
+      → IsTrue (around p r w).standing.breaks → Stacked (length m.blocks) ts s → Parted (OpensCall p) p w → AreLive p w m → KeepsIn p m → On p (broken w s m i)
   after_break at_do (rules.does t v k) s m i c d (f, g, q) l h = after_break v k s m i c d q l h
   after_break at_begin (begin t v k) s m i c d (f, g, q) l h = after_break v k s m i c d q l h
   after_break at_again (again t v k) s m i c d (f, g, q) l h = fit p _ _ s m i _ k d q l h
@@ -110,7 +110,7 @@ module _ (p : TProgramTree) where
   after_break at_reach k s m i c d q l h = absurd (cc)
 
   pub after_continue : {r : CTypeTree} {w : List Item} {ts : List Want} → IsLevel w → Takes p r w ts → (s : List Held) (m : ObjectMemory) (i : List ℤ)
-      → IsTrue (around p r w).standing.continues → Stacked (length m.blocks) ts s → Parted (OpensCall p) p w → AreLive p w m → IsKept p.objects m
+      → IsTrue (around p r w).standing.continues → Stacked (length m.blocks) ts s → Parted (OpensCall p) p w → AreLive p w m → KeepsIn p m
       → On p (continued w s m i)
   after_continue at_do (rules.does t v k) s m i c d (f, g, q) l h = after_continue v k s m i c d q l h
   after_continue at_begin (begin t v k) s m i c d (f, g, q) l h = after_continue v k s m i c d q l h
@@ -122,7 +122,7 @@ module _ (p : TProgramTree) where
   after_continue at_reach k s m i c d q l h = absurd (cc)
 
   pub after_return : {r : CTypeTree} {w : List Item} {ts : List Want} → IsLevel w → Takes p r w ts → (x : Held) (s : List Held) (m : ObjectMemory) (i : List ℤ)
-      → HasWant (length m.blocks) (want_of r) x → Stacked (length m.blocks) ts s → Parted (OpensCall p) p w → AreLive p w m → IsKept p.objects m
+      → HasWant (length m.blocks) (want_of r) x → Stacked (length m.blocks) ts s → Parted (OpensCall p) p w → AreLive p w m → KeepsIn p m
       → On p (jumps.left w x s m i)
   after_return at_do (rules.does t v k) x s m i c d (f, g, q) l h = after_return v k x s m i c d q l h
   after_return at_begin (begin t v k) x s m i c d (f, g, q) l h = after_return v k x s m i c d q l h
@@ -136,7 +136,7 @@ module _ (p : TProgramTree) where
   after_return at_reach (reach e k) x s m i c d (f, g, q) l h = fit p _ _ (x ∷ s) m i _ k (on_top (gives (length m.blocks) x e c) d) q l h
 
   pub after_goto : {r : CTypeTree} {w : List Item} {ts : List Want} → IsLevel w → Takes p r w ts → (j : ℕ) (s : List Held) (m : ObjectMemory) (i : List ℤ)
-      → Contains (around p r w).labels j → Stacked (length m.blocks) ts s → Parted (OpensCall p) p w → AreLive p w m → IsKept p.objects m → On p (jumped j w s m i)
+      → Contains (around p r w).labels j → Stacked (length m.blocks) ts s → Parted (OpensCall p) p w → AreLive p w m → KeepsIn p m → On p (jumped j w s m i)
   after_goto at_do (rules.does t v k) j s m i c d (f, g, q) l h = after_goto v k j s m i c d q l h
   after_goto at_begin (begin t v k) j s m i c d (f, g, q) l h = after_goto v k j s m i c d q l h
   after_goto at_again (again t v k) j s m i c d (f, g, q) l h = after_goto v k j s m i c d q l h

@@ -1,3 +1,4 @@
+pub mod Kept
 pub mod Values
 pub mod Memory
 pub mod Rows

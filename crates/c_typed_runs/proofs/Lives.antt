@@ -1,23 +1,22 @@
 -- Which objects live while blocks open and end.
-use Rattle.std.proofs.Common.{◌≡◌, ◌<◌, ◌≤◌, ◌+◌, ◌⊎◌, inl, inr, ℕ, zero, suc, List, [], ◌∷◌, length, Option, Some, None, refl, sym, ◌∙◌, subst, arith}
-use Rattle.std.specs.Prelude.{IsSome, Contains, slice_index_or, slice_set}
-use Rattle.std.proofs.lemmas.Bool.{cases_eq, cases_lt}
-use Rattle.std.proofs.lemmas.List.{get_or-set_same, get_or-set_other, length-append, length-set}
-use Rattle.std.proofs.lemmas.List.Elements.{Contains-append_cases, Contains-append_right}
-use Rattle.std.proofs.Math.ListN.{get_or-eq_default}
+use Rattle.std.proofs.Common.{◌≡◌, ◌<◌, ◌≤◌, ◌+◌, ◌⊎◌, inl, inr, ℕ, List, [], ◌∷◌, length, Option, Some, None, refl, sym, ◌∙◌, subst, arith}
+use Rattle.std.specs.Prelude.{IsSome, Contains}
+use Rattle.std.proofs.lemmas.Bool.{cases_eq}
+use Rattle.std.proofs.lemmas.List.{get_or-set_same, length-append, length-set}
 use Rattle.c_syntax.specs.Types.{ObjectTree}
 use Rattle.c_syntax.specs.TypedStmt.{TStmtTrees}
 use Rattle.c_syntax.specs.Program.{TProgramTree}
 use Rattle.c_values.specs.Places.{ObjectMemory, place_of}
-use Rattle.c_objects.specs.Kept.{IsKept}
 use Rattle.c_objects.specs.Opening.{opened, open_all, ended_at, shut, shut_all}
-use Rattle.c_objects.proofs.Keeping.{kept_opened}
-use Rattle.c_objects.proofs.Shutting.{kept_shut}
+use Rattle.c_objects.proofs.Shutting.{keeps_shut}
 use Rattle.c_lifetimes.specs.Lifetimes.{AreDistinct}
 use Rattle.c_lifetimes.proofs.Listed.{by_head, first_in, none_in, rest_in}
 use Rattle.c_lifetimes.proofs.Places.{open_only, open_other, shut_gone, shut_other, some_not_none}
 use Rattle.c_steps.specs.Work.{Item, Close}
 use Rattle.c_typed_runs.specs.Fits.{Lives, AreLive}
+use Rattle.c_typed_runs.proofs.Kept.{KeepsIn}
+use Rattle.c_objects.proofs.Keeping.{Keeps, keeps_opened}
+use Rattle.c_objects.specs.Statics.{AreWholeInitials}
 
 pub no_some : {A : Type 0} (o : Option A) → (IsSome o → ⊥) → o ≡ None
 no_some None h = refl
@@ -54,14 +53,14 @@ pub shut_blocks : (m : ObjectMemory) (xs : List ℕ) → length (shut_all m xs).
 shut_blocks m [] = refl
 shut_blocks m (x ∷ xs) = shut_blocks (shut m x) xs ∙ ended_length m (place_of m x)
 
-pub shut_keeps : (objects : List ObjectTree) (m : ObjectMemory) (xs : List ℕ) → IsKept objects m → IsKept objects (shut_all m xs)
+pub shut_keeps : {W : Type 0} (objects : List ObjectTree) (m : ObjectMemory) (xs : List ℕ) → Keeps W objects m → Keeps W objects (shut_all m xs)
 shut_keeps objects m [] k = k
-shut_keeps objects m (x ∷ xs) k = shut_keeps objects (shut m x) xs (kept_shut objects m x k)
+shut_keeps {W = W} objects m (x ∷ xs) k = shut_keeps objects (shut m x) xs (keeps_shut W objects m x k)
 
 -- memory behind the end of a block
 pub record Shut (p : TProgramTree) (w : List Item) (m n : ObjectMemory) : Type 0 where
   pub live : AreLive p w n
-  pub kept : IsKept p.objects n
+  pub kept : KeepsIn p n
   pub blocks : length n.blocks ≡ length m.blocks
 
 behind_only : (p : TProgramTree) (xs : List ℕ) (items : TStmtTrees) (w : List Item) (y : ℕ) → (Contains xs y → ⊥) → Lives p (Close xs items ∷ w) y → Lives p w y
@@ -74,7 +73,7 @@ more_live p xs items w y (inl g) = inl g
 more_live p xs items w y (inr g) = inr (inr g)
 
 pub all_shut : (p : TProgramTree) (w : List Item) (xs : List ℕ) (items : TStmtTrees) (m : ObjectMemory) → ((y : ℕ) → Contains xs y → Lives p w y → ⊥)
-    → AreLive p (Close xs items ∷ w) m → IsKept p.objects m → Shut p w m (shut_all m xs)
+    → AreLive p (Close xs items ∷ w) m → KeepsIn p m → Shut p w m (shut_all m xs)
 all_shut p w xs items m f l k = record {
   live = (
     (λ y g. shut_there m xs y (λ c. f y c g) (l.0 y (more_live p xs items w y g))),
@@ -87,17 +86,17 @@ all_shut p w xs items m f l k = record {
 -- ---- objects begin
 
 -- memory with more objects
-pub record Opened (objects : List ObjectTree) (xs : List ℕ) (m n : ObjectMemory) : Type 0 where
-  pub kept : IsKept objects n
+pub record Opened (W : Type 0) (objects : List ObjectTree) (xs : List ℕ) (m n : ObjectMemory) : Type 0 where
+  pub kept : Keeps W objects n
   pub old : (y : ℕ) → IsSome (place_of m y) → IsSome (place_of n y)
   pub new : (y : ℕ) → Contains xs y → IsSome (place_of n y)
   pub only : (y : ℕ) → IsSome (place_of n y) → IsSome (place_of m y) ⊎ Contains xs y
   pub more : length m.blocks ≤ length n.blocks
 
-open_here : (objects : List ObjectTree) (m : ObjectMemory) (x : ℕ) → IsKept objects m → x < length objects → place_of (opened objects m x) x ≡ Some (length m.blocks)
+open_here : {W : Type 0} (objects : List ObjectTree) (m : ObjectMemory) (x : ℕ) → Keeps W objects m → x < length objects → place_of (opened objects m x) x ≡ Some (length m.blocks)
 open_here objects m x k lt = get_or-set_same m.places x (Some (length m.blocks)) None (subst (λ n. x < n) (sym k.counted) lt)
 
-open_old : (objects : List ObjectTree) (m : ObjectMemory) (x y : ℕ) → IsKept objects m → x < length objects → (y ≡ x) ⊎ (y ≡ x → ⊥) → IsSome (place_of m y)
+open_old : {W : Type 0} (objects : List ObjectTree) (m : ObjectMemory) (x y : ℕ) → Keeps W objects m → x < length objects → (y ≡ x) ⊎ (y ≡ x → ⊥) → IsSome (place_of m y)
     → IsSome (place_of (opened objects m x) y)
 open_old objects m x y k lt (inl e) h = subst (λ z. IsSome (place_of (opened objects m x) z)) (sym e) (subst (λ o. IsSome o) (sym (open_here objects m x k lt)) refl)
 open_old objects m x y k lt (inr f) h = subst (λ o. IsSome o) (sym (open_other objects m x y f)) h
@@ -120,14 +119,14 @@ new_case objects x y xs n h f (inr c) = f c
 abbrev pub Free : List ObjectTree → ObjectMemory → List ℕ → Type 0
 Free objects m xs = (y : ℕ) → Contains xs y → (y < length objects) × (place_of m y ≡ None)
 
-pub all_opened : (objects : List ObjectTree) (xs : List ℕ) (m : ObjectMemory) → AreDistinct xs → Free objects m xs → IsKept objects m
-    → Opened objects xs m (open_all objects m xs)
+pub all_opened : {W : Type 0} (objects : List ObjectTree) (xs : List ℕ) (m : ObjectMemory) → AreDistinct xs → Free objects m xs → Keeps W objects m
+    → Opened W objects xs m (open_all objects m xs)
 all_opened objects [] m d f k = record { kept = k; old = λ y h. h; new = λ y c. absurd (none_in y c); only = λ y h. inl h; more = omega arith }
 all_opened objects (x ∷ xs) m (d, ds) f k =
     let here = f x (first_in x xs) in
     let apart : (y : ℕ) → Contains xs y → y ≡ x → ⊥ = λ y c e. d (subst (λ z. Contains xs z) e c) in
     let rest : Free objects (opened objects m x) xs = λ y c. let g = f y (rest_in x y xs c) in (g.0, open_other objects m x y (apart y c) ∙ g.1) in
-    let r = all_opened objects xs (opened objects m x) ds rest (kept_opened objects m x k here.0 here.1) in
+    let r = all_opened objects xs (opened objects m x) ds rest (keeps_opened _ objects m x k here.0 here.1) in
     let grown : length (opened objects m x).blocks ≡ length m.blocks + 1 = length-append m.blocks _ in
     let more = r.more in
     record {
@@ -143,14 +142,14 @@ only_close : (p : TProgramTree) (xs : List ℕ) (items : TStmtTrees) (w : List I
 only_close p xs items w y (inl g) = more_live p xs items w y g
 only_close p xs items w y (inr c) = inr (inl c)
 
-opened_there : (p : TProgramTree) (w : List Item) (xs : List ℕ) (items : TStmtTrees) (m n : ObjectMemory) → Opened p.objects xs m n → AreLive p w m
+opened_there : (p : TProgramTree) (w : List Item) (xs : List ℕ) (items : TStmtTrees) (m n : ObjectMemory) → Opened (AreWholeInitials p.initial) p.objects xs m n → AreLive p w m
     → (y : ℕ) → Lives p (Close xs items ∷ w) y → IsSome (place_of n y)
 opened_there p w xs items m n h l y (inl g) = h.old y (l.0 y (inl g))
 opened_there p w xs items m n h l y (inr (inl c)) = h.new y c
 opened_there p w xs items m n h l y (inr (inr g)) = h.old y (l.0 y (inr g))
 
 -- what lives in a block
-pub live_opened : (p : TProgramTree) (w : List Item) (xs : List ℕ) (items : TStmtTrees) (m n : ObjectMemory) → Opened p.objects xs m n → AreLive p w m
+pub live_opened : (p : TProgramTree) (w : List Item) (xs : List ℕ) (items : TStmtTrees) (m n : ObjectMemory) → Opened (AreWholeInitials p.initial) p.objects xs m n → AreLive p w m
     → AreLive p (Close xs items ∷ w) n
 live_opened p w xs items m n h l =
     ((λ y g. opened_there p w xs items m n h l y g), (λ y g. only_close p xs items w y (left_map (l.1 y) (h.only y g))))

@@ -21,11 +21,11 @@ use Rattle.c_values.specs.Looks.{Passes, NoOperand, judge}
 use Rattle.c_values.specs.Memory.{found}
 use Rattle.c_values.specs.Places.{ObjectMemory, spot_at}
 use Rattle.c_values.proofs.Accesses.{reads, writes, stores}
-use Rattle.c_objects.specs.Kept.{IsKept}
 use Rattle.c_objects.specs.Writing.{with_blocks, unless_wrong, stored_at, copied_at}
-use Rattle.c_objects.proofs.Writes.{kept_stored, kept_copied}
+use Rattle.c_objects.proofs.Writes.{keeps_stored, keeps_copied}
 use Rattle.c_steps.specs.Changes.{stored}
 use Rattle.c_typed_runs.proofs.Values.{Has}
+use Rattle.c_objects.proofs.Keeping.{Keeps}
 
 -- ---- looks at accesses are never without an operand
 
@@ -37,7 +37,7 @@ found_has : (x : Operand) (w : Option WrongKind) → found x w ≡ NoOperand →
 found_has x None h = absurd (cc)
 found_has x (Some kind) h = absurd (cc)
 
-module _ (objects : List ObjectTree) (m : ObjectMemory) (kept : IsKept objects m) where
+module _ {W : Type 0} (objects : List ObjectTree) (m : ObjectMemory) (kept : Keeps W objects m) where
   pub read_has : (v : Value) (size align : ℕ) → Has (length m.blocks) scalars.Pointer v → judge objects (read_looks m v size align) ≡ NoOperand → ⊥
   read_has (values.Ptr p) size align hv h =
       found_has (Point (spot_at m p)) (wrong_access m.blocks p size align false) (sym (reads objects m p size align (kept.fits p.block hv.made)) ∙ h)
@@ -78,27 +78,27 @@ passes_bytes m p n align write h =
 -- ---- memory after a change
 
 -- the change is made; blocks stay as many, and objects where they are
-pub data IsChanged (objects : List ObjectTree) (m : ObjectMemory) : Option ObjectMemory → Type 0 where
-  changed : (n : ObjectMemory) → IsKept objects n → length n.blocks ≡ length m.blocks → n.places ≡ m.places → IsChanged objects m (Some n)
+pub data IsChanged (W : Type 0) (objects : List ObjectTree) (m : ObjectMemory) : Option ObjectMemory → Type 0 where
+  changed : (n : ObjectMemory) → Keeps W objects n → length n.blocks ≡ length m.blocks → n.places ≡ m.places → IsChanged W objects m (Some n)
 
-pub store_changes : (objects : List ObjectTree) (m : ObjectMemory) (ty : Scalar) (p : Pointer) (v : Value) → IsKept objects m → p.block < length m.blocks
-    → Has (length m.blocks) ty v → wrong_access m.blocks p (size_of ty) (size_of ty) false ≡ None → IsChanged objects m (stored_at m ty (values.Ptr p) v)
-store_changes objects m ty p v kept made hv none =
+pub store_changes : {W : Type 0} (objects : List ObjectTree) (m : ObjectMemory) (ty : Scalar) (p : Pointer) (v : Value) → Keeps W objects m → p.block < length m.blocks
+    → Has (length m.blocks) ty v → wrong_access m.blocks p (size_of ty) (size_of ty) false ≡ None → IsChanged W objects m (stored_at m ty (values.Ptr p) v)
+store_changes {W = W} objects m ty p v kept made hv none =
     let is : stored_at m ty (values.Ptr p) v ≡ Some (with_blocks m (store m.blocks p v)) = ap (λ w. unless_wrong w (Some (with_blocks m (store m.blocks p v)))) none in
-    subst (λ o. IsChanged objects m o) (sym is)
-    (changed (with_blocks m (store m.blocks p v)) (kept_stored objects m kept ty (values.Ptr p) v _ made hv.typed hv.made is) (length-set _ _ _) refl)
+    subst (λ o. IsChanged W objects m o) (sym is)
+    (changed (with_blocks m (store m.blocks p v)) (keeps_stored W objects m kept ty (values.Ptr p) v _ made hv.typed hv.made is) (length-set _ _ _) refl)
 
-pub copy_changes : (objects : List ObjectTree) (m : ObjectMemory) (to from : Pointer) (n : ℕ) → IsKept objects m → to.block < length m.blocks
+pub copy_changes : {W : Type 0} (objects : List ObjectTree) (m : ObjectMemory) (to from : Pointer) (n : ℕ) → Keeps W objects m → to.block < length m.blocks
     → wrong_access m.blocks from n 1 false ≡ None → wrong_access m.blocks to n 1 false ≡ None
-    → IsChanged objects m (copied_at m (values.Ptr to) (values.Ptr from) n)
-copy_changes objects m to from n kept made source target =
+    → IsChanged W objects m (copied_at m (values.Ptr to) (values.Ptr from) n)
+copy_changes {W = W} objects m to from n kept made source target =
     let done = Some (with_blocks m (copy m.blocks to from n)) in
     let is : copied_at m (values.Ptr to) (values.Ptr from) n ≡ done = ap (λ w. unless_wrong w (unless_wrong (wrong_access m.blocks to n 1 false) done)) source
     ∙ ap (λ w. unless_wrong w done) target in
-    subst (λ o. IsChanged objects m o) (sym is)
-    (changed (with_blocks m (copy m.blocks to from n)) (kept_copied objects m kept (values.Ptr to) (values.Ptr from) n _ made is) (length-set _ _ _) refl)
+    subst (λ o. IsChanged W objects m o) (sym is)
+    (changed (with_blocks m (copy m.blocks to from n)) (keeps_copied W objects m kept (values.Ptr to) (values.Ptr from) n _ made is) (length-set _ _ _) refl)
 
-module _ (objects : List ObjectTree) (m : ObjectMemory) (kept : IsKept objects m) where
+module _ {W : Type 0} (objects : List ObjectTree) (m : ObjectMemory) (kept : Keeps W objects m) where
   -- where the looks of a read pass, its bytes may be read
   pub read_passes : (p : Pointer) (extent : Extent) → Has (length m.blocks) scalars.Pointer (values.Ptr p)
       → judge objects (read_looks m (values.Ptr p) extent.size extent.align) ≡ Passes → wrong_access m.blocks p extent.size 1 false ≡ None
@@ -108,7 +108,7 @@ module _ (objects : List ObjectTree) (m : ObjectMemory) (kept : IsKept objects m
 
   -- where the looks of a store pass, it is made
   pub store_passes : (ty : Scalar) (v u : Value) → Has (length m.blocks) scalars.Pointer v → Has (length m.blocks) ty u
-      → judge objects (store_looks m (Some ty) v) ≡ Passes → IsChanged objects m (stored m (Some ty) v u)
+      → judge objects (store_looks m (Some ty) v) ≡ Passes → IsChanged W objects m (stored m (Some ty) v u)
   store_passes ty (values.Ptr p) u hv hu h =
       let none = found_passes (Point (spot_at m p)) (wrong_access m.blocks p (size_of ty) (size_of ty) true)
       (sym (stores objects m p ty (kept.fits p.block hv.made)) ∙ h) in
@@ -121,7 +121,7 @@ module _ (objects : List ObjectTree) (m : ObjectMemory) (kept : IsKept objects m
   -- and a copy
   pub copy_passes : (extent : Extent) (to from : Value) → Has (length m.blocks) scalars.Pointer to → Has (length m.blocks) scalars.Pointer from
       → judge objects (read_looks m from extent.size extent.align) ≡ Passes → judge objects (write_looks m to extent.size extent.align) ≡ Passes
-      → IsChanged objects m (copied_at m to from extent.size)
+      → IsChanged W objects m (copied_at m to from extent.size)
   copy_passes extent (values.Ptr to) (values.Ptr from) ht hf r w =
       let source = found_passes (Point (spot_at m from)) (wrong_access m.blocks from extent.size extent.align false)
       (sym (reads objects m from extent.size extent.align (kept.fits from.block hf.made)) ∙ r) in

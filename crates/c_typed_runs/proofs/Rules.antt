@@ -3,7 +3,6 @@ use Rattle.std.proofs.Common.{◌≡◌, ◌≤◌, ℕ, ℤ, List, ◌∷◌, l
 use Rattle.c_syntax.specs.Types.{CTypeTree}
 use Rattle.c_syntax.specs.Program.{TProgramTree}
 use Rattle.c_values.specs.Places.{ObjectMemory}
-use Rattle.c_objects.specs.Kept.{IsKept}
 use Rattle.c_steps.specs.Work.{Item}
 use Rattle.c_steps.specs.States.{Held, Next, goes}
 use Rattle.c_typed_runs.specs.Wants.{Want, HasWant, is_value, is_struct, is_any, Stacked, bottom, on_top}
@@ -11,6 +10,8 @@ use Rattle.c_typed_runs.specs.Takes.{Takes}
 use Rattle.c_typed_runs.specs.Opens.{OpensCall}
 use Rattle.c_typed_runs.specs.Fits.{AreLive, Parted, Fits}
 use Rattle.c_typed_runs.proofs.Values.{After, made_more}
+use Rattle.c_objects.proofs.Keeping.{keeps_objects}
+use Rattle.c_typed_runs.proofs.Kept.{KeepsIn}
 
 -- what is held stays what is wanted while blocks are made
 pub want_more : (n k : ℕ) {t : Want} {x : Held} → n ≤ k → HasWant n t x → HasWant k t x
@@ -27,8 +28,8 @@ module _ (p : TProgramTree) where
   On next = After (Fits p) next
 
   pub fit : (r : CTypeTree) (w : List Item) (s : List Held) (m : ObjectMemory) (i : List ℤ) (ts : List Want) → Takes p r w ts → Stacked (length m.blocks) ts s
-      → Parted (OpensCall p) p w → AreLive p w m → IsKept p.objects m → On (goes w s m i)
-  fit r w s m i ts k d q l h = record { result = r; wants = ts; takes = k; stacked = d; parted = q; live = l; kept = h }
+      → Parted (OpensCall p) p w → AreLive p w m → KeepsIn p m → On (goes w s m i)
+  fit r w s m i ts k d q l h = record { result = r; wants = ts; takes = k; stacked = d; parted = q; live = l; kept = keeps_objects _ p.objects m h; whole = h.whole }
 
   pub as_top : (r : CTypeTree) (w : List Item) (ts : List Want) (a b : Want) → a ≡ b → Takes p r w (b ∷ ts) → Takes p r w (a ∷ ts)
   as_top r w ts a b e k = subst (λ t. Takes p r w (t ∷ ts)) (sym e) k

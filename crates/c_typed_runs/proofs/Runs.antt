@@ -16,6 +16,7 @@ use Rattle.c_layout.specs.WellTyped.{IsWellTyped, IsTypedObject, IsTypedFunction
 use Rattle.c_layout.proofs.Alignments.{parts_aligned}
 use Rattle.c_layout.proofs.Mains.{main_first}
 use Rattle.c_layout.proofs.Parts.{inside}
+use Rattle.c_lifetimes.specs.Lifetimes.{AreDistinct}
 use Rattle.c_lifetimes.proofs.Listed.{by_sum, distinct, listed_times, part_times, times, times_append, two_times}
 use Rattle.c_typed_runs.specs.Opens.{Use, Object, Function, Lists, OpensStmt, OpensCall, Leads}
 use Rattle.c_typed_runs.proofs.Blocks.{IsSparse, stmt_uses, apart_stmt}
@@ -32,12 +33,36 @@ use Rattle.c_typed_runs.proofs.Steps.{IsRunnable}
 own_list : (function : TFunctionTree) (body : TStmtTree) → function.body ≡ Some body → listed_by function ≡ function.params ++ listed_of body
 own_list function body e = ap (λ o. function.params ++ unwrap_or (option_map listed_of o) []) e
 
-module _ (p : TProgramTree) (plan : Plan) (w : IsWellTyped p) (ok : IsPlanFor p plan) where
+module _ (p : TProgramTree) (w : IsWellTyped p) where
   -- a function lists each object once
   own_once : (f : ℕ) (function : TFunctionTree) → slice_get p.functions f ≡ Some function → (y : ℕ) → times y (listed_by function) ≤ 1
   own_once f function found y =
       let part = part_times listed_by y p.functions f function found in let all = listed_at_most_once p w y in omega (arith, part, all)
 
+  pub typed_at : (f : ℕ) (function : TFunctionTree) → slice_get p.functions f ≡ Some function → IsTypedFunction p function
+  typed_at f function found = all_at (IsTypedFunction p) p.functions f function w.functions found
+
+  -- its parameters are distinct, and it lists them
+  pub params_distinct : (f : ℕ) (function : TFunctionTree) → slice_get p.functions f ≡ Some function → AreDistinct function.params
+  params_distinct f function found = distinct function.params (λ y.
+      let own = own_once f function found y in let sum = times_append y function.params (unwrap_or (option_map listed_of function.body) []) in omega (arith, own, sum))
+
+  listed_here : (f : ℕ) (function : TFunctionTree) → slice_get p.functions f ≡ Some function → (y : ℕ) → Contains (listed_by function) y → OpensCall p f (Object y)
+  listed_here f function found y c = (f, lead_here p f, subst (λ o. IsSomeAnd o (λ other. Contains (listed_by other) y)) (sym found) c)
+
+  pub params_listed : (f : ℕ) (function : TFunctionTree) → slice_get p.functions f ≡ Some function → (y : ℕ) → Contains function.params y
+      → OpensCall p f (Object y)
+  params_listed f function found y c =
+      listed_here f function found y (Contains-append_left function.params (unwrap_or (option_map listed_of function.body) []) y c)
+
+  pub are_fillable : AreFillable p
+  are_fillable = record {
+    inside = λ whole part offset size at is. inside p.structs w.structs.laid_out size at is;
+    aligned = parts_aligned p.structs w.structs.laid_out w.structs.founded;
+    sizes = λ x object found. (all_at (IsTypedObject p.structs) p.objects x object w.objects found).size;
+  }
+
+module _ (p : TProgramTree) (plan : Plan) (w : IsWellTyped p) (ok : IsPlanFor p plan) where
   away_other : (f g : ℕ) (function other : TFunctionTree) → slice_get p.functions f ≡ Some function → slice_get p.functions g ≡ Some other → (f ≡ g → ⊥) → (y : ℕ)
       → Contains (listed_by function) y → Contains (listed_by other) y → ⊥
   away_other f g function other found there n y a b =
@@ -64,7 +89,7 @@ module _ (p : TProgramTree) (plan : Plan) (w : IsWellTyped p) (ok : IsPlanFor p 
       let list = own_list function body is in
       record {
         once = λ y.
-            let own = own_once f function found y in
+            let own = own_once p w f function found y in
             let sum = times_append y function.params (listed_of body) in
             let same : times y (listed_by function) ≡ times y (function.params ++ listed_of body) = ap (λ l. times y l) list in omega (arith, own, sum, same);
         away = λ call made y o c.
@@ -72,13 +97,10 @@ module _ (p : TProgramTree) (plan : Plan) (w : IsWellTyped p) (ok : IsPlanFor p 
             (subst (λ l. Contains l y) (sym list) (Contains-append_right function.params (listed_of body) y c));
       }
 
-  listed_here : (f : ℕ) (function : TFunctionTree) → slice_get p.functions f ≡ Some function → (y : ℕ) → Contains (listed_by function) y → OpensCall p f (Object y)
-  listed_here f function found y c = (f, lead_here p f, subst (λ o. IsSomeAnd o (λ other. Contains (listed_by other) y)) (sym found) c)
-
   uses_here : (f : ℕ) (function : TFunctionTree) (body : TStmtTree) → slice_get p.functions f ≡ Some function → function.body ≡ Some body → (u : Use)
       → Lists (listed_of body) u → OpensCall p f u
   uses_here f function body found is (Object y) c =
-      listed_here f function found y (subst (λ l. Contains l y) (sym (own_list function body is)) (Contains-append_right function.params (listed_of body) y c))
+      listed_here p w f function found y (subst (λ l. Contains l y) (sym (own_list function body is)) (Contains-append_right function.params (listed_of body) y c))
   uses_here f function body found is (Function g) c = absurd c
 
   body_opens : (f : ℕ) (function : TFunctionTree) (body : TStmtTree) → slice_get p.functions f ≡ Some function → function.body ≡ Some body → (u : Use)
@@ -91,7 +113,7 @@ module _ (p : TProgramTree) (plan : Plan) (w : IsWellTyped p) (ok : IsPlanFor p 
       → Contains function.params y → OpensStmt (OpensCall p) body (Object y) → ⊥
   params_missed f function body found is y c o =
       let list = own_list function body is in
-      let own = own_once f function found y in
+      let own = own_once p w f function found y in
       let sum = times_append y function.params (listed_of body) in
       let same : times y (listed_by function) ≡ times y (function.params ++ listed_of body) = ap (λ l. times y l) list in
       let first = listed_times y function.params c in
@@ -100,22 +122,16 @@ module _ (p : TProgramTree) (plan : Plan) (w : IsWellTyped p) (ok : IsPlanFor p 
       (λ g. away f function found g.call (subst (λ l. Contains l g.call) (sym (body_of p f function body found is)) g.made) y g.used
       (subst (λ l. Contains l y) (sym list) (Contains-append_left function.params (listed_of body) y c)))
 
-  typed_at : (f : ℕ) (function : TFunctionTree) → slice_get p.functions f ≡ Some function → IsTypedFunction p function
-  typed_at f function found = all_at (IsTypedFunction p) p.functions f function w.functions found
-
   are_bodies : (fillable : AreFillable p) (f : ℕ) (function : TFunctionTree) (body : TStmtTree) → slice_get p.functions f ≡ Some function → function.body ≡ Some body
       → IsBody p fillable f function body
   are_bodies fillable f function body found is = record {
-    typed = subst (λ o. IfSome o (IsTypedBody p function)) is (typed_at f function found).body;
+    typed = subst (λ o. IfSome o (IsTypedBody p function)) is (typed_at p w f function found).body;
     stays = subst (λ o. IfSome o (GotosStay [])) is (all_at (λ x. IfSome x.body (GotosStay [])) p.functions f function ok.gotos_stay found);
-    params = (typed_at f function found).params;
-    distinct = distinct function.params (λ y.
-        let own = own_once f function found y in
-        let sum = times_append y function.params (listed_of body) in
-        let same : times y (listed_by function) ≡ times y (function.params ++ listed_of body) = ap (λ l. times y l) (own_list function body is) in omega (arith, own, sum, same));
+    params = (typed_at p w f function found).params;
+    distinct = params_distinct p w f function found;
     apart = apart_stmt p body (sparse_body f function body found is);
     opens = body_opens f function body found is;
-    lists = λ y c. listed_here f function found y (subst (λ l. Contains l y) (sym (own_list function body is)) (Contains-append_left function.params (listed_of body) y c));
+    lists = params_listed p w f function found;
     misses = params_missed f function body found is;
   }
 
@@ -128,14 +144,7 @@ module _ (p : TProgramTree) (plan : Plan) (w : IsWellTyped p) (ok : IsPlanFor p 
       (subst (λ o. IsSomeAnd o IsStart) found start_of).result
 
   are_callable : AreCallable p
-  are_callable = record { results = λ f function found. (typed_at f function found).result; main = main_result }
-
-  are_fillable : AreFillable p
-  are_fillable = record {
-    inside = λ whole part offset size at is. inside p.structs w.structs.laid_out size at is;
-    aligned = parts_aligned p.structs w.structs.laid_out w.structs.founded;
-    sizes = λ x object found. (all_at (IsTypedObject p.structs) p.objects x object w.objects found).size;
-  }
+  are_callable = record { results = λ f function found. (typed_at p w f function found).result; main = main_result }
 
   pub is_runnable : IsRunnable p
-  is_runnable = record { sized = are_sized p w; callable = are_callable; fillable = are_fillable; bodies = are_bodies are_fillable }
+  is_runnable = record { sized = are_sized p w; callable = are_callable; fillable = are_fillable p w; bodies = are_bodies (are_fillable p w) }

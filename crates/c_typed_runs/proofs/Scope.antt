@@ -11,7 +11,6 @@ use Rattle.c_layout.specs.TypedNodes.{Standing, VarRow, IsTypedExpr, IsTypedPlac
 use Rattle.block_mem.specs.declared.types.Value.TheVariants as values
 use Rattle.block_mem.specs.declared.types.Scalar.TheVariants as scalars
 use Rattle.c_values.specs.Places.{ObjectMemory, place_of}
-use Rattle.c_objects.specs.Kept.{IsKept}
 use Rattle.c_lifetimes.proofs.Listed.{none_in}
 use Rattle.c_steps.specs.Work.{Item, Close}
 use Rattle.c_steps.specs.States.{Held, goes, held, with_some}
@@ -22,6 +21,7 @@ use Rattle.c_typed_runs.specs.Takes.{LivesAt, Takes, eval, addr, load, store, na
 use Rattle.c_typed_runs.specs.Opens.{Use, OpensPlace, OpensCall}
 use Rattle.c_typed_runs.specs.Fits.{Closes, Lives, AreLive, IsReady, Parted}
 use Rattle.c_typed_runs.proofs.Rules.{On, fit, as_top}
+use Rattle.c_typed_runs.proofs.Kept.{KeepsIn}
 
 -- what is around names the program, the function's result, and objects that the work will end; those of the innermost block among them
 pub record Scoped (p : TProgramTree) (r : CTypeTree) (w : List Item) (standing : Standing) : Type 0 where
@@ -95,7 +95,7 @@ lives_by : (p : TProgramTree) (r : CTypeTree) (w : List Item) (standing : Standi
 lives_by p r w standing x object h e (inr g) = inr (h.lives x g)
 lives_by p r w standing x object h e (inl g) = inl (static_at p x object (subst (λ (q : TProgramTree). slice_get q.objects x ≡ Some object) h.program e) g)
 
-lives_case : (p : TProgramTree) (r : CTypeTree) (w : List Item) (standing : Standing) (x : ℕ) (ty : CTypeTree) (c : Bool) → Scoped p r w standing → (o : Option ObjectTree)
+pub lives_case : (p : TProgramTree) (r : CTypeTree) (w : List Item) (standing : Standing) (x : ℕ) (ty : CTypeTree) (c : Bool) → Scoped p r w standing → (o : Option ObjectTree)
     → slice_get standing.scope.program.objects x ≡ o → IsSomeAnd o (λ object. VarRow standing.scope object x ty c) → Lives p w x
 lives_case p r w standing x ty c h None e g = absurd g
 lives_case p r w standing x ty c h (Some object) e g = lives_by p r w standing x object h e g.lives
@@ -106,14 +106,14 @@ lives_here k x g = inr ((scoped k).lives x g)
 
 module _ (p : TProgramTree) where
   var_row : (r : CTypeTree) (w : List Item) (s : List Held) (m : ObjectMemory) (i : List ℤ) (ts : List Want) (x : ℕ) (o : Option ℕ) → place_of m x ≡ o → IsSome o
-      → Takes p r w (Of scalars.Pointer ∷ ts) → Stacked (length m.blocks) ts s → Parted (OpensCall p) p w → AreLive p w m → IsKept p.objects m
+      → Takes p r w (Of scalars.Pointer ∷ ts) → Stacked (length m.blocks) ts s → Parted (OpensCall p) p w → AreLive p w m → KeepsIn p m
       → On p (with_some (option_map (λ b. values.Ptr (record { block = b; offset = pos 0 })) o) (λ v. goes w (held v ∷ s) m i))
   var_row r w s m i ts x None e b k d q l h = absurd (cc)
   var_row r w s m i ts x (Some c) e b k d q l h = fit p r w _ m i _ k (on_top (is_value tt (h.placed x c e).made) d) q l h
 
   pub addr_row : (x : TLvalueTree) (r : CTypeTree) (w : List Item) (ts : List Want) → IsTypedPlace (scope_at p r w) x → Takes p r w (Of scalars.Pointer ∷ ts)
       → (s : List Held) (m : ObjectMemory) (i : List ℤ) → Stacked (length m.blocks) ts s → ((y : Use) → OpensPlace (OpensCall p) x y → IsReady p w y)
-      → Parted (OpensCall p) p w → AreLive p w m → IsKept p.objects m → On p (addr_step x w s m i)
+      → Parted (OpensCall p) p w → AreLive p w m → KeepsIn p m → On p (addr_step x w s m i)
   unfolding IsTypedExpr
   addr_row (Var at x ty c) r w ts t k s m i d f q l h =
       let lives = lives_case p r w (around p r w).standing x ty c (scoped k) (slice_get (scope_at p r w).program.objects x) refl t in

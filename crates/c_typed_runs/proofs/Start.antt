@@ -1,25 +1,17 @@
 -- The start of a run of a well typed program.
-use Rattle.std.proofs.Common.{◌≡◌, ◌<◌, ◌+◌, ◌⊎◌, inl, inr, ℕ, suc, ℤ, Bool, true, false, List, [], ◌∷◌, map, length, Option, Some, None, refl, sym, ap, ◌∙◌, subst, arith}
-use Rattle.std.specs.Prelude.{if◌then◌else◌, Contains, IsSome, IsSomeAnd, IsTrue, slice_get, slice_index_or}
-use Rattle.std.proofs.lemmas.Bool.{cases_eq}
+use Rattle.std.proofs.Common.{◌≡◌, ◌<◌, inl, ℕ, ℤ, true, false, List, [], ◌∷◌, map, length, Option, Some, None, refl, sym, ap, ◌∙◌, subst}
+use Rattle.std.specs.Prelude.{Contains, IsSome, IsSomeAnd, IsTrue, slice_get}
 use Rattle.std.proofs.lemmas.List.Elements.{All-contains}
 use Rattle.std.proofs.lemmas.Option.{slice_get_within}
 use Rattle.c_written.specs.declared.int_type.IntType.TheVariants as ints
-use Rattle.c_syntax.specs.declared.program.Initial.{Initial}
-use Rattle.c_syntax.specs.declared.program.InitByte.{InitByte}
 use Rattle.c_syntax.specs.declared.program.Plan.{Plan}
 use Rattle.c_syntax.specs.Types.{Int, ObjectTree}
 use Rattle.c_syntax.specs.TypedStmt.{TStmtTree}
 use Rattle.c_syntax.specs.Program.{TFunctionTree, TProgramTree}
 use Rattle.c_layout.specs.Calls.{PlacedCall, function_calls, IsChain, chain_end}
 use Rattle.c_layout.specs.Plans.{HasBody, IsStart}
-use Rattle.c_layout.specs.WellTyped.{IsAutomaticObject, IsStaticObject, listed_by, listed}
-use Rattle.c_values.specs.Places.{ObjectMemory, place_of}
-use Rattle.c_objects.specs.Opening.{no_objects, opened}
-use Rattle.c_objects.specs.Statics as statics
-use Rattle.c_objects.specs.Statics.{open_statics, opened_statics, with_initial, initial_at, with_initials}
-use Rattle.c_objects.proofs.Keeping.{none_lives}
-use Rattle.c_objects.proofs.Starting.{start_is_kept, start_placed}
+use Rattle.c_layout.specs.WellTyped.{IsAutomaticObject, listed_by, listed}
+use Rattle.c_objects.proofs.Starting.{start_is_kept, start_keeps_objects, start_placed}
 use Rattle.c_lifetimes.proofs.Listed.{by_sum, contains_flat}
 use Rattle.c_lifetimes.proofs.Starts.{start_only}
 use Rattle.c_steps.specs.Work.{Enter, GivesZero, Finish}
@@ -101,7 +93,8 @@ module _ (p : TProgramTree) (plan : Plan) (runs : Runs p plan) where
         stacked = bottom;
         parted = (main_uses, tt, ((λ u o. absurd o), tt, tt));
         live = ((λ y o. start_placed p runs.typed runs.bits y (by_sum o (λ s. s) (λ c. absurd c))), (λ y h. inl (start_only p.objects p.initial y h)));
-        kept = start_is_kept p runs.typed runs.bits runs.whole;
+        kept = start_keeps_objects p runs.typed runs.bits;
+        whole = λ b. (start_is_kept p runs.typed runs.bits b).whole;
       }
 
 pub runs_fit : RunsFit

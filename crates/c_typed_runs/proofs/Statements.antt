@@ -18,7 +18,6 @@ use Rattle.block_mem.specs.declared.types.Value.{Value}
 use Rattle.c_values.specs.declared.values.Given.TheVariants as givens
 use Rattle.c_values.specs.Values.{scalar_of, bit}
 use Rattle.c_values.specs.Places.{ObjectMemory, place_of}
-use Rattle.c_objects.specs.Kept.{IsKept}
 use Rattle.c_objects.specs.Opening.{open_all}
 use Rattle.c_objects.specs.Writing.{rest}
 use Rattle.c_lifetimes.proofs.Listed.{by_sum}
@@ -42,6 +41,7 @@ use Rattle.c_typed_runs.proofs.Rules.{On, fit, as_top, stacked_more}
 use Rattle.c_typed_runs.proofs.Scope.{scoped}
 use Rattle.c_typed_runs.proofs.Values.{Has}
 use Rattle.c_typed_runs.proofs.Work.{takes_does, live_does, parted_does, typed_behind, opens_behind, apart_behind}
+use Rattle.c_typed_runs.proofs.Kept.{KeepsIn}
 
 pub none_typed : (c : Around) → TypedItems c none
 unfolding IsTypedStmt GotosStay
@@ -60,7 +60,7 @@ module _ (p : TProgramTree) where
   pub block_after : (z : Bool) (xs : List ℕ) (all part : TStmtTrees) (r : CTypeTree) (w : List Item) (ts : List Want) → ends_switch w ≡ z
       → TypedItems (in_items z xs all (around p r w)) part → TypedItems (in_items z xs all (around p r w)) all → IsBehind w → Takes p r w ts → (s : List Held)
       (m : ObjectMemory) (i : List ℤ) → Stacked (length m.blocks) ts s → ((u : Use) → OpensItems (OpensCall p) part u → OpensItems (OpensCall p) all u)
-      → ApartItems (OpensCall p) part → EndsReady p xs all w → ApartBlock (OpensCall p) xs all → Parted (OpensCall p) p w → AreLive p w m → IsKept p.objects m
+      → ApartItems (OpensCall p) part → EndsReady p xs all w → ApartBlock (OpensCall p) xs all → Parted (OpensCall p) p w → AreLive p w m → KeepsIn p m
       → On p (goes (does part (Close xs all ∷ w)) s (open_all p.objects m xs) i)
   block_after z xs all part r w ts e tp ta v k s m i d op ap' f g q l h =
       let typed_part = subst (λ b. TypedItems (in_items b xs all (around p r w)) part) (sym e) tp in
@@ -75,7 +75,7 @@ module _ (p : TProgramTree) where
 
   pub begin_row : (n : ℕ) (loop : Loop) (c : Option TExprTree) → loop.condition ≡ c → (r : CTypeTree) (w : List Item) (ts : List Want) → TypedLoop (around p r w) loop
       → IsLevel w → Takes p r w ts → (s : List Held) (m : ObjectMemory) (i : List ℤ) → Stacked (length m.blocks) ts s
-      → ((u : Use) → OpensLoop (OpensCall p) loop u → IsReady p w u) → Apart (OpensCall p) loop.body → Parted (OpensCall p) p w → AreLive p w m → IsKept p.objects m
+      → ((u : Use) → OpensLoop (OpensCall p) loop u → IsReady p w u) → Apart (OpensCall p) loop.body → Parted (OpensCall p) p w → AreLive p w m → KeepsIn p m
       → On p (begin_step n loop c w s m i)
   begin_row n loop None e r w ts t v k s m i d f g q l h =
       fit p r _ _ m i _ (turn (ap (λ (x : Option TExprTree). scalar_of (unwrap_or (option_map texpr_type x) (Int ints.Int))) e) t v k) (on_top (is_value {v = bit true} (bit_typed true) tt) d) (f, g, q) l h
@@ -88,7 +88,7 @@ module _ (p : TProgramTree) where
 
   pub turn_row : (n : ℕ) (loop : Loop) (ty : Scalar) (x : Value) (r : CTypeTree) (w : List Item) (ts : List Want) → condition_scalar loop ≡ Some ty → TypedLoop (around p r w) loop
       → IsLevel w → Takes p r w ts → (s : List Held) (m : ObjectMemory) (i : List ℤ) → Has (length m.blocks) ty x → Stacked (length m.blocks) ts s
-      → ((u : Use) → OpensLoop (OpensCall p) loop u → IsReady p w u) → Apart (OpensCall p) loop.body → Parted (OpensCall p) p w → AreLive p w m → IsKept p.objects m
+      → ((u : Use) → OpensLoop (OpensCall p) loop u → IsReady p w u) → Apart (OpensCall p) loop.body → Parted (OpensCall p) p w → AreLive p w m → KeepsIn p m
       → On p (item_step p (Turn n loop) w (held x ∷ s) m i)
   turn_row n loop ty x r w ts e t v k s m i hx d f g q l h =
       rw e (test_after p loop.pos ty x m (goes (Do loop.body ∷ Again (suc n) loop ∷ w) s m i) (goes w s m i) hx
@@ -97,7 +97,7 @@ module _ (p : TProgramTree) where
 
   pub again_row : (n : ℕ) (loop : Loop) (c : Option TExprTree) → loop.step ≡ c → (r : CTypeTree) (w : List Item) (ts : List Want) → TypedLoop (around p r w) loop
       → IsLevel w → Takes p r w ts → (s : List Held) (m : ObjectMemory) (i : List ℤ) → Stacked (length m.blocks) ts s
-      → ((u : Use) → OpensLoop (OpensCall p) loop u → IsReady p w u) → Apart (OpensCall p) loop.body → Parted (OpensCall p) p w → AreLive p w m → IsKept p.objects m
+      → ((u : Use) → OpensLoop (OpensCall p) loop u → IsReady p w u) → Apart (OpensCall p) loop.body → Parted (OpensCall p) p w → AreLive p w m → KeepsIn p m
       → On p (again_step n loop c w s m i)
   again_row n loop None e r w ts t v k s m i d f g q l h = fit p r _ s m i _ (begin t v k) d (f, g, q) l h
   again_row n loop (Some c) e r w ts t v k s m i d f g q l h =
@@ -109,7 +109,7 @@ module _ (p : TProgramTree) where
 
   pub select_row : (mark : Option Mark) (xs : List ℕ) (items : TStmtTrees) (r : CTypeTree) (w : List Item) (ts : List Want)
       → TypedItems (in_items true xs items (around p r w)) items → IsLevel w → Takes p r w ts → (s : List Held) (m : ObjectMemory) (i : List ℤ)
-      → Stacked (length m.blocks) ts s → EndsReady p xs items w → ApartBlock (OpensCall p) xs items → Parted (OpensCall p) p w → AreLive p w m → IsKept p.objects m
+      → Stacked (length m.blocks) ts s → EndsReady p xs items w → ApartBlock (OpensCall p) xs items → Parted (OpensCall p) p w → AreLive p w m → KeepsIn p m
       → On p (select_step p.objects mark xs items w s m i)
   select_row None xs items r w ts t v k s m i d f g q l h = fit p r w s m i ts k d q l h
   select_row (Some mark) xs items r w ts t v k s m i d f g q l h =
@@ -157,7 +157,7 @@ module _ (p : TProgramTree) where
   for_row : (at : Pos) (xs : List ℕ) (head : TStmtTrees) (c e : Option TExprTree) (b : TStmtTree) (r : CTypeTree) (w : List Item) (ts : List Want)
       → TypedStmt (around p r w) (stmts.For at xs head c e b) → IsLevel w → Takes p r w ts → (s : List Held) (m : ObjectMemory) (i : List ℤ)
       → Stacked (length m.blocks) ts s → ((u : Use) → OpensStmt (OpensCall p) (stmts.For at xs head c e b) u → IsReady p w u)
-      → Apart (OpensCall p) (stmts.For at xs head c e b) → Parted (OpensCall p) p w → AreLive p w m → IsKept p.objects m
+      → Apart (OpensCall p) (stmts.For at xs head c e b) → Parted (OpensCall p) p w → AreLive p w m → KeepsIn p m
       → On p (do_step p.objects (stmts.For at xs head c e b) w s m i)
   unfolding IsTypedStmt GotosStay
   for_row at xs head c e b r w ts ((hh, th, tc, te, bb, tb), gb) v k s m i d f ((distinct, miss), ah, ab) q l h =
@@ -185,7 +185,7 @@ module _ (p : TProgramTree) where
 
   return_after : (value : Option TExprTree) (r : CTypeTree) (w : List Item) (ts : List Want) → ReturnRow (around p r w).standing.scope (around p r w).standing.result value
       → IsLevel w → Takes p r w ts → (s : List Held) (m : ObjectMemory) (i : List ℤ) → Stacked (length m.blocks) ts s
-      → ((u : Use) → OpensMaybe (OpensCall p) value u → IsReady p w u) → Parted (OpensCall p) p w → AreLive p w m → IsKept p.objects m → On p (return_step value w s m i)
+      → ((u : Use) → OpensMaybe (OpensCall p) value u → IsReady p w u) → Parted (OpensCall p) p w → AreLive p w m → KeepsIn p m → On p (return_step value w s m i)
   return_after None r w ts row v k s m i d f q l h =
       let is : r ≡ Void = sym (scoped k).result ∙ row in
       fit p r _ _ m i _ (leave v k) (on_top (subst (λ t. HasWant (length m.blocks) (want_of t) (Plain givens.Nothing)) (sym is) is_any) d) ((λ u o. absurd o), tt, q) l h
@@ -195,7 +195,7 @@ module _ (p : TProgramTree) where
 
   pub do_row : AreFillable p → (b : TStmtTree) (r : CTypeTree) (w : List Item) (ts : List Want) → TypedStmt (around p r w) b → IsLevel w → Takes p r w ts → (s : List Held)
       (m : ObjectMemory) (i : List ℤ) → Stacked (length m.blocks) ts s → ((u : Use) → OpensStmt (OpensCall p) b u → IsReady p w u) → Apart (OpensCall p) b
-      → Parted (OpensCall p) p w → AreLive p w m → IsKept p.objects m → On p (do_step p.objects b w s m i)
+      → Parted (OpensCall p) p w → AreLive p w m → KeepsIn p m → On p (do_step p.objects b w s m i)
   unfolding IsTypedStmt GotosStay
   do_row ok (stmts.Empty at) r w ts t v k s m i d f g q l h = fit p r w s m i ts k d q l h
   do_row ok (stmts.Expr at e) r w ts (t, x) v k s m i d f g q l h = fit p r _ s m i _ (eval false t (drop k)) d (f, tt, ((λ u o. absurd o), tt, q)) l h

@@ -19,7 +19,6 @@ use Rattle.c_values.specs.declared.values.Given.TheVariants as givens
 use Rattle.c_values.specs.Operators.{one}
 use Rattle.c_values.specs.Values.{bit}
 use Rattle.c_values.specs.Places.{ObjectMemory}
-use Rattle.c_objects.specs.Kept.{IsKept}
 use Rattle.c_objects.specs.Opening.{shut_all}
 use Rattle.c_steps.specs.Work.{Item, Eval, Truth, Do}
 use Rattle.c_steps.specs.States.{Held, Plain, Struct as Bytes, State, Next, Goes, Ended, Waiting, Stopped, Wrong, Stands, goes, held}
@@ -44,6 +43,8 @@ use Rattle.c_typed_runs.proofs.Rules.{On, fit, as_top}
 use Rattle.c_typed_runs.proofs.Scope.{scoped, lives_here, addr_row}
 use Rattle.c_typed_runs.proofs.Statements.{begin_row, turn_row, again_row, select_row, do_row}
 use Rattle.c_typed_runs.proofs.Values.{Has}
+use Rattle.c_objects.proofs.Keeping.{keeps_where}
+use Rattle.c_typed_runs.proofs.Kept.{KeepsIn}
 
 -- what the rows need of a program
 pub record IsRunnable (p : TProgramTree) : Type 0 where
@@ -64,7 +65,7 @@ wanted_is scope e s typed is = want_is (given_type e) s (ap scalar_of (given.wan
 
 module _ (p : TProgramTree) (ok : IsRunnable p) where
   row : {r : CTypeTree} {w : List Item} {ts : List Want} → Takes p r w ts → (s : List Held) (m : ObjectMemory) (i : List ℤ) → Stacked (length m.blocks) ts s
-      → Parted (OpensCall p) p w → AreLive p w m → IsKept p.objects m → On p (work_step p w s m i)
+      → Parted (OpensCall p) p w → AreLive p w m → KeepsIn p m → On p (work_step p w s m i)
   row (eval {r = r} {e = e} {w = w} wanted t k) s m i d (f, g, q) l h =
       eval_row p ok.sized (call_row p ok.callable) e wanted r w _ (scoped k).program t k s m i d f q l h
   row (addr {r = r} {place = x} {w = w} t k) s m i d (f, g, q) l h = addr_row p x r w _ t k s m i d f q l h
@@ -143,7 +144,7 @@ module _ (p : TProgramTree) (ok : IsRunnable p) where
   row finish s m i (on_top (is_value {v = values.Null} hx mx) d) q l h = absurd hx
 
   pub step_keeps : (s : State) → Fits p s → On p (step p s)
-  step_keeps s h = row h.takes s.stack s.memory s.inputs h.stacked h.parted h.live h.kept
+  step_keeps s h = row h.takes s.stack s.memory s.inputs h.stacked h.parted h.live (keeps_where _ p.objects s.memory h.kept h.whole)
 
   next_fits : (s : State) (next : Next) → Fits p s → On p next → Fits p (moved_to s next)
   next_fits s (Goes t) h e = e

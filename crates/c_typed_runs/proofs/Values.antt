@@ -64,7 +64,7 @@ module _ (Good : State → Type 0) where
 
 -- ---- operators
 
-both_taken : {op : TBinaryOp} {a b : Scalar} → Operates op a b → (v u : Value) → IsOf a v → IsOf b u → TakesBoth op v u
+pub both_taken : {op : TBinaryOp} {a b : Scalar} → Operates op a b → (v u : Value) → IsOf a v → IsOf b u → TakesBoth op v u
 both_taken arithmetic v u hv hu = (hv, hu)
 both_taken shift v (values.Int t z) hv hu = (hv, subst (λ x. HasNumber x z) (sym hu.0) hu.1)
 both_taken shift v (values.Ptr p) hv hu = absurd hu

@@ -6,7 +6,8 @@ use Rattle.c_syntax.specs.Program.{TProgramTree}
 use Rattle.c_layout.specs.WellTyped.{IsStaticObject, IsWellTyped}
 use Rattle.c_layout.specs.Plans.{HasBody, IsPlanFor}
 use Rattle.c_values.specs.Places.{ObjectMemory, place_of}
-use Rattle.c_objects.specs.Kept.{IsKept}
+use Rattle.block_mem.specs.Whole.{AreWhole}
+use Rattle.c_objects.specs.Kept.{KeepsObjects}
 use Rattle.c_objects.specs.Statics.{AreEightBits, AreWholeInitials}
 use Rattle.c_steps.specs.Work.{Item, Close}
 use Rattle.c_steps.specs.States.{State, Stands}
@@ -45,7 +46,7 @@ Parted of p [] = Unit {0}
 Parted of p (item ∷ work) = ((u : Use) → OpensItem of item u → IsReady p work u) × ApartItem of item × Parted of p work
 
 -- The work takes values of the types that the stack has; what it brings to life does not live yet; what it will end, and what is static, lives; and memory
--- keeps what it always keeps
+-- keeps what it always keeps, with pointers that are whole where those of the initial values are
 pub record Fits (p : TProgramTree) (s : State) : Type 0 where
   pub result : CTypeTree
   pub wants : List Want
@@ -53,14 +54,14 @@ pub record Fits (p : TProgramTree) (s : State) : Type 0 where
   pub stacked : Stacked (length s.memory.blocks) wants s.stack
   pub parted : Parted (OpensCall p) p s.work
   pub live : AreLive p s.work s.memory
-  pub kept : IsKept p.objects s.memory
+  pub kept : KeepsObjects p.objects s.memory
+  pub whole : AreWholeInitials p.initial → AreWhole s.memory.blocks
 
--- a program that runs: it is well typed, and has a plan; its initial bytes have eight bits, and their pointers are whole
+-- a program that runs: it is well typed, and has a plan; its initial bytes have eight bits
 pub record Runs (p : TProgramTree) (plan : Plan) : Type 0 where
   pub typed : IsWellTyped p
   pub planned : IsPlanFor p plan
   pub bits : AreEightBits p.initial
-  pub whole : AreWholeInitials p.initial
 
 -- no run of such a program stands: each of its states fits, and has a step, an end, or something wrong
 abbrev pub RunsNeverStand : Type 0

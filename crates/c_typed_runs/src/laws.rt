@@ -3,8 +3,8 @@
 
 ghost use Rattle.c_typed_runs.specs.Fits.{RunsFit, RunsNeverStand};
 
-/// Each state of a run of a well typed program with its plan keeps what such states keep. Its initial bytes have
-/// eight bits, as each byte in the code has, and their pointers are whole.
+/// Each state of a run of a well typed program with its plan keeps what such states keep, and its pointers are
+/// whole where those of the initial values are. The initial bytes have eight bits, as each byte in the code has.
 pub fn states_of_typed_runs_fit()
     ensures { RunsFit }
 {}

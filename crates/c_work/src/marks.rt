@@ -1,7 +1,7 @@
 // Labels, cases and defaults among the items of a block.
 #![tactic(auto, using(c_shared::proofs::SharedTrees::the_shared_trees, crate::proofs::Lists::the_lists))]
 
-ghost use Rattle.std.specs.Prelude.{◌≡◌, ◌+◌, true, false, drop, MatchOption, OnOk};
+ghost use Rattle.std.specs.Prelude.{◌≡◌, ◌+◌, ◌<◌, length, true, false, drop, MatchOption, OnOk};
 ghost use Rattle.c_shared.specs.Statements.{stmt_tree, stmts_from};
 ghost use Rattle.c_steps.specs.Marks.{behind, does, does_nothing as is_nothing, has, is_mark as is_marked};
 ghost use Rattle.c_work.specs.Marks.{mark_of};
@@ -25,7 +25,7 @@ impl Mark {
     /// Where the mark stands first among the items, if it does.
     pub fn find(self, items: &[Rc<SharedStmt>]) -> Option<usize>
         ensures { MatchOption result (has (mark_of self) (stmts_from items.now) ≡ false)
-            (λ k. (has (mark_of self) (stmts_from items.now) ≡ true) × (stmts_from (drop (k + 1) items.now) ≡ behind (mark_of self) (stmts_from items.now))) }
+            (λ k. (k < length items.now) × (has (mark_of self) (stmts_from items.now) ≡ true) × (stmts_from (drop (k + 1) items.now) ≡ behind (mark_of self) (stmts_from items.now))) }
     {
         let mut k = 0;
         while k < items.len() {

@@ -12,7 +12,7 @@ pub struct Work {
 
 impl Work {
     ghost use Rattle.std.specs.Prelude.{◌≡◌, [], ◌∷◌, OnOk, MatchOption};
-    ghost use Rattle.c_work.specs.Views.{item_of};
+    ghost use Rattle.c_work.specs.Views.{in_front, item_of};
     ghost use Rattle.c_work.specs.Works.{work_of};
 
     /// No work.
@@ -22,6 +22,13 @@ impl Work {
         Work {
             items: Vec::new(alloc),
         }
+    }
+
+    /// The items, of which the last one is the next.
+    pub fn as_slice(&self) -> &[Item]
+        ensures { in_front result.now [] ≡ work_of self.now }
+    {
+        self.items.as_slice()
     }
 
     /// One item in front.

@@ -11,6 +11,7 @@ returns-then-is c =
     let mark = mark_of c.args.self in
     let this : is_mark mark (stmt_tree c.index-items-k.result.value) ≡ true =
     ap (λ (s : SharedStmt). is_mark mark (stmt_tree s)) (sym c.deref.ensures) ∙ sym c.is.ensures ∙ c.if-is.true in (
+      omega arith,
       c.loop-k.invariant.1 ∙ found mark c.args.items.now c.loop-k.k c.index-items-k.result (omega arith) c.index-items-k.is this,
       sym (c.loop-k.invariant.2 ∙ found_behind mark c.args.items.now c.loop-k.k c.index-items-k.result (omega arith) c.index-items-k.is this),
     )
