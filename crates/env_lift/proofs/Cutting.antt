@@ -11,7 +11,8 @@ use Rattle.num_api.specs.declared.message.Range.{Range}
 use Rattle.num_api.specs.declared.expr.NOp.{NOp}
 use Rattle.num_api.specs.declared.expr.NOp.TheVariants.{Not, Eq, Ne, Lt, Le}
 use Rattle.num_api.specs.Exprs.{NExprTree, Const, Read, Unary, Binary}
-use Rattle.num_api.specs.Ranges.{NoWider, IsUnder}
+use Rattle.num_api.specs.Ranges.{NoWider, IsUnder, common}
+use Rattle.num_api.proofs.Narrowing.{in_common}
 use Rattle.num_api.specs.Spans.{Span, FitsSpan, range_of}
 use Rattle.num_api.specs.Value.{value_of, unary_value, binary_value, truth, has_truth}
 use Rattle.num_api.specs.Plain.{Standing, less, at_most, greater, at_least, same, other, standing, turned, cut, cut_side, cut_sides, tested, plain, IsPlain}
@@ -38,11 +39,12 @@ negated a wanted v h =
 
 side_under : (known given : ℕ → Range) (e : NExprTree) (how : Standing) (s t : Span) → IsUnder known given → ((x : ℕ) → e ≡ Read x → NoWider (known x) (range_of (cut how s t))) → IsUnder known (cut_side given e how (Some s) (Some t))
 side_under known given (Const n) how s t u h = u
-side_under known given (Read x) how s t u h = λ y. ⊎_elim
+side_under known given (Read x) how s t u h =
+    let left = common (given x) (range_of (cut how s t)) in λ y. ⊎_elim
     (λ (q : y ≡ x).
-    subst (NoWider (known y)) (sym (cond-true (nat_eq y x) (range_of (cut how s t)) (given y) (eq-eqb y x q)))
-    (subst (λ (z : ℕ). NoWider (known z) (range_of (cut how s t))) (sym q) (h x refl)))
-    (λ (q : y ≡ x → ⊥). subst (NoWider (known y)) (sym (cond-false (nat_eq y x) (range_of (cut how s t)) (given y) (ne_eqb y x q))) (u y))
+    subst (NoWider (known y)) (sym (cond-true (nat_eq y x) left (given y) (eq-eqb y x q)))
+    (subst (λ (z : ℕ). NoWider (known z) left) (sym q) (in_common (known x) (given x) (range_of (cut how s t)) (u x) (h x refl))))
+    (λ (q : y ≡ x → ⊥). subst (NoWider (known y)) (sym (cond-false (nat_eq y x) left (given y) (ne_eqb y x q))) (u y))
     (cases_eq y x)
 side_under known given (Unary op a) how s t u h = u
 side_under known given (Binary op a b) how s t u h = u

@@ -12,7 +12,8 @@ use Rattle.num_api.specs.declared.message.Range.{Range}
 use Rattle.num_api.specs.declared.expr.NOp.{NOp}
 use Rattle.num_api.specs.declared.expr.NOp.TheVariants.{Not, Eq, Ne, Lt, Le}
 use Rattle.num_api.specs.Exprs.{NExprTree}
-use Rattle.num_api.specs.Ranges.{InRange, NoWider, IsUnder, with_range}
+use Rattle.num_api.specs.Ranges.{InRange, NoWider, IsUnder, with_range, common}
+use Rattle.num_api.proofs.Narrowing.{in_common}
 use Rattle.num_api.specs.Spans.{Span, range_of}
 use Rattle.num_api.specs.Value.{value_of, unary_value, binary_value, truth, has_truth}
 use Rattle.num_api.specs.Plain.{Standing, standing, turned, cut}
@@ -99,7 +100,8 @@ under_here known given x r u = subst (NoWider (known x)) (cond-true (nat_eq x x)
 side_under : (known given : ℕ → Range) (o : Option ℕ) (how : Standing) (s t : Span) → IsUnder known given
     → ((x : ℕ) → o ≡ Some x → NoWider (known x) (range_of (cut how s t))) → IsUnder known (cut_side given o how s t)
 side_under known given None how s t u h = u
-side_under known given (Some x) how s t u h = with_under known given x (range_of (cut how s t)) (λ y q. u y) (h x refl)
+side_under known given (Some x) how s t u h = with_under known given x (common (given x) (range_of (cut how s t))) (λ y q. u y)
+    (in_common (known x) (given x) (range_of (cut how s t)) (u x) (h x refl))
 
 pub sides_under : (known given : ℕ → Range) (a b : Option ℕ) (how : Standing) (s t : Span) → IsUnder known given
     → ((x : ℕ) → a ≡ Some x → NoWider (known x) (range_of (cut how s t))) → ((x : ℕ) → b ≡ Some x → NoWider (known x) (range_of (cut (turned how) t s)))

@@ -8,7 +8,7 @@ use Rattle.c_written.specs.Integer.{least, greatest}
 use Rattle.num_api.specs.declared.message.Range.{Range}
 use Rattle.num_api.specs.declared.expr.NOp.{NOp}
 use Rattle.num_api.specs.declared.expr.NOp.TheVariants.{Not, Shr, And, Or, Xor}
-use Rattle.num_api.specs.Ranges.{with_range}
+use Rattle.num_api.specs.Ranges.{with_range, common}
 use Rattle.num_api.specs.Spans.{Span, span, point, range_of, span_between, unary_span, binary_span}
 use Rattle.num_api.specs.Plain.{Standing, standing, turned, cut}
 use Rattle.machine_nums.specs.MExprs.{MExprTree, Const, Read, Convert, Unary, Binary, type_of}
@@ -81,12 +81,13 @@ exact_variable given (Binary op t a b) = None
 abbrev pub side_variable : (ℕ → Range) → MExprTree → Option ℕ
 side_variable given e = if_fits (type_of e) (exact_span given e) (exact_variable given e)
 
--- the ranges where a side that is a variable is cut by the other side's span
+-- the ranges where a side that is a variable keeps of its numbers what the other side's span leaves
 abbrev pub cut_side : (ℕ → Range) → Option ℕ → Standing → Span → Span → ℕ → Range
 cut_side given None how s t = given
-cut_side given (Some x) how s t = with_range given x (range_of (cut how s t))
+cut_side given (Some x) how s t = with_range given x (common (given x) (range_of (cut how s t)))
 
--- the ranges behind a comparison: each side that is a variable is cut by the other, as that was before
+-- the ranges behind a comparison: each side that is a variable is cut by the other, as that was before; where both are one variable, it has
+-- what both cuts leave
 abbrev pub cut_sides : (ℕ → Range) → Option ℕ → Option ℕ → Option Standing → Span → Span → ℕ → Range
 cut_sides given a b None s t = given
 cut_sides given a b (Some how) s t = cut_side (cut_side given a how s t) b (turned how) t s

@@ -5,7 +5,7 @@ ghost use Rattle.std.specs.Prelude.{◌≡◌, ◌≢◌, ℕ, ℤ, List, ◌≤
 ghost use Rattle.std.specs.Int.RustNames.{FitsSigned};
 ghost use mir.Syntax.{w128};
 ghost use Rattle.num_api.specs.Told.{Keeps};
-ghost use Rattle.num_api.specs.Ranges.{InRange, IsPoint, NoWider, with_range, all_numbers, hull};
+ghost use Rattle.num_api.specs.Ranges.{InRange, IsPoint, NoWider, with_range, all_numbers, holds_some, hull};
 ghost use Rattle.num_api.specs.Residues.{InResidue, IsResidue, IsFoldResidue};
 ghost use Rattle.num_api.specs.Fold.{IsAlignment};
 ghost use Rattle.num_api.specs.Spans.{Span, FitsSpan, range_of};
@@ -121,6 +121,8 @@ impl<D: NumDomain> Machine<D> {
             → IsSharp (D.known (state_of self.old)) v y → IsSharp (D.known (state_of self.new)) v y) }
         ensures plain_dead { IfOk result (λ live. (given : ℕ → Range) → IsTrue D.exact → LiesUnder D.known self.old given
             → IsTrue (excludes truth (value_span given (mexpr_tree e.now))) → is_live live ≡ false) }
+        ensures plain_none { IfOk result (λ live. (given : ℕ → Range) (x : ℕ) → IsTrue D.exact → LiesUnder D.known self.old given
+            → holds_some (tested given (mexpr_tree e.now) truth x) ≡ false → is_live live ≡ false) }
         ensures plain_live { OnOk result ((given : ℕ → Range) → IsTrue D.exact → LiesUnder D.known self.old given
             → LiesUnder D.known self.new (tested given (mexpr_tree e.now) truth)) }
         ensures own { IfOk result (λ live. is_void self.old ≡ false → OwnAnswers (D.may_range (state_of self.old)) (mexpr_tree e.now)

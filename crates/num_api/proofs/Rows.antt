@@ -6,6 +6,7 @@ use Rattle.num_api.specs.Exprs.{Const, Read, Unary, Binary}
 use Rattle.num_api.specs.Value.{binary_value}
 use Rattle.num_api.specs.Spans.{span, point, range_of, unary_span, binary_span}
 use Rattle.num_api.specs.Plain.{plain, tested, excludes}
+use Rattle.num_api.specs.Ranges.{holds_some}
 
 -- ---- operators
 
@@ -142,6 +143,22 @@ cut_at_end = refl
 
 no_cut_inside : tested given (Binary Ne (Read 0) (Const (pos 4))) true 0 ≡ range_of (span (pos 0) (pos 9))
 no_cut_inside = refl
+
+-- x < x, x <= x, x == x and x != x: both cuts hold
+cut_from_both_ends : tested given (Binary Lt (Read 0) (Read 0)) true 0 ≡ range_of (span (pos 1) (pos 8))
+cut_from_both_ends = refl
+
+cut_at_neither_end : tested given (Binary Le (Read 0) (Read 0)) true 0 ≡ range_of (span (pos 0) (pos 9))
+cut_at_neither_end = refl
+
+cut_of_itself : tested given (Binary Eq (Read 0) (Read 0)) true 0 ≡ range_of (span (pos 0) (pos 9))
+cut_of_itself = refl
+
+cut_of_another : tested given (Binary Ne (Read 0) (Read 0)) true 0 ≡ range_of (span (pos 0) (pos 9))
+cut_of_another = refl
+
+nothing_is_left : holds_some (tested (λ x. range_of (span (pos 0) (pos 1))) (Binary Lt (Read 0) (Read 0)) true 0) ≡ false
+nothing_is_left = refl
 
 -- a variable alone is a test that cuts nothing
 no_cut_of_variable : tested given (Read 0) true 0 ≡ range_of (span (pos 0) (pos 9))

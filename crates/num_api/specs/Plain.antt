@@ -6,7 +6,7 @@ use Rattle.num_api.specs.declared.message.Range.{Range}
 use Rattle.num_api.specs.declared.expr.NOp.{NOp}
 use Rattle.num_api.specs.declared.expr.NOp.TheVariants.{Not, Quot, Eq, Ne, Lt, Le}
 use Rattle.num_api.specs.Exprs.{NExprTree, Const, Read, Unary, Binary}
-use Rattle.num_api.specs.Ranges.{with_range, IsPoint}
+use Rattle.num_api.specs.Ranges.{with_range, common, IsPoint}
 use Rattle.num_api.specs.Spans.{Span, span, point, range_of, span_between, FitsSpan, may_equal, may_differ, unary_span, binary_span}
 use Rattle.num_api.specs.Value.{of_one, of_two}
 
@@ -87,12 +87,13 @@ cut at_least s t = span (int_max s.lo t.lo) s.hi
 cut same s t = span (int_max s.lo t.lo) (int_min s.hi t.hi)
 cut other s t = if int_eq t.lo t.hi then without t.lo s else s
 
--- the ranges where a side that is a variable is cut by the other side's span
+-- the ranges where a side that is a variable keeps of its numbers what the other side's span leaves
 abbrev pub cut_side : (ℕ → Range) → NExprTree → Standing → Option Span → Option Span → ℕ → Range
-cut_side given (Read x) how (Some s) (Some t) = with_range given x (range_of (cut how s t))
+cut_side given (Read x) how (Some s) (Some t) = with_range given x (common (given x) (range_of (cut how s t)))
 cut_side given e how s t = given
 
--- the ranges behind a comparison: each side that is a variable is cut by the other, as that was before
+-- the ranges behind a comparison: each side that is a variable is cut by the other, as that was before; where both are one variable, it has
+-- what both cuts leave
 abbrev pub cut_sides : (ℕ → Range) → NExprTree → NExprTree → Option Standing → Option Span → Option Span → ℕ → Range
 cut_sides given a b None s t = given
 cut_sides given a b (Some how) s t = cut_side (cut_side given a how s t) b (turned how) t s

@@ -31,6 +31,10 @@ all_numbers = record { lo = Low; hi = High }
 abbrev pub hull : Range → Range → Range
 hull r s = record { lo = lesser r.lo s.lo; hi = greater r.hi s.hi }
 
+-- the numbers of both
+abbrev pub common : Range → Range → Range
+common r s = record { lo = greater r.lo s.lo; hi = lesser r.hi s.hi }
+
 -- ---- a range for each variable
 
 -- the given ranges, with another one for x

@@ -159,6 +159,9 @@ pub trait NumDomain: Oracle + Sized + Drop {
         ensures plain_dead { IfOk result
             (λ live. (given : ℕ → Range) (s : Span) → IsTrue Self.exact → IsUnder (Self.known self.old) given → IsPlain given (nexpr_tree e.now)
             → plain given (nexpr_tree e.now) ≡ Some s → IsTrue (excludes truth s) → is_live live ≡ false) }
+        ensures plain_none { IfOk result
+            (λ live. (given : ℕ → Range) (x : ℕ) → IsTrue Self.exact → IsUnder (Self.known self.old) given → IsPlain given (nexpr_tree e.now)
+            → holds_some (tested given (nexpr_tree e.now) truth x) ≡ false → is_live live ≡ false) }
         ensures plain_live { IfOk result
             (λ live. (given : ℕ → Range) → IsTrue Self.exact → IsUnder (Self.known self.old) given → IsPlain given (nexpr_tree e.now)
             → IsTrue (is_live live) → IsUnder (Self.known self.new) (tested given (nexpr_tree e.now) truth)) }

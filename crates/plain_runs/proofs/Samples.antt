@@ -16,6 +16,7 @@ values = record {
   remainder = refl;
   remainder_of_few = refl;
   minus = refl;
+  plus = refl;
   unsigned_sum = refl;
   unsigned_sum_wraps = refl;
   unsigned_difference_wraps = refl;
@@ -101,6 +102,14 @@ tests = record {
   both_at_least = refl;
   both_unequal = refl;
   negated_twice = refl;
+  below_itself = refl;
+  below_itself_never = refl;
+  not_below_itself = refl;
+  at_most_itself = refl;
+  above_itself = refl;
+  other_than_itself = refl;
+  point_other_than_itself = refl;
+  converted_below_itself = refl;
   truth_cuts_nothing = refl;
 }
 
@@ -157,6 +166,8 @@ runs = record {
   assumption_cuts = refl;
   assertion_is_a_suspect = refl;
   value_of_branches = refl;
+  object_is_not_below_itself = refl;
+  nothing_is_left_of_an_object = refl;
   value_of_one_branch = refl;
 }
 

@@ -1,6 +1,7 @@
 -- What statements do to a plain state; none where the plain run is not defined (this profile).
-use Rattle.std.specs.Prelude.{ℕ, ◌==◌, Bool, true, false, not, if◌then◌else◌, List, [], ◌∷◌, Option, Some, None, option_map, option_and_then, slice_get}
+use Rattle.std.specs.Prelude.{ℕ, ◌==◌, Bool, true, false, not, ◌&&◌, if◌then◌else◌, List, [], ◌∷◌, Option, Some, None, option_map, option_and_then, slice_get}
 use Rattle.std.specs.Int.{int_min, int_max}
+use Rattle.std.specs.Int.RustNames.{int_le}
 use Rattle.c_written.specs.declared.int_type.IntType.{IntType}
 use Rattle.c_syntax.specs.Types.{ObjectTree, CTypeTree, Int}
 use Rattle.block_mem.specs.declared.types.Scalar.{Scalar}
@@ -158,11 +159,32 @@ with_cuts p temps ds = record p { temps = temps; objects = λ x. cut_by_copies p
 abbrev temps_behind : Plain → (ℕ → Range) → ℕ → Span
 temps_behind p ranges d = between (ranges d).lo (ranges d).hi (p.temps d)
 
--- the state behind a test that has this truth; a test leads nowhere where its interval excludes the truth
+-- some number is in the interval
+abbrev pub has_numbers : Span → Bool
+has_numbers s = int_le s.lo s.hi
+
+abbrev has_values : Option Cell → Bool
+has_values None = true
+has_values (Some cell) = has_numbers cell.numbers
+
+abbrev source_in : Plain → Option ℕ → Option Cell
+source_in p None = None
+source_in p (Some x) = p.objects x
+
+-- numbers are left of each of these temporaries, and of each object of which one is a copy
+abbrev are_left : Plain → List ℕ → Bool
+are_left p [] = true
+are_left p (d ∷ ds) = has_numbers (p.temps d) && has_values (source_in p (p.copies d)) && are_left p ds
+
+abbrev if_left : List ℕ → Plain → Option Plain
+if_left ds p = if are_left p ds then Some p else None
+
+-- the state behind a test that has this truth; a test leads nowhere where its interval excludes the truth, or where its cuts leave nothing
+-- of a temporary or an object
 abbrev pub behind_test : Plain → Bool → MExprTree → Option Plain
 behind_test p truth m =
     if excludes truth (value_span (given p) m) then None
-    else Some (with_cuts p (temps_behind p (tested (given p) m truth)) (cut_temps (given p) m truth))
+    else if_left (cut_temps (given p) m truth) (with_cuts p (temps_behind p (tested (given p) m truth)) (cut_temps (given p) m truth))
 
 abbrev pub plain_test : List Scalar → Plain → CsExprTree → Bool → Option (Option Plain)
 plain_test types p e truth = option_map (behind_test p truth) (number_expr types e)

@@ -15,7 +15,7 @@ use Rattle.machine_nums.specs.Rule.{exact_span}
 use Rattle.csharp.specs.Trees.{CsExprTree, Temp, Address, Binary, CsCheckTree}
 use Rattle.plain_runs.specs.Numbers.{number_expr}
 use Rattle.plain_runs.specs.States.{Cell, Plain, given, span_of}
-use Rattle.plain_runs.specs.Changes.{cell_at, within}
+use Rattle.plain_runs.specs.Changes.{cell_at, within, has_numbers}
 
 -- ---- what is looked at
 
@@ -85,7 +85,7 @@ plain_suspect types p c = suspect_of types p c c.check.kind
 
 -- nothing goes on from an interval without numbers
 abbrev pub if_some : {A : Type 0} → Span → A → Option A
-if_some s a = if int_le s.lo s.hi then Some a else None
+if_some s a = if has_numbers s then Some a else None
 
 -- the allowed results
 abbrev pub allowed : Check → Span
@@ -113,7 +113,7 @@ with_operand p (Temp d) before after = Some (record p { temps = λ k. if k == d 
 with_operand p e before after = if int_eq before.lo after.lo && int_eq before.hi after.hi then Some (record p { passed = None }) else None
 
 abbrev if_reached : {A : Type 0} → Span → Option A → Option (Option A)
-if_reached s q = if int_le s.lo s.hi then option_map Some q else Some None
+if_reached s q = if has_numbers s then option_map Some q else Some None
 
 abbrev pub pass_operand : List Scalar → Plain → CsExprTree → (Span → Span) → Option (Option Plain)
 pass_operand types p e cut = option_and_then (λ s. if_reached (cut s) (with_operand p e s (cut s))) (span_of types p e)

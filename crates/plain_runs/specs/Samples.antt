@@ -68,6 +68,10 @@ than how a b = Binary (binaries.CompareInts how ints.Int) a b
 abbrev is : Comparison → CsExprTree
 is how = than how (Temp 0) (Temp 1)
 
+-- the first temporary on both sides
+abbrev itself : Comparison → CsExprTree
+itself how = than how (Temp 0) (Temp 0)
+
 -- ---- values
 
 pub record ValuesAre : Type 0 where
@@ -79,6 +83,7 @@ pub record ValuesAre : Type 0 where
   pub remainder : span_of types (ints_of (span (negsuc 4) (pos 100)) (to 1 8)) (op arithmetics.Remainder) ≡ Some (span (negsuc 4) (pos 7))
   pub remainder_of_few : span_of types (ints_of (to 2 3) (to 1 8)) (op arithmetics.Remainder) ≡ Some (to 0 3)
   pub minus : span_of types (ints_of (span (negsuc 2) (pos 5)) nil) (Unary (unaries.Minus ints.Int) (Temp 0)) ≡ Some (span (negsuc 4) (pos 3))
+  pub plus : span_of types (ints_of (span (negsuc 2) (pos 5)) nil) (Unary (unaries.Plus ints.Int) (Temp 0)) ≡ Some (span (negsuc 2) (pos 5))
   pub unsigned_sum : span_of types (unsigned (to 0 10) (point (pos 1))) (unsigned_op arithmetics.Add) ≡ Some (to 1 11)
   pub unsigned_sum_wraps : span_of types (unsigned (to 0 10) (to 0 4294967295)) (unsigned_op arithmetics.Add) ≡ Some (to 0 4294967295)
   pub unsigned_difference_wraps : span_of types (unsigned (to 0 10) (point (pos 1))) (unsigned_op arithmetics.Subtract) ≡ Some (to 0 4294967295)
@@ -179,6 +184,15 @@ pub record TestsAre : Type 0 where
   pub both_at_least : behind (ints_of (to 0 6) (to 5 8)) (is comparisons.AtLeast) true ≡ Some (numbers (to 5 6) (to 5 6))
   pub both_unequal : behind (ints_of (point (pos 5)) (to 5 8)) (is comparisons.Unequal) true ≡ Some (numbers (point (pos 5)) (to 6 8))
   pub negated_twice : behind (ints_of (to 0 20) nil) (Unary unaries.Not (Unary unaries.Not (than comparisons.Less (Temp 0) (number 10)))) true ≡ Some (numbers (to 0 9) nil)
+  pub below_itself : behind (ints_of (to 0 20) nil) (itself comparisons.Less) true ≡ Some (numbers (to 1 19) nil)
+  pub below_itself_never : behind (ints_of (to 0 1) nil) (itself comparisons.Less) true ≡ Some nothing
+  pub not_below_itself : behind (ints_of (to 0 1) nil) (itself comparisons.Less) false ≡ Some (numbers (to 0 1) nil)
+  pub at_most_itself : behind (ints_of (to 0 20) nil) (itself comparisons.AtMost) true ≡ Some (numbers (to 0 20) nil)
+  pub above_itself : behind (ints_of (to 0 20) nil) (itself comparisons.AtMost) false ≡ Some (numbers (to 1 19) nil)
+  pub other_than_itself : behind (ints_of (to 0 20) nil) (itself comparisons.Unequal) true ≡ Some (numbers (to 0 20) nil)
+  pub point_other_than_itself : behind (ints_of (point (pos 5)) nil) (itself comparisons.Unequal) true ≡ Some nothing
+  pub converted_below_itself : behind (ints_of (to 0 2) nil) (than comparisons.Less (Convert ints.Long (Temp 0)) (Convert ints.Long (Temp 0))) true
+      ≡ Some (numbers (point (pos 1)) nil)
   pub truth_cuts_nothing : behind (ints_of (to 0 5) nil) (Unary unaries.Not (Temp 0)) true ≡ Some (numbers (to 0 5) nil)
 
 -- ---- checks
@@ -371,6 +385,30 @@ interrupted = in_scope (steps (
 abbrev chosen : CsStmtTree
 chosen = If (Temp 0) (Set 1 (number 1)) (Set 1 (number 0))
 
+-- x = input ? 1 : 0; if (x < x) assert(0); return;
+abbrev against_itself : CsStmtTree
+against_itself = in_scope (steps (
+    Input 0 ints.Int
+    ∷ If (Temp 0) (store 0 (number 1)) (store 0 (number 0))
+    ∷ load 0 0
+    ∷ load 1 0
+    ∷ If (is comparisons.Less) (Checked (record (of_zero kinds.AssertFailed (number 0)) { pos = at 9 })) Nothing
+    ∷ Return None
+    ∷ []))
+
+-- x = input; x is above 2 in one copy, and below 2 in another; assert(0); return;
+abbrev cut_twice : CsStmtTree
+cut_twice = in_scope (steps (
+    Input 0 ints.Int
+    ∷ store 0 (Temp 0)
+    ∷ load 0 0
+    ∷ load 1 0
+    ∷ Assume (than comparisons.Greater (Temp 0) (number 2))
+    ∷ Assume (than comparisons.Less (Temp 1) (number 2))
+    ∷ Checked (record (of_zero kinds.AssertFailed (number 0)) { pos = at 9 })
+    ∷ Return None
+    ∷ []))
+
 -- how a run of main ends: not there; or with these numbers of the first two temporaries where it returns, and these suspects
 pub data End : Type 0 where
   none_there : End
@@ -400,6 +438,8 @@ pub record RunsAre : Type 0 where
   pub assertion_is_a_suspect : ends 0 (steps (Input 0 ints.Int ∷ Checked (record (of_zero kinds.AssertFailed (Temp 0)) { pos = at 9 }) ∷ Return None ∷ []))
       ≡ returned (Some (numbers all_ints nil)) (record { at = at 9; kind = kinds.AssertFailed } ∷ [])
   pub value_of_branches : ends 0 (steps (Input 0 ints.Int ∷ chosen ∷ Return None ∷ [])) ≡ returned (Some (numbers all_ints (to 0 1))) []
+  pub object_is_not_below_itself : ends 0 against_itself ≡ returned (Some (numbers (to 0 1) (to 0 1))) []
+  pub nothing_is_left_of_an_object : ends 0 cut_twice ≡ returned None []
   pub value_of_one_branch : ends 0 (steps (Set 0 (number 5) ∷ chosen ∷ Return None ∷ [])) ≡ returned (Some (numbers (point (pos 5)) (point (pos 1)))) []
 
 -- all of them

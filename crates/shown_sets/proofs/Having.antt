@@ -10,7 +10,7 @@ use Rattle.c_syntax.specs.Types.{ObjectTree}
 use Rattle.c_syntax.specs.Admission.{IsModerate as IsModerateEnd, IsProperRange, IsSpotIn}
 use Rattle.shown_sets.specs.Sets.{IsModerate, IsSpotBelow, HasAll, HasAlone}
 
-proper_range : (lo hi : Option ℤ) → IsModerateEnd lo → IsModerateEnd hi → IsProperRange lo hi (pos 1) (pos 0)
+pub proper_range : (lo hi : Option ℤ) → IsModerateEnd lo → IsModerateEnd hi → IsProperRange lo hi (pos 1) (pos 0)
 proper_range lo hi l h = record {
   lo_moderate = l;
   hi_moderate = h;

@@ -60,6 +60,20 @@ pub truth_small : (b : Bool) → IsSmall (truth b)
 truth_small true = (omega (arith, ints), omega (arith, ints))
 truth_small false = (omega (arith, ints), omega (arith, ints))
 
+-- ---- pointers
+
+module _ (q : CsProgramTree) (s : State) (owned : IsOwned (length q.objects) s.memory) where
+  by_life : (r : Range) (p : pointers.Pointer) (live : Bool) → (block_at s.memory.blocks p.block).live ≡ live → InRange r (pos 1)
+      → IsSpotOf q.objects r (if live then spots.At (owner_of s.memory p.block) p.offset else spots.Dead)
+  by_life r p true live j = (owner_there q.objects s.memory owned p.block live, j)
+  by_life r p false live j = j
+
+  pub spot_in : (r : Range) (v : Value) (t : Spot) → InRange r (number_of v) → spot s.memory v ≡ Some t → IsSpotOf q.objects r t
+  spot_in r (values.Int ty n) t j h = absurd (cc)
+  spot_in r (values.Ptr p) t j h = let same : spot_at s.memory p ≡ t = cc in
+      subst (IsSpotOf q.objects r) same (by_life r p (block_at s.memory.blocks p.block).live refl j)
+  spot_in r values.Null t j h = let same : spots.Null ≡ t = cc in subst (IsSpotOf q.objects r) same j
+
 -- ---- one expression
 
 the_operand : (P : Operand → Type 0) (x y : Operand) → Some x ≡ Some y → P x → P y
@@ -99,22 +113,11 @@ module _ (q : CsProgramTree) (s : State) (owned : IsOwned (length q.objects) s.m
   mark_in (Some ty) values.Null x h = absurd (cc)
   mark_in None v x h = absurd (cc)
 
-  by_life : (r : Range) (p : pointers.Pointer) (live : Bool) → (block_at s.memory.blocks p.block).live ≡ live → InRange r (pos 1)
-      → IsSpotOf q.objects r (if live then spots.At (owner_of s.memory p.block) p.offset else spots.Dead)
-  by_life r p true live j = (owner_there q.objects s.memory owned p.block live, j)
-  by_life r p false live j = j
-
-  spot_in : (r : Range) (v : Value) (t : Spot) → InRange r (number_of v) → spot s.memory v ≡ Some t → IsSpotOf q.objects r t
-  spot_in r (values.Int ty n) t j h = absurd (cc)
-  spot_in r (values.Ptr p) t j h = let same : spot_at s.memory p ≡ t = cc in
-      subst (IsSpotOf q.objects r) same (by_life r p (block_at s.memory.blocks p.block).live refl j)
-  spot_in r values.Null t j h = let same : spots.Null ≡ t = cc in subst (IsSpotOf q.objects r) same j
-
   point_in : (r : Range) (v : Value) (x : Operand) → InRange r (number_of v) → point s.memory v ≡ Some x → (t : Spot) × (x ≡ Point t) × IsSpotOf q.objects r t
   point_in r v x j h = found (spot s.memory v) refl h where
     found : (o : Option Spot) → spot s.memory v ≡ o → option_map Point o ≡ Some x → (t : Spot) × (x ≡ Point t) × IsSpotOf q.objects r t
     found None is h = absurd (cc)
-    found (Some t) is h = (t, (let same : Point t ≡ x = cc in sym same), spot_in r v t j is)
+    found (Some t) is h = (t, (let same : Point t ≡ x = cc in sym same), spot_in q s owned r v t j is)
 
   pointed_in : (x : Operand) → option_and_then (point s.memory) (value_of e s) ≡ Some x → (t : Spot) × (x ≡ Point t) × IsSpotOf q.objects value t
   pointed_in x h = let v = and_then_some (point s.memory) (value_of e s) x h in point_in value v.0 x (f.holds s v.0 i v.1) v.2

@@ -51,11 +51,11 @@ pub and_then_some : {A B : Type 0} (f : A → Option B) (o : Option A) (y : B) �
 and_then_some f None y e = absurd (cc)
 and_then_some f (Some x) y e = (x, refl, e)
 
-map_some : {A B : Type 0} (f : A → B) (o : Option A) (y : B) → option_map f o ≡ Some y → (x : A) × (o ≡ Some x) × (f x ≡ y)
+pub map_some : {A B : Type 0} (f : A → B) (o : Option A) (y : B) → option_map f o ≡ Some y → (x : A) × (o ≡ Some x) × (f x ≡ y)
 map_some f None y e = absurd (cc)
 map_some f (Some x) y e = (x, refl, (let same : f x ≡ y = cc in same))
 
-point_inside : (t : IntType) (n : ℤ) → HasNumber t n → LiesIn t (range_of (point n))
+pub point_inside : (t : IntType) (n : ℤ) → HasNumber t n → LiesIn t (range_of (point n))
 point_inside t n h = let i = has_inside t n h in record { low = i.low; high = i.high }
 
 -- ---- expressions without operands
@@ -111,7 +111,7 @@ abbrev some_value : Scalar → Value
 some_value (scalars.Int t) = values.Int t (pos 0)
 some_value scalars.Pointer = values.Null
 
-zero_has : (t : IntType) → HasNumber t (pos 0)
+pub zero_has : (t : IntType) → HasNumber t (pos 0)
 zero_has types.Char = omega (arith, ints)
 zero_has types.SChar = omega (arith, ints)
 zero_has types.UChar = (omega (arith, ints), omega (arith, ints))

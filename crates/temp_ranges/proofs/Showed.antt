@@ -1,33 +1,24 @@
 -- What is shown of ranges.
-use Rattle.std.proofs.Common.{◌≡◌, ◌≤ℤ◌, ℤ, pos, ◌<◌, inr, arith, refl, sym, subst, ap, List, Option, Some, None}
-use Rattle.std.specs.Prelude.{IfSome}
+use Rattle.std.proofs.Common.{◌≡◌, ◌≤ℤ◌, ℤ, pos, arith, sym, subst, ap, List, Option, Some}
+use Rattle.std.specs.Prelude.{IfSome, length}
 use Rattle.std.proofs.lemmas.Int.{ints}
-use Rattle.std.proofs.lemmas.List.Elements.{All-nil}
+use Rattle.c_syntax.specs.declared.alarm.Pointers.{Pointers}
 use Rattle.c_syntax.specs.declared.alarm.Shown.TheVariants as shows
 use Rattle.c_syntax.specs.declared.alarm.Spot.{Spot}
 use Rattle.c_syntax.specs.declared.alarm.Spot.TheVariants as spots
 use Rattle.c_syntax.specs.Types.{ObjectTree}
 use Rattle.c_syntax.specs.Operand.{Operand, Number, Point, Points, Mark, End}
-use Rattle.c_syntax.specs.Admission.{IsInShown, IsModerate, IsProperRange, IsSpotIn}
+use Rattle.c_syntax.specs.Admission.{IsInShown, IsModerate, IsSpotIn}
 use Rattle.ext_int.specs.declared.Ext.{Ext}
 use Rattle.ext_int.specs.declared.Ext.TheVariants.{Fin}
 use Rattle.ext_int.specs.Ext.{Below, Above}
 use Rattle.num_api.specs.declared.message.Range.{Range}
-use Rattle.num_api.specs.Ranges.{IsPoint}
-use Rattle.mem_api.specs.Owned.{any_pointer}
+use Rattle.num_api.specs.Ranges.{InRange, IsPoint}
 use Rattle.mem_api.specs.Showing.{IsAlone}
 use Rattle.temp_ranges.specs.Checks.{IsSmall}
+use Rattle.shown_sets.specs.Sets.{IsSpotBelow, HasAll, HasAlone}
+use Rattle.shown_sets.proofs.Having.{proper_range}
 use Rattle.temp_ranges.specs.Shows.{IsNumberIn, IsNumberAlone, IsSpotOf, ShowsNumber, IsSetOf}
-
-proper_range : (lo hi : Option ℤ) → IsModerate lo → IsModerate hi → IsProperRange lo hi (pos 1) (pos 0)
-proper_range lo hi l h = record {
-  lo_moderate = l;
-  hi_moderate = h;
-  modulus_low = omega (arith, ints);
-  modulus_high = omega (arith, ints);
-  remainder = λ k. (omega (arith, ints), omega (arith, ints));
-  point = λ k. absurd (cc);
-}
 
 between_one : (lo hi : Option ℤ) (n m : ℤ) → lo ≡ Some n → hi ≡ Some n → IfSome lo (λ l. l ≤ℤ m) → IfSome hi (λ h. m ≤ℤ h) → m ≡ n
 between_one lo hi n m e f below above =
@@ -68,16 +59,33 @@ module _ (r : Range) (lo hi : Option ℤ) (low : IsModerate lo) (high : IsModera
   pub shows_number : ShowsNumber r (shows.Number lo hi (pos 1) (pos 0))
   shows_number = record { holds = held; alone = alone_in; form = tt; proper = proper_range lo hi low high; names = λ count. tt }
 
--- any pointer
-any_holds : (objects : List ObjectTree) (r : Range) (s : Spot) → IsSpotOf objects r s → IsSpotIn objects any_pointer s
-any_holds objects r spots.Null i = refl
-any_holds objects r spots.Dead i = refl
-any_holds objects r (spots.At o d) i = (inr (refl, i.0), (tt, tt), (d, omega (arith, ints)))
+-- ---- pointers
 
-pub any_set : (r : Range) → (IsPoint r (pos 0) → ⊥) → IsSetOf r any_pointer
-any_set r out = record {
-  holds = λ objects s i. any_holds objects r s i;
+pub any_set : (r : Range) (set : Pointers) → (IsPoint r (pos 0) → ⊥) → HasAll set → IsSetOf r set
+any_set r set out h = record {
+  holds = λ objects s i. h.all objects s (below objects s i);
   alone = λ p. absurd (out p);
-  proper = proper_range None None tt tt;
-  names = λ count. All-nil (λ o. o < count);
+  proper = h.proper;
+  names = h.names;
 }
+  where
+    below : (objects : List ObjectTree) (s : Spot) → IsSpotOf objects r s → IsSpotBelow (length objects) s
+    below objects spots.Null i = tt
+    below objects spots.Dead i = tt
+    below objects (spots.At o d) i = i.0
+
+pub null_set : (r : Range) (set : Pointers) → IsPoint r (pos 0) → HasAlone spots.Null set → IsSetOf r set
+null_set r set p h = record {
+  holds = λ objects s i. held objects s i;
+  alone = λ q objects s i. h.only objects s i;
+  proper = h.proper;
+  names = λ count. h.names count tt;
+}
+  where
+    no_one : InRange r (pos 1) → ⊥
+    no_one i = let high : Above (Fin (pos 0)) (pos 1) = subst (λ (e : Ext). Above e (pos 1)) p.high i.high in omega (arith, ints, high)
+
+    held : (objects : List ObjectTree) (s : Spot) → IsSpotOf objects r s → IsSpotIn objects set s
+    held objects spots.Null i = h.there objects
+    held objects spots.Dead i = absurd (no_one i)
+    held objects (spots.At o d) i = absurd (no_one i.1)

@@ -1,5 +1,5 @@
 -- What is asked of what is shown of ranges.
-use Rattle.std.specs.Prelude.{◌≡◌, ℕ, ℤ, pos, ◌<◌, Bool, true, false, not, IsTrue, List, [], ◌∷◌, None, length, if◌then◌else◌}
+use Rattle.std.specs.Prelude.{◌≡◌, ℕ, ℤ, pos, ◌<◌, Bool, true, false, not, IsTrue, List, [], ◌∷◌, length, if◌then◌else◌}
 use Rattle.std.specs.Ordering.{int_eq}
 use Rattle.c_syntax.specs.declared.alarm.Check.{Check}
 use Rattle.c_syntax.specs.declared.alarm.WrongKind.{WrongKind}
@@ -60,9 +60,6 @@ pub record IsSetOf (r : Range) (set : Pointers) : Type 0 where
   pub alone : IsPoint r (pos 0) → (objects : List ObjectTree) (s : Spot) → IsSpotIn objects set s → s ≡ spots.Null
   pub proper : IsProperSet set
   pub names : (count : ℕ) → NamesBelow count set
-
-abbrev pub only_null : Pointers
-only_null = record { any = false; null = true; dead = false; names = []; lo = None; hi = None; modulus = pos 1; rem = pos 0 }
 
 -- ---- operands by the kind of their check
 

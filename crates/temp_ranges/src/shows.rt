@@ -5,14 +5,14 @@ ghost use Rattle.c_syntax.specs.Admission.{IsModerate};
 ghost use Rattle.ext_int.specs.Ext.{Below, Above};
 ghost use Rattle.ext_int.specs.declared.Ext.TheVariants.{Fin};
 ghost use Rattle.temp_ranges.specs.Checks.{IsSmall};
-ghost use Rattle.mem_api.specs.Owned.{any_pointer as all_pointers};
-ghost use Rattle.temp_ranges.specs.Shows.{ShowsNumber, ShowsEnd, IsSetOf, only_null};
+ghost use Rattle.temp_ranges.specs.Shows.{ShowsNumber, ShowsEnd, IsSetOf};
 
 use crate::operators::is_zero;
-use c_syntax::{Numbers, Pointers, Shown};
+use c_syntax::{Pointers, Shown};
 use env_eval::may_be;
 use ext_int::Ext;
 use num_api::Range;
+use shown_sets::{any_pointer, null_pointer};
 use std::alloc::Global;
 
 // The greatest size of an end that may be shown.
@@ -59,44 +59,12 @@ pub fn shown_ends(r: Range) -> Shown
     }
 }
 
-// The null pointer alone.
-fn null_alone(alloc: Global) -> Pointers
-    ensures { result ≡ only_null }
-{
-    Pointers {
-        any: false,
-        null: true,
-        dead: false,
-        names: Numbers::new(alloc),
-        lo: None,
-        hi: None,
-        modulus: 1,
-        rem: 0,
-    }
-}
-
-// All pointers.
-fn any_pointer(alloc: Global) -> Pointers
-    ensures { result ≡ all_pointers }
-{
-    Pointers {
-        any: true,
-        null: true,
-        dead: true,
-        names: Numbers::new(alloc),
-        lo: None,
-        hi: None,
-        modulus: 1,
-        rem: 0,
-    }
-}
-
 /// The pointers whose number is in a range.
 pub fn shown_set(alloc: Global, r: Range) -> Pointers
     ensures { IsSetOf r result }
 {
     if is_zero(r) {
-        return null_alone(alloc);
+        return null_pointer(alloc);
     }
     any_pointer(alloc)
 }

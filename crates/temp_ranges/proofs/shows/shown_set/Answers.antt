@@ -1,9 +1,8 @@
-use Rattle.std.proofs.Common.{sym, subst}
-use Rattle.c_syntax.specs.declared.alarm.Pointers.{Pointers}
-use Rattle.temp_ranges.specs.Shows.{IsSetOf}
-use Rattle.temp_ranges.proofs.Showed.{any_set}
+use Rattle.temp_ranges.proofs.Showed.{any_set, null_set}
 use Rattle.temp_ranges.proofs.shows.shown_set.Goals as goal
 
+pub returns-then-is_zero : goal.returns-then-is_zero
+returns-then-is_zero c = null_set c.args.r c.null_pointer.result (c.is_zero.ensures.0 c.if-is_zero.true) c.null_pointer.ensures
+
 pub returns : goal.returns
-returns c = subst (λ (set : Pointers). IsSetOf c.args.r set) (sym c.any_pointer.ensures)
-    (any_set c.args.r (λ p. let yes = c.is_zero.ensures.1 p in let no = c.if-is_zero.false in absurd (cc)))
+returns c = any_set c.args.r c.any_pointer.result (λ p. let yes = c.is_zero.ensures.1 p in let no = c.if-is_zero.false in absurd (cc)) c.any_pointer.ensures

@@ -6,6 +6,7 @@ use Rattle.num_api.specs.Lives.{is_live}
 use Rattle.num_api.specs.Plain.{excludes}
 use Rattle.num_api.specs.Ranges.{NoWider, IsUnder}
 use Rattle.num_api.specs.Spans.{Span, range_of}
+use Rattle.num_api.proofs.Narrowing.{none_left}
 use Rattle.machine_nums.specs.MExprs.{mexpr_tree, type_of}
 use Rattle.machine_nums.specs.Own.{IsInside}
 use Rattle.machine_nums.specs.Rule.{tested}
@@ -34,6 +35,11 @@ returns-clause-sharp_live g c = λ v n y ex ad on fit q is k.
 pub returns-clause-plain_dead : goal.returns-clause-plain_dead
 returns-clause-plain_dead g c = λ given ex u e. subst (λ l. is_live l ≡ false) (sym c.marked.ensures.answer)
     (c.in_ok-live.ensures.plain_dead given ex (u c.if-self.false) e)
+
+pub returns-clause-plain_none : goal.returns-clause-plain_none
+returns-clause-plain_none g c = λ given x ex u none. subst (λ l. is_live l ≡ false) (sym c.marked.ensures.answer)
+    (none_left c.in_ok-live.live (g.D.Oracle.known c.keep_truth.new.state) (tested given (mexpr_tree c.args.e.now) c.args.truth) x
+    (g.D.Oracle.known_some c.keep_truth.new.state x ex) none (c.in_ok-live.ensures.plain_live given ex (u c.if-self.false)))
 
 pub returns-clause-plain_live : goal.returns-clause-plain_live
 returns-clause-plain_live g c = λ given ex u void.
