@@ -1,5 +1,4 @@
 mod Exactly
-mod Belonging
+pub mod Belonging
 mod Standing
-mod Begun
 mod Arguments

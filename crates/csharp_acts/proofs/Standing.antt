@@ -100,6 +100,13 @@ broken_marked ty bs true r e f h = let no = rw e at h in absurd (cc)
 broken_marked ty bs false None e f h = rw e (rw f refl)
 broken_marked ty bs false (Some w) e f h = let no = rw (e, f) at h in absurd (cc)
 
+-- what is wrong with bytes is that one has no value, or that they are no value of the type
+wrong_bytes : (ty : Scalar) (bs : List Byte) (k : WrongKind) (u : Bool) (r : Option Value) → has_undef bs ≡ u → value_of ty bs ≡ r → loaded ty bs ≡ Err k
+    → (k ≡ kinds.Indeterminate → ⊥) → (k ≡ kinds.Fragment → ⊥) → ⊥
+wrong_bytes ty bs k true r e f h nor neither = let is = rw e at h in nor (cc)
+wrong_bytes ty bs k false None e f h nor neither = let is = rw (e, f) at h in neither (cc)
+wrong_bytes ty bs k false (Some w) e f h nor neither = let is = rw (e, f) at h in absurd (cc)
+
 unwrong : (w : Option WrongKind) → not (is_some w) ≡ true → w ≡ None
 unwrong None e = refl
 unwrong (Some k) e = absurd (cc)
@@ -137,6 +144,11 @@ module _ (m : ObjectMemory) (p : Pointer) (ty : Scalar) (h : HasObjects m) (r : 
       → mark m (Some ty) (values.Ptr p) ≡ Some (Mark operands.Broken)
   marks_broken k x is e = ap (λ (k : LoadMark). Some (Mark k))
       (broken_marked ty (bytes_at m.blocks p (size_of ty)) _ _ refl refl (sym is_loaded ∙ loads_nothing m p ty k x h read_made e ∙ ap Err is))
+
+  pub marks_some : (k : WrongKind) (x : Operand) → (k ≡ kinds.Indeterminate → ⊥) → (k ≡ kinds.Fragment → ⊥)
+      → ((objects : List ObjectTree) → FitsAt objects m (values.Ptr p) → load_at objects m (Some ty) (values.Ptr p) ≡ GoesWrong k x) → ⊥
+  marks_some k x nor neither e =
+      wrong_bytes ty (bytes_at m.blocks p (size_of ty)) k _ _ refl refl (sym is_loaded ∙ loads_nothing m p ty k x h read_made e) nor neither
 
 -- ---- the same, where the code names memory and the place otherwise
 
@@ -193,5 +205,11 @@ module _ (m n : ObjectMemory) (p : Pointer) (ty : Scalar) (size : ℕ) (e : m �
       → ((objects : List ObjectTree) → FitsAt objects n (values.Ptr p) → load_at objects n (Some ty) (values.Ptr p) ≡ GoesWrong k x)
       → mark m (Some ty) (values.Ptr p) ≡ Some (Mark operands.Broken)
   broken_mark k x is f = marks_broken m p ty h read_there k x is
+      (subst (λ (y : ObjectMemory). (objects : List ObjectTree) → FitsAt objects y (values.Ptr p) → load_at objects y (Some ty) (values.Ptr p) ≡ GoesWrong k x)
+      (sym e) f)
+
+  pub some_mark : (k : WrongKind) (x : Operand) → (k ≡ kinds.Indeterminate → ⊥) → (k ≡ kinds.Fragment → ⊥)
+      → ((objects : List ObjectTree) → FitsAt objects n (values.Ptr p) → load_at objects n (Some ty) (values.Ptr p) ≡ GoesWrong k x) → ⊥
+  some_mark k x nor neither f = marks_some m p ty h read_there k x nor neither
       (subst (λ (y : ObjectMemory). (objects : List ObjectTree) → FitsAt objects y (values.Ptr p) → load_at objects y (Some ty) (values.Ptr p) ≡ GoesWrong k x)
       (sym e) f)

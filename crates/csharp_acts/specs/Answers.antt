@@ -1,10 +1,12 @@
 -- What answers of the code say.
-use Rattle.std.specs.Prelude.{◌≡◌, Option, Some, None}
+use Rattle.std.specs.Prelude.{◌≡◌, Bool, true, false, Option, Some, None, Result, Ok, Err}
 use Rattle.c_syntax.specs.Operand.{Number, Point, Points, Mark, End}
 use Rattle.c_syntax.specs.Operand as pure
 use Rattle.c_values.specs.Looks as looks
 use Rattle.c_values.specs.Typed.{IsNear}
 use Rattle.csharp.specs.States.{State}
+use Rattle.csharp_acts.specs.declared.error.Unanswered.{Unanswered}
+use Rattle.csharp_acts.specs.declared.error.Unanswered.TheVariants as reasons
 use Rattle.csharp_acts.specs.declared.state.Step.{Step}
 use Rattle.csharp_acts.specs.declared.state.Step.TheVariants as steps
 use Rattle.csharp_acts.specs.declared.sight.LoadMark.{LoadMark}
@@ -47,3 +49,9 @@ AreNear x = Unit {0}
 abbrev pub Took : Step → State → State → Option State → Type 0
 Took steps.Done old new behind = behind ≡ Some new
 Took steps.Barred old new behind = (behind ≡ None) × (new ≡ old)
+
+-- given up exactly where this is so; want of memory may come at any time
+abbrev pub GivesUp : {A : Type 0} → Result A Unanswered → Bool → Type 0
+GivesUp (Ok a) unheld = unheld ≡ false
+GivesUp (Err reasons.NoMemory) unheld = Unit {0}
+GivesUp (Err reasons.Unheld) unheld = unheld ≡ true

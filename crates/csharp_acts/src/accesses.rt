@@ -1,5 +1,5 @@
 // What memory gives at a place.
-ghost use Rattle.std.specs.Prelude.{◌≡◌, IfOk, Some};
+ghost use Rattle.std.specs.Prelude.{◌≡◌, IfOk, Some, is_err};
 ghost use Rattle.c_syntax.specs.Operand.{Mark};
 ghost use Rattle.block_mem.specs.Bytes as bytes;
 ghost use Rattle.c_values.specs.Accesses.{mark};
@@ -7,8 +7,9 @@ ghost use Rattle.csharp.specs.Actions.{loaded_at};
 ghost use Rattle.csharp_acts.specs.Answers.{mark_of};
 ghost use Rattle.csharp_acts.specs.Belongs.{HasObjects};
 ghost use Rattle.csharp_acts.specs.Reading.{can_read};
+ghost use Rattle.csharp_acts.specs.Unheld.{unheld_bytes};
 
-use crate::error::Unanswered;
+use crate::error::Unheld;
 use crate::sight::LoadMark;
 use crate::state::State;
 use block_mem::{Pointer, Scalar, Value};
@@ -64,20 +65,21 @@ impl State {
     }
 
     // What a load of a type meets in the bytes at a place.
-    pub(crate) fn mark(&self, ty: Scalar, at: Pointer) -> Result<LoadMark, Unanswered>
+    pub(crate) fn mark(&self, ty: Scalar, at: Pointer) -> Result<LoadMark, Unheld>
         requires { HasObjects self.now.memory }
-        ensures { IfOk result (λ m. mark self.now.memory (Some ty) (Value.Ptr at) ≡ Some (Mark (mark_of m))) }
+        ensures is { IfOk result (λ m. mark self.now.memory (Some ty) (Value.Ptr at) ≡ Some (Mark (mark_of m))) }
+        ensures unheld { is_err result ≡ unheld_bytes self.now.memory ty (Value.Ptr at) }
     {
         let place = Value::Ptr(at);
         if !self.is_readable(place, size_of(ty), size_of(ty)) {
-            return Err(Unanswered::Unheld);
+            return Err(Unheld);
         }
         match self.memory.load(ty, place) {
             Ok(_) => Ok(LoadMark::HasValue),
             Err(wrong) => match wrong.kind {
                 WrongKind::Indeterminate => Ok(LoadMark::Undef),
                 WrongKind::Fragment => Ok(LoadMark::Broken),
-                _ => Err(Unanswered::Unheld),
+                _ => unreachable!(),
             },
         }
     }

@@ -1,7 +1,7 @@
 // What statements do to a state at once.
 #![tactic(auto, using(csharp::proofs::CodeTrees::the_code_trees))]
 
-ghost use Rattle.std.specs.Prelude.{◌≡◌, ◌<◌, All, IfOk, OnOk, length, map, true};
+ghost use Rattle.std.specs.Prelude.{◌≡◌, ◌<◌, All, IfOk, OnErr, OnOk, is_err, length, map, true};
 ghost use Rattle.c_written.specs.Integer.{HasNumber};
 ghost use Rattle.c_syntax.specs.Types.{object_tree};
 ghost use Rattle.block_mem.specs.Bytes.{IsOf};
@@ -12,9 +12,11 @@ ghost use Rattle.csharp.specs.Actions as acts;
 ghost use Rattle.csharp.specs.Actions.{with_memory};
 ghost use Rattle.csharp_acts.specs.Answers.{Took};
 ghost use Rattle.csharp_acts.specs.Belongs.{Belongs, HasObjects, Keeps};
+ghost use Rattle.csharp_acts.specs.Unheld as unheld;
+ghost use Rattle.csharp_acts.specs.Unheld.{own_type, unheld_copy, unheld_store, unheld_stored};
 
 use crate::accesses::size_of;
-use crate::error::Unanswered;
+use crate::error::Unheld;
 use crate::numbers::has_number;
 use crate::state::{State, Step};
 use block_mem::{Scalar, Value};
@@ -25,9 +27,11 @@ use std::alloc::AllocError as NoMemory;
 
 impl State {
     /// Puts a value into a temporary.
-    pub fn set(&mut self, temp: u64, value: &CsExpr) -> Result<Step, Unanswered>
+    pub fn set(&mut self, temp: u64, value: &CsExpr) -> Result<Step, Unheld>
         ensures took { IfOk result (λ step. Took step self.old self.new (acts.set temp (csexpr_tree value.now) self.old)) }
         ensures memory { OnOk result (self.new.memory ≡ self.old.memory) }
+        ensures unheld { is_err result ≡ unheld.unheld (csexpr_tree value.now) self.old }
+        ensures unchanged { OnErr result (self.new ≡ self.old) }
     {
         match self.value(value)? {
             Some(v) => {
@@ -39,10 +43,12 @@ impl State {
     }
 
     /// Puts what stands at an address into a temporary.
-    pub fn load(&mut self, temp: u64, ty: Scalar, address: &CsExpr) -> Result<Step, Unanswered>
+    pub fn load(&mut self, temp: u64, ty: Scalar, address: &CsExpr) -> Result<Step, Unheld>
         requires { HasObjects self.old.memory }
         ensures took { IfOk result (λ step. Took step self.old self.new (acts.load temp ty (csexpr_tree address.now) self.old)) }
         ensures memory { OnOk result (self.new.memory ≡ self.old.memory) }
+        ensures unheld { is_err result ≡ unheld.unheld (csexpr_tree address.now) self.old }
+        ensures unchanged { OnErr result (self.new ≡ self.old) }
     {
         match self.value(address)? {
             Some(place) => match self.loaded(ty, place) {
@@ -57,15 +63,12 @@ impl State {
     }
 
     /// Puts a value of this type at an address, read-only or not.
-    pub fn store(
-        &mut self,
-        ty: Scalar,
-        address: &CsExpr,
-        value: &CsExpr,
-    ) -> Result<Step, Unanswered>
+    pub fn store(&mut self, ty: Scalar, address: &CsExpr, value: &CsExpr) -> Result<Step, Unheld>
         requires { HasObjects self.old.memory }
         ensures took { IfOk result (λ step. Took step self.old self.new (acts.store ty (csexpr_tree address.now) (csexpr_tree value.now) self.old)) }
         ensures memory { OnOk result (Keeps self.old.memory self.new.memory) }
+        ensures unheld { is_err result ≡ unheld_store ty (csexpr_tree address.now) (csexpr_tree value.now) self.old }
+        ensures unchanged { OnErr result (self.new ≡ self.old) }
     {
         match self.value(address)? {
             Some(place) => match self.value(value)? {
@@ -76,38 +79,45 @@ impl State {
         }
     }
 
-    fn store_value(&mut self, ty: Scalar, place: Value, v: Value) -> Result<Step, Unanswered>
+    fn store_value(&mut self, ty: Scalar, place: Value, v: Value) -> Result<Step, Unheld>
         requires { HasObjects self.old.memory }
         ensures took { IfOk result (λ step. Took step self.old self.new (with_memory self.old (stored_at self.old.memory ty place v))) }
         ensures memory { OnOk result (Keeps self.old.memory self.new.memory) }
+        ensures unheld { is_err result ≡ unheld_stored self.old.memory ty place v }
+        ensures unchanged { OnErr result (self.new ≡ self.old) }
     {
         if !self.is_readable(place, size_of(ty), size_of(ty)) {
             return Ok(Step::Barred);
         }
         if !self.is_storable(ty, v) {
-            return Err(Unanswered::Unheld);
+            return Err(Unheld);
         }
-        self.memory.initialise(ty, place, v);
+        self.memory.initialise(type_of(v), place, v);
         Ok(Step::Done)
     }
 
-    // A value of the type, which if it is a pointer is one to a block that was made.
+    // A value of as many bytes as the type has, which is a number of its own type, null, or a pointer to
+    // a block that was made.
     fn is_storable(&self, ty: Scalar, v: Value) -> bool
-        ensures typed { result ≡ true → IsOf ty v }
+        ensures test { result ≡ unheld.is_storable self.now.memory ty v }
+        ensures typed { result ≡ true → IsOf (own_type v) v }
         ensures made { result ≡ true → IsMade (length self.now.memory.blocks) v }
     {
-        match v {
-            Value::Int(t, n) => ty == Scalar::Int(t) && has_number(t, n),
-            Value::Ptr(at) => ty == Scalar::Pointer && at.block < self.memory.count(),
-            Value::Null => ty == Scalar::Pointer,
-        }
+        size_of(type_of(v)) == size_of(ty)
+            && match v {
+                Value::Int(t, n) => has_number(t, n),
+                Value::Ptr(at) => at.block < self.memory.count(),
+                Value::Null => true,
+            }
     }
 
     /// Copies so many bytes, as if all were read first.
-    pub fn copy_bytes(&mut self, size: u64, to: &CsExpr, from: &CsExpr) -> Result<Step, Unanswered>
+    pub fn copy_bytes(&mut self, size: u64, to: &CsExpr, from: &CsExpr) -> Result<Step, Unheld>
         requires { HasObjects self.old.memory }
         ensures took { IfOk result (λ step. Took step self.old self.new (acts.copy_bytes size (csexpr_tree to.now) (csexpr_tree from.now) self.old)) }
         ensures memory { OnOk result (Keeps self.old.memory self.new.memory) }
+        ensures unheld { is_err result ≡ unheld_copy (csexpr_tree to.now) (csexpr_tree from.now) self.old }
+        ensures unchanged { OnErr result (self.new ≡ self.old) }
     {
         match self.value(to)? {
             Some(to) => match self.value(from)? {
@@ -195,6 +205,16 @@ impl State {
             left = rest;
         }
         true
+    }
+}
+
+// The type of a value.
+fn type_of(v: Value) -> Scalar
+    ensures { result ≡ own_type v }
+{
+    match v {
+        Value::Int(t, _) => Scalar::Int(t),
+        Value::Ptr(_) | Value::Null => Scalar::Pointer,
     }
 }
 

@@ -1,11 +1,12 @@
 // What a call does before and behind its body.
 #![tactic(auto, using(csharp::proofs::CodeTrees::the_code_trees))]
 
-ghost use Rattle.std.specs.Prelude.{◌≡◌, IfOk, OnOk, length, map, option_map};
+ghost use Rattle.std.specs.Prelude.{◌≡◌, IfOk, OnErr, OnOk, length, map, option_map};
 ghost use Rattle.csharp.specs.Trees.{cscall_tree, csexpr_tree};
 ghost use Rattle.csharp.specs.Actions as acts;
-ghost use Rattle.csharp_acts.specs.Answers.{Took};
+ghost use Rattle.csharp_acts.specs.Answers.{GivesUp, Took};
 ghost use Rattle.csharp_acts.specs.Passing.{put_all, values_of};
+ghost use Rattle.csharp_acts.specs.Unheld.{unheld_all, unheld_pass};
 
 use crate::error::Unanswered;
 use crate::state::{State, Step};
@@ -25,6 +26,8 @@ impl State {
     ) -> Result<Step, Unanswered>
         ensures took { IfOk result (λ step. Took step self.old self.new (acts.pass (map csexpr_tree args.now) params.now self.old)) }
         ensures memory { OnOk result (self.new.memory ≡ self.old.memory) }
+        ensures unheld { GivesUp result (unheld_pass (map csexpr_tree args.now) params.now self.old) }
+        ensures unchanged { OnErr result (self.new ≡ self.old) }
     {
         if args.len() != params.len() {
             return Ok(Step::Barred);
@@ -40,7 +43,8 @@ impl State {
 
     // The values of expressions; none where one of them has none.
     fn values(&self, alloc: Global, exprs: &[CsExpr]) -> Result<Option<Vec<Value>>, Unanswered>
-        ensures { IfOk result (λ vs. option_map (λ v. v.items) vs ≡ values_of (map csexpr_tree exprs.now) self.now) }
+        ensures are { IfOk result (λ vs. option_map (λ v. v.items) vs ≡ values_of (map csexpr_tree exprs.now) self.now) }
+        ensures unheld { GivesUp result (unheld_all (map csexpr_tree exprs.now) self.now) }
     {
         let mut values = Vec::new(alloc);
         for expr in exprs {

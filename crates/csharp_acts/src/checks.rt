@@ -1,7 +1,7 @@
 // What checks look at, and what is found of it.
 #![tactic(auto, using(csharp::proofs::CodeTrees::the_code_trees))]
 
-ghost use Rattle.std.specs.Prelude.{◌≡◌, ◌∷◌, [], IfOk, IfSome, Some, map, option_and_then, option_map};
+ghost use Rattle.std.specs.Prelude.{◌≡◌, ◌∷◌, [], false, true, IfOk, IfSome, Some, is_err, map, option_and_then, option_map};
 ghost use Rattle.c_syntax.specs.Types.{object_tree};
 ghost use Rattle.c_values.specs.Accesses.{mark, test_operand};
 ghost use Rattle.c_values.specs.Looks.{judge};
@@ -13,8 +13,10 @@ ghost use Rattle.csharp_acts.specs.Answers.{AreNear, judged, operand_of};
 ghost use Rattle.c_values.specs.Typed.{IsNear};
 ghost use Rattle.csharp_acts.specs.Belongs.{HasObjects};
 ghost use Rattle.csharp_acts.specs.Reading.{one_value};
+ghost use Rattle.csharp_acts.specs.Unheld as unheld;
+ghost use Rattle.csharp_acts.specs.Unheld.{unheld_both, unheld_bytes, unheld_check, unheld_exact, unheld_exact_binary, unheld_mark, unheld_one, unheld_pointed, unheld_unary};
 
-use crate::error::Unanswered;
+use crate::error::Unheld;
 use crate::failing::fails;
 use crate::numbers::{exact_arithmetic, exact_shift, negated};
 use crate::operators::takes_right;
@@ -27,9 +29,10 @@ use csharp::{CsCheck, CsExpr};
 
 impl State {
     /// What is found of a check now.
-    pub fn judge(&self, objects: &[Object], check: &CsCheck) -> Result<Judgement, Unanswered>
+    pub fn judge(&self, objects: &[Object], check: &CsCheck) -> Result<Judgement, Unheld>
         requires { HasObjects self.now.memory }
-        ensures { IfOk result (λ j. judged j ≡ judge (map object_tree objects.now) (states.look_of (cscheck_tree check.now) self.now ∷ [])) }
+        ensures is { IfOk result (λ j. judged j ≡ judge (map object_tree objects.now) (states.look_of (cscheck_tree check.now) self.now ∷ [])) }
+        ensures unheld { is_err result ≡ unheld_check (cscheck_tree check.now) self.now }
     {
         match self.operand(check)? {
             Some(operand) => Ok(if fails(objects, &check.check, operand) {
@@ -42,11 +45,12 @@ impl State {
     }
 
     /// What a check looks at now; none where there is nothing of its kind.
-    pub fn operand(&self, check: &CsCheck) -> Result<Option<Operand>, Unanswered>
+    pub fn operand(&self, check: &CsCheck) -> Result<Option<Operand>, Unheld>
         requires { HasObjects self.now.memory }
         ensures is { IfOk result (λ x. option_map operand_of x
             ≡ states.operand_of check.now.check.kind check.now.ty (cscheck_tree check.now).operands self.now) }
         ensures near { IfOk result (λ x. IfSome x AreNear) }
+        ensures unheld { is_err result ≡ unheld_check (cscheck_tree check.now) self.now }
     {
         let operands = check.operands.as_slice();
         match check.check.kind {
@@ -70,10 +74,11 @@ impl State {
     }
 
     // The exact number of the one operand's outermost operator.
-    fn exact_of_one(&self, operands: &[CsExpr]) -> Result<Option<Operand>, Unanswered>
+    fn exact_of_one(&self, operands: &[CsExpr]) -> Result<Option<Operand>, Unheld>
         ensures is { IfOk result (λ x. option_map operand_of x
             ≡ states.of_one (map csexpr_tree operands.now) (λ e. states.exact_of e self.now)) }
         ensures near { IfOk result (λ x. IfSome x AreNear) }
+        ensures unheld { is_err result ≡ unheld_one (map csexpr_tree operands.now) (λ e. unheld_exact e self.now) }
     {
         if operands.len() != 1 {
             return Ok(None);
@@ -81,9 +86,10 @@ impl State {
         self.exact(&operands[0])
     }
 
-    fn exact(&self, operand: &CsExpr) -> Result<Option<Operand>, Unanswered>
+    fn exact(&self, operand: &CsExpr) -> Result<Option<Operand>, Unheld>
         ensures is { IfOk result (λ x. option_map operand_of x ≡ states.exact_of (csexpr_tree operand.now) self.now) }
         ensures near { IfOk result (λ x. IfSome x AreNear) }
+        ensures unheld { is_err result ≡ unheld_exact (csexpr_tree operand.now) self.now }
     {
         match operand {
             CsExpr::Unary { op, operand } => match self.value(operand)? {
@@ -106,8 +112,9 @@ impl State {
     }
 
     // The value of the one operand.
-    fn value_of_one(&self, operands: &[CsExpr]) -> Result<Option<Value>, Unanswered>
-        ensures { IfOk result (λ v. v ≡ one_value (map csexpr_tree operands.now) self.now) }
+    fn value_of_one(&self, operands: &[CsExpr]) -> Result<Option<Value>, Unheld>
+        ensures is { IfOk result (λ v. v ≡ one_value (map csexpr_tree operands.now) self.now) }
+        ensures unheld { is_err result ≡ unheld_one (map csexpr_tree operands.now) (λ e. unheld.unheld e self.now) }
     {
         if operands.len() != 1 {
             return Ok(None);
@@ -115,9 +122,10 @@ impl State {
         self.value(&operands[0])
     }
 
-    fn number_of_one(&self, operands: &[CsExpr]) -> Result<Option<Operand>, Unanswered>
+    fn number_of_one(&self, operands: &[CsExpr]) -> Result<Option<Operand>, Unheld>
         ensures is { IfOk result (λ x. option_map operand_of x ≡ option_and_then operators.number (one_value (map csexpr_tree operands.now) self.now)) }
         ensures near { IfOk result (λ x. IfSome x AreNear) }
+        ensures unheld { is_err result ≡ unheld_one (map csexpr_tree operands.now) (λ e. unheld.unheld e self.now) }
     {
         match self.value_of_one(operands)? {
             Some(Value::Int(_, n)) => Ok(Some(Operand::Number(n))),
@@ -126,10 +134,11 @@ impl State {
     }
 
     // The truth of the one operand, as 0 or 1.
-    fn truth_of_one(&self, operands: &[CsExpr]) -> Result<Option<Operand>, Unanswered>
+    fn truth_of_one(&self, operands: &[CsExpr]) -> Result<Option<Operand>, Unheld>
         ensures is { IfOk result (λ x. option_map operand_of x
             ≡ option_and_then (λ v. test_operand self.now.memory v WrongKind.AssertFailed) (one_value (map csexpr_tree operands.now) self.now)) }
         ensures near { IfOk result (λ x. IfSome x AreNear) }
+        ensures unheld { is_err result ≡ unheld_one (map csexpr_tree operands.now) (λ e. unheld.unheld e self.now) }
     {
         match self.value_of_one(operands)? {
             Some(v) => Ok(Some(Operand::Number(if truth(v) { 1 } else { 0 }))),
@@ -138,9 +147,10 @@ impl State {
     }
 
     // Whether a call gave a value, which the one operand tells.
-    fn end_of_one(&self, operands: &[CsExpr]) -> Result<Option<Operand>, Unanswered>
+    fn end_of_one(&self, operands: &[CsExpr]) -> Result<Option<Operand>, Unheld>
         ensures is { IfOk result (λ x. option_map operand_of x ≡ option_and_then states.end_of (one_value (map csexpr_tree operands.now) self.now)) }
         ensures near { IfOk result (λ x. IfSome x AreNear) }
+        ensures unheld { is_err result ≡ unheld_one (map csexpr_tree operands.now) (λ e. unheld.unheld e self.now) }
     {
         match self.value_of_one(operands)? {
             Some(Value::Int(_, n)) => Ok(Some(Operand::End(if n == 0 {
@@ -157,11 +167,12 @@ impl State {
         &self,
         ty: Option<Scalar>,
         operands: &[CsExpr],
-    ) -> Result<Option<Operand>, Unanswered>
+    ) -> Result<Option<Operand>, Unheld>
         requires { HasObjects self.now.memory }
         ensures is { IfOk result (λ x. option_map operand_of x
             ≡ option_and_then (mark self.now.memory ty) (one_value (map csexpr_tree operands.now) self.now)) }
         ensures near { IfOk result (λ x. IfSome x AreNear) }
+        ensures unheld { is_err result ≡ unheld_mark ty (map csexpr_tree operands.now) self.now }
     {
         match ty {
             Some(ty) => match self.value_of_one(operands)? {
@@ -172,10 +183,11 @@ impl State {
         }
     }
 
-    fn mark_at(&self, ty: Scalar, place: Value) -> Result<Option<Operand>, Unanswered>
+    fn mark_at(&self, ty: Scalar, place: Value) -> Result<Option<Operand>, Unheld>
         requires { HasObjects self.now.memory }
         ensures is { IfOk result (λ x. option_map operand_of x ≡ mark self.now.memory (Some ty) place) }
         ensures near { IfOk result (λ x. IfSome x AreNear) }
+        ensures unheld { is_err result ≡ unheld_bytes self.now.memory ty place }
     {
         match place {
             Value::Ptr(at) => Ok(Some(Operand::Mark(self.mark(ty, at)?))),
@@ -184,9 +196,10 @@ impl State {
     }
 
     // Where one pointer points, or two.
-    fn pointed(&self, kind: WrongKind, operands: &[CsExpr]) -> Result<Option<Operand>, Unanswered>
+    fn pointed(&self, kind: WrongKind, operands: &[CsExpr]) -> Result<Option<Operand>, Unheld>
         ensures is { IfOk result (λ x. option_map operand_of x ≡ states.pointed kind (map csexpr_tree operands.now) self.now) }
         ensures near { IfOk result (λ x. IfSome x AreNear) }
+        ensures unheld { is_err result ≡ unheld_pointed (map csexpr_tree operands.now) self.now }
     {
         match operands.len() {
             1 => self.pointed_once(&operands[0]),
@@ -195,10 +208,11 @@ impl State {
         }
     }
 
-    fn pointed_once(&self, operand: &CsExpr) -> Result<Option<Operand>, Unanswered>
+    fn pointed_once(&self, operand: &CsExpr) -> Result<Option<Operand>, Unheld>
         ensures is { IfOk result (λ x. option_map operand_of x
             ≡ option_and_then (places.point self.now.memory) (states.value_of (csexpr_tree operand.now) self.now)) }
         ensures near { IfOk result (λ x. IfSome x AreNear) }
+        ensures unheld { is_err result ≡ unheld.unheld (csexpr_tree operand.now) self.now }
     {
         match self.value(operand)? {
             Some(v) => match self.spot(v) {
@@ -214,10 +228,11 @@ impl State {
         kind: WrongKind,
         left: &CsExpr,
         right: &CsExpr,
-    ) -> Result<Option<Operand>, Unanswered>
+    ) -> Result<Option<Operand>, Unheld>
         ensures is { IfOk result (λ x. option_map operand_of x ≡ states.on_both (csexpr_tree left.now) (csexpr_tree right.now) self.now
             (λ v u. operators.pair_operand (places.spot self.now.memory v) (places.spot self.now.memory u) kind)) }
         ensures near { IfOk result (λ x. IfSome x AreNear) }
+        ensures unheld { is_err result ≡ unheld_both (csexpr_tree left.now) (csexpr_tree right.now) self.now (λ v u. false) }
     {
         match self.value(left)? {
             Some(v) => match self.value(right)? {
@@ -246,9 +261,10 @@ impl State {
 }
 
 // The exact number of a check of a result.
-fn exact_unary(op: TUnaryOp, v: Value) -> Result<Option<Operand>, Unanswered>
+fn exact_unary(op: TUnaryOp, v: Value) -> Result<Option<Operand>, Unheld>
     ensures is { IfOk result (λ x. (m : places.ObjectMemory) → option_map operand_of x ≡ operators.unary_operand m op v WrongKind.Overflow) }
     ensures near { IfOk result (λ x. IfSome x AreNear) }
+    ensures unheld { is_err result ≡ unheld_unary op v }
 {
     match op {
         TUnaryOp::Minus(_) => match v {
@@ -260,9 +276,10 @@ fn exact_unary(op: TUnaryOp, v: Value) -> Result<Option<Operand>, Unanswered>
 }
 
 // None where the operator does not take the right operand.
-fn exact_taken(op: TBinaryOp, left: Value, right: Value) -> Result<Option<Operand>, Unanswered>
+fn exact_taken(op: TBinaryOp, left: Value, right: Value) -> Result<Option<Operand>, Unheld>
     ensures is { IfOk result (λ x. option_map operand_of x ≡ states.if_taken op (operators.exact_binary op) left right) }
     ensures near { IfOk result (λ x. IfSome x AreNear) }
+    ensures unheld { is_err result ≡ unheld.if_taken op (unheld_exact_binary op) left right }
 {
     if takes_right(op, right) {
         exact_binary(op, left, right)
@@ -271,9 +288,11 @@ fn exact_taken(op: TBinaryOp, left: Value, right: Value) -> Result<Option<Operan
     }
 }
 
-fn exact_binary(op: TBinaryOp, left: Value, right: Value) -> Result<Option<Operand>, Unanswered>
+fn exact_binary(op: TBinaryOp, left: Value, right: Value) -> Result<Option<Operand>, Unheld>
+    requires { states.takes_right op right ≡ true }
     ensures is { IfOk result (λ x. option_map operand_of x ≡ operators.exact_binary op left right) }
     ensures near { IfOk result (λ x. IfSome x AreNear) }
+    ensures unheld { is_err result ≡ unheld_exact_binary op left right }
 {
     match (left, right) {
         (Value::Int(_, a), Value::Int(_, b)) => match op {

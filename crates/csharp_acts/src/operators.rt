@@ -1,27 +1,32 @@
 // What operators give, with no check before them.
-ghost use Rattle.std.specs.Prelude.{◌≡◌, IfOk};
+ghost use Rattle.std.specs.Prelude.{◌≡◌, ◌+ℤ◌, ℤ, true, neg_ℤ, FitsSigned, IfOk, is_err};
+ghost use Rattle.std.specs.Int.{w128};
+ghost use Rattle.std.specs.Option.{SomeIff};
 ghost use Rattle.c_values.specs.Operators as operators;
 ghost use Rattle.c_values.specs.Operators.{elements};
 ghost use Rattle.c_values.specs.Typed.{TakesNumbers};
 ghost use Rattle.csharp.specs.States.{if_taken, takes_right as is_taken};
+ghost use Rattle.csharp_acts.specs.Unheld as unheld;
+ghost use Rattle.csharp_acts.specs.Unheld.{is_no_offset, unheld_binary, unheld_unary};
 
-use crate::error::Unanswered;
-use crate::numbers::{arithmetic_value, complement_of, held, negated, shift_value};
+use crate::error::Unheld;
+use crate::numbers::{arithmetic_value, complement_of, left_value, negated, right_value};
 use block_mem::{Pointer, Value};
 use c_layout::wrap;
-use c_syntax::{Arithmetic, Comparison, IntType, TBinaryOp, TUnaryOp};
+use c_syntax::{Arithmetic, Comparison, IntType, Shift, TBinaryOp, TUnaryOp};
 use c_values::{bit, compare_pointers, compares, difference, truth};
 
 /// What an operator gives on a value; none where the value is not of its type.
-pub fn unary_value(op: TUnaryOp, v: Value) -> Result<Option<Value>, Unanswered>
-    ensures { IfOk result (λ u. u ≡ operators.unary_result op v) }
+pub fn unary_value(op: TUnaryOp, v: Value) -> Result<Option<Value>, Unheld>
+    ensures is { IfOk result (λ u. u ≡ operators.unary_result op v) }
+    ensures unheld { is_err result ≡ unheld_unary op v }
 {
     match v {
         Value::Int(_, n) => match op {
             TUnaryOp::Not => Ok(Some(bit(!truth(v)))),
             TUnaryOp::Plus(t) => Ok(Some(Value::Int(t, n))),
             TUnaryOp::Minus(t) => Ok(Some(Value::Int(t, wrap(t, negated(n)?)))),
-            TUnaryOp::Complement(t) => Ok(Some(Value::Int(t, complement_of(t, n)?))),
+            TUnaryOp::Complement(t) => Ok(Some(Value::Int(t, complement_of(t, n)))),
         },
         Value::Ptr(_) | Value::Null => match op {
             TUnaryOp::Not => Ok(Some(bit(!truth(v)))),
@@ -30,9 +35,12 @@ pub fn unary_value(op: TUnaryOp, v: Value) -> Result<Option<Value>, Unanswered>
     }
 }
 
-/// What an operator gives on two values; none where one of them is not of its type.
-pub fn binary_value(op: TBinaryOp, left: Value, right: Value) -> Result<Option<Value>, Unanswered>
-    ensures { IfOk result (λ v. v ≡ operators.binary_result op left right) }
+// What an operator gives on two values, of which it takes the right one; none where one of them is not of
+// its type.
+fn binary_value(op: TBinaryOp, left: Value, right: Value) -> Result<Option<Value>, Unheld>
+    requires { is_taken op right ≡ true }
+    ensures is { IfOk result (λ v. v ≡ operators.binary_result op left right) }
+    ensures unheld { is_err result ≡ unheld_binary op left right }
 {
     match op {
         TBinaryOp::ComparePointers(comparison) => Ok(pointers_compared(comparison, left, right)),
@@ -45,9 +53,11 @@ pub fn binary_value(op: TBinaryOp, left: Value, right: Value) -> Result<Option<V
     }
 }
 
-/// The same, and none where the operator does not take the right one.
-pub fn taken_value(op: TBinaryOp, left: Value, right: Value) -> Result<Option<Value>, Unanswered>
-    ensures { IfOk result (λ v. v ≡ if_taken op (operators.binary_result op) left right) }
+/// What an operator gives on two values; none where one of them is not of its type, and where it does not
+/// take the right one.
+pub fn taken_value(op: TBinaryOp, left: Value, right: Value) -> Result<Option<Value>, Unheld>
+    ensures is { IfOk result (λ v. v ≡ if_taken op (operators.binary_result op) left right) }
+    ensures unheld { is_err result ≡ unheld.if_taken op (unheld_binary op) left right }
 {
     if takes_right(op, right) {
         binary_value(op, left, right)
@@ -72,55 +82,68 @@ pub fn takes_right(op: TBinaryOp, right: Value) -> bool
 }
 
 // A pointer that is moved on by so many elements.
-fn moved_on(place: Value, element: u64, count: Value) -> Result<Option<Value>, Unanswered>
+fn moved_on(place: Value, element: u64, count: Value) -> Result<Option<Value>, Unheld>
     ensures added { IfOk result (λ v. v ≡ operators.binary_result (TBinaryOp.PointerPlusInt element) place count) }
     ensures other_way { IfOk result (λ v. v ≡ operators.binary_result (TBinaryOp.IntPlusPointer element) count place) }
+    ensures unheld { is_err result ≡ unheld_binary (TBinaryOp.PointerPlusInt element) place count }
+    ensures unheld_other_way { is_err result ≡ unheld_binary (TBinaryOp.IntPlusPointer element) count place }
 {
-    match count {
-        Value::Int(_, n) => moved(place, bytes_of(element, n)?),
-        Value::Ptr(_) | Value::Null => Ok(None),
+    match (place, count) {
+        (Value::Ptr(at), Value::Int(_, n)) => Ok(Some(Value::Ptr(Pointer {
+            block: at.block,
+            offset: offset_on(at.offset, element, n)?,
+        }))),
+        (Value::Null, Value::Int(_, _)) => Ok(Some(Value::Null)),
+        _ => Ok(None),
     }
 }
 
 // A pointer that is moved back by so many elements.
-fn moved_back(place: Value, element: u64, count: Value) -> Result<Option<Value>, Unanswered>
-    ensures { IfOk result (λ v. v ≡ operators.binary_result (TBinaryOp.PointerMinusInt element) place count) }
+fn moved_back(place: Value, element: u64, count: Value) -> Result<Option<Value>, Unheld>
+    ensures is { IfOk result (λ v. v ≡ operators.binary_result (TBinaryOp.PointerMinusInt element) place count) }
+    ensures unheld { is_err result ≡ unheld_binary (TBinaryOp.PointerMinusInt element) place count }
 {
-    match count {
-        Value::Int(_, n) => moved(place, negated(bytes_of(element, n)?)?),
-        Value::Ptr(_) | Value::Null => Ok(None),
+    match (place, count) {
+        (Value::Ptr(at), Value::Int(_, n)) => Ok(Some(Value::Ptr(Pointer {
+            block: at.block,
+            offset: offset_back(at.offset, element, n)?,
+        }))),
+        (Value::Null, Value::Int(_, _)) => Ok(Some(Value::Null)),
+        _ => Ok(None),
     }
 }
 
-// The bytes of so many elements.
-fn bytes_of(element: u64, count: i128) -> Result<i128, Unanswered>
-    ensures { IfOk result (λ n. n ≡ elements element count) }
+// The offset behind so many elements.
+fn offset_on(offset: i64, element: u64, count: i128) -> Result<i64, Unheld>
+    ensures is { IfOk result (λ n. n ≡ offset +ℤ elements element count) }
+    ensures unheld { is_err result ≡ is_no_offset (offset +ℤ elements element count) }
 {
-    held(i128::from(element).checked_mul(count))
+    match i128::from(element).checked_mul(count) {
+        Some(bytes) => offset_of(i128::from(offset).checked_add(bytes)),
+        None => Err(Unheld),
+    }
 }
 
-// A pointer that is moved by bytes.
-fn moved(place: Value, distance: i128) -> Result<Option<Value>, Unanswered>
-    ensures { IfOk result (λ v. v ≡ operators.moved place distance) }
+// The offset before so many elements.
+fn offset_back(offset: i64, element: u64, count: i128) -> Result<i64, Unheld>
+    ensures is { IfOk result (λ n. n ≡ offset +ℤ neg_ℤ (elements element count)) }
+    ensures unheld { is_err result ≡ is_no_offset (offset +ℤ neg_ℤ (elements element count)) }
 {
-    match place {
-        Value::Ptr(pointer) => Ok(Some(Value::Ptr(Pointer {
-            block: pointer.block,
-            offset: offset_of(held(i128::from(pointer.offset).checked_add(distance))?)?,
-        }))),
-        Value::Null => Ok(Some(Value::Null)),
-        Value::Int(_, _) => Ok(None),
+    match i128::from(element).checked_mul(count) {
+        Some(bytes) => offset_of(i128::from(offset).checked_sub(bytes)),
+        None => Err(Unheld),
     }
 }
 
 // An offset that a pointer of the code may have.
-fn offset_of(exact: i128) -> Result<i64, Unanswered>
-    ensures { IfOk result (λ offset. offset ≡ exact) }
+fn offset_of(exact: Option<i128>) -> Result<i64, Unheld>
+    ensures is { (n : ℤ) → SomeIff exact (FitsSigned w128 n) n → IfOk result (λ offset. offset ≡ n) }
+    ensures unheld { (n : ℤ) → SomeIff exact (FitsSigned w128 n) n → is_err result ≡ is_no_offset n }
 {
-    if exact < i128::from(i64::MIN) || exact > i128::from(i64::MAX) {
-        return Err(Unanswered::Unheld);
+    match exact {
+        Some(n) if i128::from(i64::MIN) <= n && n <= i128::from(i64::MAX) => Ok(n as i64),
+        _ => Err(Unheld),
     }
-    Ok(exact as i64)
 }
 
 // A comparison of two pointers.
@@ -148,14 +171,17 @@ fn distance(element: u64, left: Value, right: Value) -> Option<Value>
 }
 
 // An operator on two numbers; none where one of them is none.
-fn number_value(op: TBinaryOp, left: Value, right: Value) -> Result<Option<Value>, Unanswered>
-    requires { TakesNumbers op }
-    ensures { IfOk result (λ v. v ≡ operators.binary_result op left right) }
+fn number_value(op: TBinaryOp, left: Value, right: Value) -> Result<Option<Value>, Unheld>
+    requires numbers { TakesNumbers op }
+    requires taken { is_taken op right ≡ true }
+    ensures is { IfOk result (λ v. v ≡ operators.binary_result op left right) }
+    ensures unheld { is_err result ≡ unheld_binary op left right }
 {
     match (left, right) {
         (Value::Int(_, a), Value::Int(_, b)) => match op {
             TBinaryOp::Arithmetic(op, t) => Ok(Some(arithmetic_value(op, t, a, b)?)),
-            TBinaryOp::Shift(way, t) => Ok(Some(shift_value(way, t, a, b)?)),
+            TBinaryOp::Shift(Shift::Left, t) => Ok(Some(left_value(t, a, b)?)),
+            TBinaryOp::Shift(Shift::Right, t) => Ok(Some(right_value(t, a, b))),
             TBinaryOp::CompareInts(comparison, _) => Ok(Some(bit(compares(comparison, a, b)))),
             _ => unreachable!(),
         },

@@ -3,7 +3,7 @@
 use c_syntax::{Spot, WrongKind};
 
 /// What a load meets in the bytes that it reads.
-#[derive(Clone, Copy, Debug, PartialEq, Eq)]
+#[derive(Clone, Copy, Debug)]
 pub enum LoadMark {
     /// A byte without a value.
     Undef,
@@ -14,14 +14,14 @@ pub enum LoadMark {
 }
 
 /// How a call ended.
-#[derive(Clone, Copy, Debug, PartialEq, Eq)]
+#[derive(Clone, Copy, Debug)]
 pub enum CallEnd {
     Value,
     Nothing,
 }
 
 /// The operand of a check.
-#[derive(Clone, Copy, Debug, PartialEq, Eq)]
+#[derive(Clone, Copy, Debug)]
 pub enum Operand {
     /// An exact number.
     Number(i128),
@@ -36,7 +36,7 @@ pub enum Operand {
 }
 
 /// What is found of a check.
-#[derive(Clone, Copy, Debug, PartialEq, Eq)]
+#[derive(Clone, Copy)]
 pub enum Judgement {
     Passes,
     /// The kind of the check, and the operand that fails it.

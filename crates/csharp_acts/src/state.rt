@@ -25,7 +25,7 @@ impl Model for State {
 }
 
 /// What became of an action.
-#[derive(Clone, Copy, Debug, PartialEq, Eq)]
+#[derive(Clone, Copy)]
 pub enum Step {
     /// The state is the one behind it.
     Done,
@@ -35,6 +35,17 @@ pub enum Step {
 
 impl State {
     ghost use Rattle.std.specs.Prelude.{slice_get};
+
+    /// The state with these values of temporaries, this memory, and these inputs that are left.
+    pub fn new(temps: Vec<Value>, memory: ObjectMemory, inputs: VecDeque<i128>) -> State
+        ensures { result ≡ record { temps = temps.items; memory = memory; inputs = inputs.items } }
+    {
+        State {
+            temps,
+            memory,
+            inputs,
+        }
+    }
 
     /// What stands in a temporary; none where there is no such temporary.
     pub fn temp(&self, temp: u64) -> Option<Value>

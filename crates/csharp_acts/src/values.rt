@@ -1,13 +1,14 @@
 // Values of expressions.
 #![tactic(auto, using(csharp::proofs::CodeTrees::the_code_trees))]
 
-ghost use Rattle.std.specs.Prelude.{◌≡◌, IfOk, option_and_then};
+ghost use Rattle.std.specs.Prelude.{◌≡◌, IfOk, is_err, option_and_then};
 ghost use Rattle.c_values.specs.Values.{converted_to};
 ghost use Rattle.c_objects.specs.Opening as opening;
 ghost use Rattle.csharp.specs.Trees.{csexpr_tree};
 ghost use Rattle.csharp.specs.States.{value_of};
+ghost use Rattle.csharp_acts.specs.Unheld.{unheld};
 
-use crate::error::Unanswered;
+use crate::error::Unheld;
 use crate::operators::{taken_value, unary_value};
 use crate::state::State;
 use block_mem::{Scalar, Value};
@@ -18,8 +19,9 @@ use csharp::CsExpr;
 impl State {
     /// The value of an expression; none where an object that it names does not live, an operand is not of its
     /// operator's type, a divisor is 0, or an amount is not below the width.
-    pub fn value(&self, expr: &CsExpr) -> Result<Option<Value>, Unanswered>
-        ensures { IfOk result (λ v. v ≡ value_of (csexpr_tree expr.now) self.now) }
+    pub fn value(&self, expr: &CsExpr) -> Result<Option<Value>, Unheld>
+        ensures is { IfOk result (λ v. v ≡ value_of (csexpr_tree expr.now) self.now) }
+        ensures unheld { is_err result ≡ unheld (csexpr_tree expr.now) self.now }
     {
         match expr {
             CsExpr::Const { ty, value } => Ok(Some(Value::Int(*ty, *value))),

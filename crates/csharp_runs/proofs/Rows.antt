@@ -1,6 +1,6 @@
 -- Items one by one.
 use Rattle.std.proofs.Common.{◌≡◌, ℕ, suc, ◌+◌, ◌<◌, ◌≤◌, Bool, true, false, List, ◌∷◌, length, get_or, drop, refl, sym, ap, ◌∙◌, arith, Option, Some, None}
-use Rattle.std.specs.Prelude.{IfOk, Result, Ok, Err}
+use Rattle.std.specs.Prelude.{◌||◌, IfOk, Result, Ok, Err}
 use Rattle.std.proofs.Math.Seq.{drop-cons}
 use Rattle.std.proofs.lemmas.List.{drop_all}
 use Rattle.csharp.specs.declared.statement.CsStmt.{CsStmt}
@@ -9,6 +9,7 @@ use Rattle.csharp.specs.States.{State}
 use Rattle.csharp.specs.Outcomes.{Outcome, Normal, then_do}
 use Rattle.csharp.specs.Meaning.{Mark, bounded_exec, has, is_mark}
 use Rattle.csharp.proofs.CodeTrees.{csstmts_cons, csstmts_nil}
+use Rattle.csharp_runs.specs.Meets.{behind_normal, comes_past, met_row}
 use Rattle.csharp_runs.specs.Stages.{behind, row}
 
 rest_of : (list : List CsStmt) (i : ℕ) (item : CsStmt) → i < length list → item ≡ get_or list i item
@@ -79,6 +80,56 @@ module _ (over : ℕ → Bool) (q : CsProgramTree) (fuel : ℕ) (list : List CsS
       → row over q fuel from (csstmts_from (drop i list)) s ≡ all → o ≡ all
   left_done o is done stays same =
       sym (row_left over q fuel list i item s o h e done stays) ∙ ap (λ x. row over q fuel x (csstmts_from (drop i list)) s) (sym is) ∙ same
+
+-- what is met behind a mark, in an item, or behind one that was done
+module _ (over : ℕ → Bool) (q : CsProgramTree) (fuel : ℕ) (list : List CsStmt) (i : ℕ) (item : CsStmt) (h : i < length list)
+    (e : item ≡ get_or list i item) (all : Bool) (from next : Option Mark) (s t : State) where
+  pub past_marked : (m : Mark) → t ≡ s → next ≡ behind m (csstmt_tree item) → from ≡ Some m
+      → met_row over q fuel from (csstmts_from (drop i list)) s ≡ all → met_row over q fuel next (csstmts_from (drop (i + 1) list)) t ≡ all
+  past_marked m at to is same =
+      ap (λ u. met_row over q fuel next (csstmts_from (drop (i + 1) list)) u) at ∙ ap (λ x. met_row over q fuel x (csstmts_from (drop (i + 1) list)) s) to
+      ∙ sym (ap (λ (rows : CsStmtTrees). met_row over q fuel (Some m) rows s) (rest_of list i item h e))
+      ∙ ap (λ x. met_row over q fuel x (csstmts_from (drop i list)) s) (sym is) ∙ same
+
+  here : from ≡ None → met_row over q fuel from (csstmts_from (drop i list)) s
+      ≡ comes_past over q fuel (csstmt_tree item) s
+      || behind_normal (bounded_exec over q fuel (csstmt_tree item) s) (λ u. met_row over q fuel None (csstmts_from (drop (i + 1) list)) u)
+  here is =
+      ap (λ x. met_row over q fuel x (csstmts_from (drop i list)) s) is
+      ∙ ap (λ (rows : CsStmtTrees). met_row over q fuel None rows s) (rest_of list i item h e)
+
+  behind_item : from ≡ None → comes_past over q fuel (csstmt_tree item) s ≡ false → met_row over q fuel from (csstmts_from (drop i list)) s
+      ≡ behind_normal (bounded_exec over q fuel (csstmt_tree item) s) (λ u. met_row over q fuel None (csstmts_from (drop (i + 1) list)) u)
+  behind_item is unmet =
+      here is
+      ∙ ap (λ b. b || behind_normal (bounded_exec over q fuel (csstmt_tree item) s) (λ u. met_row over q fuel None (csstmts_from (drop (i + 1) list)) u)) unmet
+
+  pub past_item : from ≡ None → comes_past over q fuel (csstmt_tree item) s ≡ true → met_row over q fuel from (csstmts_from (drop i list)) s ≡ all → all ≡ true
+  past_item is met same =
+      sym same ∙ here is
+      ∙ ap (λ b. b || behind_normal (bounded_exec over q fuel (csstmt_tree item) s) (λ u. met_row over q fuel None (csstmts_from (drop (i + 1) list)) u)) met
+
+  pub past_done : (u : State) → t ≡ u → next ≡ None → from ≡ None → comes_past over q fuel (csstmt_tree item) s ≡ false
+      → Normal u ≡ bounded_exec over q fuel (csstmt_tree item) s → met_row over q fuel from (csstmts_from (drop i list)) s ≡ all
+      → met_row over q fuel next (csstmts_from (drop (i + 1) list)) t ≡ all
+  past_done u at to is unmet done same =
+      ap (λ v. met_row over q fuel next (csstmts_from (drop (i + 1) list)) v) at ∙ ap (λ x. met_row over q fuel x (csstmts_from (drop (i + 1) list)) u) to
+      ∙ ap (λ x. behind_normal x (λ v. met_row over q fuel None (csstmts_from (drop (i + 1) list)) v)) done ∙ sym (behind_item is unmet) ∙ same
+
+  pub past_left : (o : Outcome) → from ≡ None → comes_past over q fuel (csstmt_tree item) s ≡ false → o ≡ bounded_exec over q fuel (csstmt_tree item) s
+      → ((go : State → Bool) → behind_normal o go ≡ false) → met_row over q fuel from (csstmts_from (drop i list)) s ≡ all → all ≡ false
+  past_left o is unmet done stays same =
+      sym same ∙ behind_item is unmet ∙ ap (λ x. behind_normal x (λ v. met_row over q fuel None (csstmts_from (drop (i + 1) list)) v)) (sym done)
+      ∙ stays (λ v. met_row over q fuel None (csstmts_from (drop (i + 1) list)) v)
+
+nothing_met : (over : ℕ → Bool) (q : CsProgramTree) (fuel : ℕ) (from : Option Mark) (s : State) → met_row over q fuel from none s ≡ false
+nothing_met over q fuel None s = refl
+nothing_met over q fuel (Some m) s = refl
+
+pub past_all : (over : ℕ → Bool) (q : CsProgramTree) (fuel : ℕ) (list : List CsStmt) (i : ℕ) (from : Option Mark) (s : State) → length list ≤ i
+    → met_row over q fuel from (csstmts_from (drop i list)) s ≡ false
+past_all over q fuel list i from s h =
+    ap (λ (rows : CsStmtTrees). met_row over q fuel from rows s) (no_rest list i h) ∙ nothing_met over q fuel from s
 
 -- what follows of an answer Ok
 pub if_ok : {A E : Type 0} (r : Result A E) (P Q : A → Type 0) → ((a : A) → P a → Q a) → IfOk r P → IfOk r Q

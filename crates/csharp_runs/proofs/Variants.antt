@@ -36,15 +36,30 @@ pub no_action : (a : CsStmt) → IsAction (csstmt_tree a)
     → ((temp : ℕ) (ty : IntType) → a ≡ stmts.Input temp ty → ⊥)
     → ((check : CsCheck) → a ≡ stmts.Checked check → ⊥)
     → ((condition : CsExpr) → a ≡ stmts.Assume condition → ⊥)
-    → ((value : Option CsExpr) → a ≡ stmts.Return value → ⊥) → ⊥
+    → ((value : Option CsExpr) → a ≡ stmts.Return value → ⊥)
+    → ((level : ℕ) → a ≡ stmts.Exit level → ⊥)
+    → ((label : ℕ) → a ≡ stmts.Goto label → ⊥)
+    → (a ≡ stmts.Nothing → ⊥)
+    → (a ≡ stmts.Default → ⊥)
+    → ((at : Pos) (label : ℕ) → a ≡ stmts.Label at label → ⊥)
+    → ((value : ℤ) → a ≡ stmts.Case value → ⊥) → ⊥
 unfolding csstmt_tree
-no_action (stmts.Set temp value) h set load store copy undefine input checked assume return = set temp value refl
-no_action (stmts.Load temp ty address) h set load store copy undefine input checked assume return = load temp ty address refl
-no_action (stmts.Store ty address value) h set load store copy undefine input checked assume return = store ty address value refl
-no_action (stmts.CopyBytes size to from) h set load store copy undefine input checked assume return = copy size to from refl
-no_action (stmts.Undefine object) h set load store copy undefine input checked assume return = undefine object refl
-no_action (stmts.Input temp ty) h set load store copy undefine input checked assume return = input temp ty refl
-no_action (stmts.Checked check) h set load store copy undefine input checked assume return = checked check refl
-no_action (stmts.Assume condition) h set load store copy undefine input checked assume return = assume condition refl
-no_action (stmts.Return value) h set load store copy undefine input checked assume return = return value refl
-no_action _ h set load store copy undefine input checked assume return = h
+no_action (stmts.Set temp value) h set load store copy undefine input checked assume return exit goto nothing default label case = set temp value refl
+no_action (stmts.Load temp ty address) h set load store copy undefine input checked assume return exit goto nothing default label case =
+    load temp ty address refl
+no_action (stmts.Store ty address value) h set load store copy undefine input checked assume return exit goto nothing default label case =
+    store ty address value refl
+no_action (stmts.CopyBytes size to from) h set load store copy undefine input checked assume return exit goto nothing default label case =
+    copy size to from refl
+no_action (stmts.Undefine object) h set load store copy undefine input checked assume return exit goto nothing default label case = undefine object refl
+no_action (stmts.Input temp ty) h set load store copy undefine input checked assume return exit goto nothing default label case = input temp ty refl
+no_action (stmts.Checked check) h set load store copy undefine input checked assume return exit goto nothing default label case = checked check refl
+no_action (stmts.Assume condition) h set load store copy undefine input checked assume return exit goto nothing default label case = assume condition refl
+no_action (stmts.Return value) h set load store copy undefine input checked assume return exit goto nothing default label case = return value refl
+no_action (stmts.Exit level) h set load store copy undefine input checked assume return exit goto nothing default label case = exit level refl
+no_action (stmts.Goto to) h set load store copy undefine input checked assume return exit goto nothing default label case = goto to refl
+no_action stmts.Nothing h set load store copy undefine input checked assume return exit goto nothing default label case = nothing refl
+no_action stmts.Default h set load store copy undefine input checked assume return exit goto nothing default label case = default refl
+no_action (stmts.Label at named) h set load store copy undefine input checked assume return exit goto nothing default label case = label at named refl
+no_action (stmts.Case value) h set load store copy undefine input checked assume return exit goto nothing default label case = case value refl
+no_action _ h set load store copy undefine input checked assume return exit goto nothing default label case = h

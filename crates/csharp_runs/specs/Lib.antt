@@ -1,3 +1,5 @@
 pub mod Told
 pub mod Shapes
 pub mod Stages
+pub mod Meets
+pub mod Beginning

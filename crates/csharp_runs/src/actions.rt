@@ -5,7 +5,10 @@ ghost use Rattle.std.specs.Prelude.{◌≡◌, IfOk, OnOk, ℕ, Bool, option_map
 ghost use Rattle.csharp.specs.Trees.{cscheck_tree, csexpr_tree, csprogram_tree, csstmt_tree};
 ghost use Rattle.csharp.specs.Trees as trees;
 ghost use Rattle.csharp.specs.Meaning.{Anew, Later, level};
+ghost use Rattle.csharp_acts.specs.Answers.{GivesUp};
 ghost use Rattle.csharp_acts.specs.Belongs.{Belongs};
+ghost use Rattle.csharp_acts.specs.Unheld.{unheld, unheld_check};
+ghost use Rattle.csharp_runs.specs.Meets.{unheld_action};
 ghost use Rattle.csharp_runs.specs.Shapes.{IsAction};
 ghost use Rattle.csharp_runs.specs.Told.{told};
 
@@ -28,6 +31,7 @@ pub fn act(
     ensures told { IfOk result (λ o. (over : ℕ → Bool) (later : Later)
         → told o state.new ≡ level over (csprogram_tree program.now) later Anew (csstmt_tree stmt.now) state.old) }
     ensures objects { OnOk result (Belongs (csprogram_tree program.now).objects state.new.memory) }
+    ensures past { GivesUp result (unheld_action (csstmt_tree stmt.now) state.old) }
 {
     match stmt {
         CsStmt::Set { temp, value } => Ok(stuck_unless(state.set(*temp, value)?)),
@@ -43,6 +47,10 @@ pub fn act(
         CsStmt::Checked { check } => judge(alloc, program, check, state),
         CsStmt::Assume { condition } => assume(condition, state),
         CsStmt::Return { value } => leave(value, state),
+        CsStmt::Exit { level } => Ok(Outcome::Leaves(Way::Exit(*level))),
+        CsStmt::Goto { label } => Ok(Outcome::Leaves(Way::Goto(*label))),
+        CsStmt::Nothing | CsStmt::Default => Ok(Outcome::Normal),
+        CsStmt::Label { .. } | CsStmt::Case { .. } => Ok(Outcome::Normal),
         _ => unreachable!(),
     }
 }
@@ -55,8 +63,9 @@ fn judge(
     state: &State,
 ) -> Result<Outcome, Unanswered>
     requires { Belongs (csprogram_tree program.now).objects state.now.memory }
-    ensures { IfOk result (λ o. (over : ℕ → Bool) (later : Later)
+    ensures told { IfOk result (λ o. (over : ℕ → Bool) (later : Later)
         → told o state.now ≡ level over (csprogram_tree program.now) later Anew (trees.Checked (cscheck_tree check.now)) state.now) }
+    ensures past { GivesUp result (unheld_check (cscheck_tree check.now) state.now) }
 {
     match state.judge(program.objects.as_slice(), check)? {
         Judgement::Passes => Ok(Outcome::Normal),
@@ -72,8 +81,9 @@ fn judge(
 
 // An assumption.
 fn assume(condition: &CsExpr, state: &State) -> Result<Outcome, Unanswered>
-    ensures { IfOk result (λ o. (over : ℕ → Bool) (q : trees.CsProgramTree) (later : Later)
+    ensures told { IfOk result (λ o. (over : ℕ → Bool) (q : trees.CsProgramTree) (later : Later)
         → told o state.now ≡ level over q later Anew (trees.Assume (csexpr_tree condition.now)) state.now) }
+    ensures past { GivesUp result (unheld (csexpr_tree condition.now) state.now) }
 {
     match state.value(condition)? {
         Some(v) => Ok(if truth(v) {
@@ -87,8 +97,9 @@ fn assume(condition: &CsExpr, state: &State) -> Result<Outcome, Unanswered>
 
 // A return.
 fn leave(value: &Option<CsExpr>, state: &State) -> Result<Outcome, Unanswered>
-    ensures { IfOk result (λ o. (over : ℕ → Bool) (q : trees.CsProgramTree) (later : Later)
+    ensures told { IfOk result (λ o. (over : ℕ → Bool) (q : trees.CsProgramTree) (later : Later)
         → told o state.now ≡ level over q later Anew (trees.Return (option_map csexpr_tree value.now)) state.now) }
+    ensures past { GivesUp result (unheld_action (trees.Return (option_map csexpr_tree value.now)) state.now) }
 {
     match value {
         None => Ok(Outcome::Leaves(Way::Return(None))),

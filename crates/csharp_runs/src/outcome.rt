@@ -12,7 +12,8 @@ ghost use Rattle.csharp_runs.specs.Told.{told};
 use block_mem::Value;
 use c_syntax::{Places, Pos, WrongKind};
 use csharp::CsCall;
-use csharp_acts::{Operand, State, Step, Unanswered};
+use csharp_acts::{Operand, State, Step};
+use std::alloc::AllocError as NoMemory;
 
 /// How a statement leaves what is around it.
 #[derive(Clone, Copy, Debug, PartialEq, Eq)]
@@ -124,7 +125,7 @@ pub fn at_scope(names: &[u64], outcome: Outcome, state: &mut State) -> Outcome
 
 /// The end of a call: what it gives goes into its temporaries, and what failed has its place in front of
 /// the chain.
-pub fn at_call(call: &CsCall, outcome: Outcome, state: &mut State) -> Result<Outcome, Unanswered>
+pub fn at_call(call: &CsCall, outcome: Outcome, state: &mut State) -> Result<Outcome, NoMemory>
     ensures told { IfOk result (λ o. told o state.new ≡ outcomes.at_call (cscall_tree call.now) (told outcome state.old)) }
     ensures memory { OnOk result (state.new.memory ≡ state.old.memory) }
 {
@@ -144,7 +145,7 @@ pub fn at_call(call: &CsCall, outcome: Outcome, state: &mut State) -> Result<Out
 }
 
 // A failure in a function that was called at a place.
-fn called_at(pos: Pos, failure: Failure) -> Result<Failure, Unanswered>
+fn called_at(pos: Pos, failure: Failure) -> Result<Failure, NoMemory>
     ensures { IfOk result (λ f. f ≡ record failure { chain = pos ∷ failure.chain }) }
 {
     let Failure {

@@ -1,13 +1,16 @@
 // Statements with others in them, and calls.
 #![tactic(auto, using(csharp::proofs::CodeTrees::the_code_trees))]
 
-ghost use Rattle.std.specs.Prelude.{◌≡◌, ◌<◌, All, IfOk, OnOk, false, length, option_map, true};
+ghost use Rattle.std.specs.Prelude.{◌≡◌, ◌<◌, All, Bool, IfNone, IfOk, OnOk, false, length, option_map, true};
 ghost use Rattle.csharp.specs.Trees.{cscall_tree, csexpr_tree, csprogram_tree, csstmt_tree, csstmts_from, csstmts_tree};
 ghost use Rattle.csharp.specs.Trees as trees;
 ghost use Rattle.csharp.specs.States as states;
 ghost use Rattle.csharp.specs.Meaning.{bounded_exec};
 ghost use Rattle.csharp.specs.Outcomes as outcomes;
+ghost use Rattle.csharp_acts.specs.Answers.{GivesUp};
 ghost use Rattle.csharp_acts.specs.Belongs.{Belongs};
+ghost use Rattle.csharp_runs.specs.Meets.{comes_past, met_by_gotos, met_in_scope, met_row};
+ghost use Rattle.csharp_runs.specs.Meets as meets;
 ghost use Rattle.csharp_runs.specs.Stages.{IsLanding, behind, catching, row, scoped};
 ghost use Rattle.csharp_runs.specs.Told.{mark_of, over_of, told};
 
@@ -34,23 +37,16 @@ pub fn exec(
     ensures told { IfOk result (λ o. told o state.new
         ≡ bounded_exec (over_of limits.turns) (csprogram_tree program.now) limits.fuel (csstmt_tree stmt.now) state.old) }
     ensures objects { OnOk result (Belongs (csprogram_tree program.now).objects state.new.memory) }
+    ensures past { GivesUp result (comes_past (over_of limits.turns) (csprogram_tree program.now) limits.fuel (csstmt_tree stmt.now) state.old) }
 {
     match stmt {
-        CsStmt::Nothing => Ok(Outcome::Normal),
-        CsStmt::Label { .. } => Ok(Outcome::Normal),
-        CsStmt::Case { .. } => Ok(Outcome::Normal),
-        CsStmt::Default => Ok(Outcome::Normal),
-        CsStmt::Exit { level } => Ok(Outcome::Leaves(Way::Exit(*level))),
-        CsStmt::Goto { label } => Ok(Outcome::Leaves(Way::Goto(*label))),
-        CsStmt::Set { .. } => act(alloc, program, stmt, state),
-        CsStmt::Load { .. } => act(alloc, program, stmt, state),
-        CsStmt::Store { .. } => act(alloc, program, stmt, state),
-        CsStmt::CopyBytes { .. } => act(alloc, program, stmt, state),
-        CsStmt::Undefine { .. } => act(alloc, program, stmt, state),
-        CsStmt::Checked { .. } => act(alloc, program, stmt, state),
-        CsStmt::Input { .. } => act(alloc, program, stmt, state),
-        CsStmt::Assume { .. } => act(alloc, program, stmt, state),
-        CsStmt::Return { .. } => act(alloc, program, stmt, state),
+        CsStmt::Nothing | CsStmt::Default | CsStmt::Set { .. } => act(alloc, program, stmt, state),
+        CsStmt::Load { .. } | CsStmt::Store { .. } => act(alloc, program, stmt, state),
+        CsStmt::CopyBytes { .. } | CsStmt::Undefine { .. } => act(alloc, program, stmt, state),
+        CsStmt::Checked { .. } | CsStmt::Input { .. } => act(alloc, program, stmt, state),
+        CsStmt::Assume { .. } | CsStmt::Return { .. } => act(alloc, program, stmt, state),
+        CsStmt::Exit { .. } | CsStmt::Goto { .. } => act(alloc, program, stmt, state),
+        CsStmt::Label { .. } | CsStmt::Case { .. } => act(alloc, program, stmt, state),
         CsStmt::Sequence { first, second } => {
             exec_sequence(alloc, program, limits, first, second, state)
         }
@@ -86,6 +82,8 @@ fn exec_sequence(
     ensures told { IfOk result (λ o. told o state.new ≡ bounded_exec (over_of limits.turns) (csprogram_tree program.now) limits.fuel
         (trees.Sequence (csstmt_tree first.now) (csstmt_tree second.now)) state.old) }
     ensures objects { OnOk result (Belongs (csprogram_tree program.now).objects state.new.memory) }
+    ensures past { GivesUp result (comes_past (over_of limits.turns) (csprogram_tree program.now) limits.fuel
+        (trees.Sequence (csstmt_tree first.now) (csstmt_tree second.now)) state.old) }
 {
     match exec(alloc, program, limits, first, state)? {
         Outcome::Normal => exec(alloc, program, limits, second, state),
@@ -107,6 +105,8 @@ fn exec_if(
     ensures told { IfOk result (λ o. told o state.new ≡ bounded_exec (over_of limits.turns) (csprogram_tree program.now) limits.fuel
         (trees.If (csexpr_tree condition.now) (csstmt_tree then.now) (csstmt_tree otherwise.now)) state.old) }
     ensures objects { OnOk result (Belongs (csprogram_tree program.now).objects state.new.memory) }
+    ensures past { GivesUp result (comes_past (over_of limits.turns) (csprogram_tree program.now) limits.fuel
+        (trees.If (csexpr_tree condition.now) (csstmt_tree then.now) (csstmt_tree otherwise.now)) state.old) }
 {
     match state.value(condition)? {
         Some(v) => if truth(v) {
@@ -131,6 +131,8 @@ fn exec_loop(
     ensures told { IfOk result (λ o. (at : Pos) → told o state.new ≡ bounded_exec (over_of limits.turns) (csprogram_tree program.now) limits.fuel
         (trees.Loop at (csstmt_tree body.now)) state.old) }
     ensures objects { OnOk result (Belongs (csprogram_tree program.now).objects state.new.memory) }
+    ensures past { (at : Pos) → GivesUp result (comes_past (over_of limits.turns) (csprogram_tree program.now) limits.fuel
+        (trees.Loop at (csstmt_tree body.now)) state.old) }
 {
     let mut left = limits;
     let mut turns = 0;
@@ -162,6 +164,7 @@ fn exec_block(
     ensures told { IfOk result (λ o. told o state.new ≡ bounded_exec (over_of limits.turns) (csprogram_tree program.now) limits.fuel
         (trees.Block (csstmt_tree body.now)) state.old) }
     ensures objects { OnOk result (Belongs (csprogram_tree program.now).objects state.new.memory) }
+    ensures past { GivesUp result (comes_past (over_of limits.turns) (csprogram_tree program.now) limits.fuel (trees.Block (csstmt_tree body.now)) state.old) }
 {
     let outcome = exec(alloc, program, limits, body, state)?;
     Ok(at_block(outcome))
@@ -182,6 +185,8 @@ fn exec_scope(
     ensures told { IfOk result (λ o. told o state.new ≡ scoped (over_of limits.turns) (csprogram_tree program.now) limits.fuel objects.now
         (option_map mark_of from) (csstmts_tree list.now) state.old) }
     ensures objects { OnOk result (Belongs (csprogram_tree program.now).objects state.new.memory) }
+    ensures past { GivesUp result (met_in_scope (over_of limits.turns) (csprogram_tree program.now) limits.fuel objects.now
+        (option_map mark_of from) (csstmts_tree list.now) state.old) }
 {
     let names = objects.as_slice();
     if !state.are_free(names) {
@@ -209,6 +214,8 @@ fn exec_switch(
     ensures told { IfOk result (λ o. told o state.new ≡ bounded_exec (over_of limits.turns) (csprogram_tree program.now) limits.fuel
         (trees.Switch (csexpr_tree value.now) objects.now (csstmts_tree list.now)) state.old) }
     ensures objects { OnOk result (Belongs (csprogram_tree program.now).objects state.new.memory) }
+    ensures past { GivesUp result (comes_past (over_of limits.turns) (csprogram_tree program.now) limits.fuel
+        (trees.Switch (csexpr_tree value.now) objects.now (csstmts_tree list.now)) state.old) }
 {
     match state.value(value)? {
         Some(v) => match chosen(v, list.as_slice()) {
@@ -233,6 +240,8 @@ fn exec_items(
     ensures told { IfOk result (λ o. told o state.new ≡ catching (over_of limits.turns) (csprogram_tree program.now) limits.fuel
         (option_map mark_of from) (csstmts_from list.now) state.old) }
     ensures objects { OnOk result (Belongs (csprogram_tree program.now).objects state.new.memory) }
+    ensures past { GivesUp result (met_by_gotos (over_of limits.turns) (csprogram_tree program.now) limits.fuel
+        (option_map mark_of from) (csstmts_from list.now) state.old) }
 {
     let mut left = limits;
     let mut from = from;
@@ -263,6 +272,8 @@ fn exec_row(
     ensures told { IfOk result (λ o. told o state.new ≡ row (over_of limits.turns) (csprogram_tree program.now) limits.fuel
         (option_map mark_of from) (csstmts_from list.now) state.old) }
     ensures objects { OnOk result (Belongs (csprogram_tree program.now).objects state.new.memory) }
+    ensures past { GivesUp result (met_row (over_of limits.turns) (csprogram_tree program.now) limits.fuel
+        (option_map mark_of from) (csstmts_from list.now) state.old) }
 {
     let mut from = from;
     for item in list {
@@ -292,6 +303,7 @@ fn exec_call(
     ensures told { IfOk result (λ o. told o state.new ≡ bounded_exec (over_of limits.turns) (csprogram_tree program.now) limits.fuel
         (trees.Call (cscall_tree call.now)) state.old) }
     ensures objects { OnOk result (Belongs (csprogram_tree program.now).objects state.new.memory) }
+    ensures past { GivesUp result (comes_past (over_of limits.turns) (csprogram_tree program.now) limits.fuel (trees.Call (cscall_tree call.now)) state.old) }
 {
     let Some(function) = program.functions.as_slice().get(call.function as usize) else {
         return Ok(Outcome::Stuck);
@@ -306,7 +318,7 @@ fn exec_call(
                 turns: limits.turns,
             };
             let outcome = exec(alloc, program, less, &function.body, state)?;
-            at_call(call, outcome, state)
+            Ok(at_call(call, outcome, state)?)
         }
         Step::Barred => Ok(Outcome::Stuck),
     }
@@ -325,6 +337,7 @@ fn is_over(bound: Option<u64>, turns: u64) -> bool
 fn is_normal(outcome: &Outcome) -> bool
     ensures normal { result ≡ true → outcome.now ≡ Outcome.Normal }
     ensures other { result ≡ false → (s : states.State) (next : states.State → outcomes.Outcome) → outcomes.then_do (told outcome.now s) next ≡ told outcome.now s }
+    ensures last { result ≡ false → (s : states.State) (next : states.State → Bool) → meets.behind_normal (told outcome.now s) next ≡ false }
 {
     match outcome {
         Outcome::Normal => true,
@@ -334,7 +347,8 @@ fn is_normal(outcome: &Outcome) -> bool
 
 // The label of these items to which a goto comes back.
 fn landing(outcome: &Outcome, list: &[CsStmt]) -> Option<u64>
-    ensures { IsLanding result outcome.now (csstmts_from list.now) }
+    ensures lands { IsLanding result outcome.now (csstmts_from list.now) }
+    ensures last { IfNone result ((less : meets.Less) (s : states.State) → meets.behind_goto less (csstmts_from list.now) (told outcome.now s) ≡ false) }
 {
     match outcome {
         Outcome::Leaves(Way::Goto(label)) if has(Mark::Label(*label), list) => Some(*label),
@@ -355,7 +369,8 @@ fn behind(mark: Mark, item: &CsStmt) -> Option<Mark>
 
 // The program has each of the objects.
 fn are_there(objects: &Objects, names: &[u64]) -> bool
-    ensures { result ≡ true → All (λ name. name < length objects.now) names.now }
+    ensures test { (q : trees.CsProgramTree) → length q.objects ≡ length objects.now → result ≡ meets.are_there q names.now }
+    ensures there { result ≡ true → All (λ name. name < length objects.now) names.now }
 {
     let count = objects.as_slice().len() as u64;
     for name in names {

@@ -2,9 +2,12 @@
 
 ghost use Rattle.std.specs.Prelude.{◌≡◌, IfOk};
 ghost use Rattle.csharp.specs.Trees.{csprogram_tree};
+ghost use Rattle.csharp_acts.specs.Answers.{GivesUp};
+ghost use Rattle.csharp_runs.specs.Meets.{run_comes_past};
 ghost use Rattle.csharp_runs.specs.Stages.{main_of};
 ghost use Rattle.csharp_runs.specs.Told.{over_of, told};
 
+use crate::first::first_state;
 use crate::outcome::{Limits, Outcome};
 use crate::runs::exec;
 use csharp::CsProgram;
@@ -18,9 +21,10 @@ pub fn run(
     limits: Limits,
     inputs: &[i128],
 ) -> Result<(Outcome, State), Unanswered>
-    ensures { IfOk result (λ end. told end.0 end.1 ≡ main_of (over_of limits.turns) (csprogram_tree program.now) limits.fuel inputs.now) }
+    ensures told { IfOk result (λ end. told end.0 end.1 ≡ main_of (over_of limits.turns) (csprogram_tree program.now) limits.fuel inputs.now) }
+    ensures past { GivesUp result (run_comes_past (over_of limits.turns) (csprogram_tree program.now) limits.fuel inputs.now) }
 {
-    let mut state = State::first(alloc, program, inputs)?;
+    let mut state = first_state(alloc, program, inputs)?;
     match program.functions.as_slice().get(program.main as usize) {
         Some(main) => {
             let outcome = exec(alloc, program, limits, &main.body, &mut state)?;

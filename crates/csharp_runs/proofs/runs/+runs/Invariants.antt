@@ -6,6 +6,7 @@ use Rattle.csharp.specs.Trees as trees
 use Rattle.csharp.specs.Sizes.{csstmt_size, csstmts_size}
 use Rattle.csharp.specs.Meaning.{Turn, bounded_exec, later_by, level}
 use Rattle.csharp_acts.specs.Belongs.{Belongs}
+use Rattle.csharp_runs.specs.Meets.{comes_past, less_by, meets, met_by_gotos, met_row}
 use Rattle.csharp_runs.specs.Stages.{catching, row}
 use Rattle.csharp_runs.specs.Told.{mark_of, over_of}
 use Rattle.csharp_runs.proofs.Fuel.{worth}
@@ -52,6 +53,9 @@ invariant-exec_loop-loop-alloc l = record {
   same : (at : Pos) → level (over_of l.limits.turns) (csprogram_tree l.program) (later_by (over_of l.limits.turns) (csprogram_tree l.program) l.left.fuel)
       (Turn l.turns) (trees.Loop at (csstmt_tree l.body)) l.state
       ≡ bounded_exec (over_of l.limits.turns) (csprogram_tree l.program) l.limits.fuel (trees.Loop at (csstmt_tree l.body)) l.fn.state;
+  past : (at : Pos) → meets (over_of l.limits.turns) (csprogram_tree l.program) (later_by (over_of l.limits.turns) (csprogram_tree l.program) l.left.fuel)
+      (less_by (over_of l.limits.turns) (csprogram_tree l.program) l.left.fuel) (Turn l.turns) (trees.Loop at (csstmt_tree l.body)) l.state
+      ≡ comes_past (over_of l.limits.turns) (csprogram_tree l.program) l.limits.fuel (trees.Loop at (csstmt_tree l.body)) l.fn.state;
 }
 
 abbrev pub decreases-exec_loop-loop-alloc : goal.decreases-exec_loop-loop-alloc
@@ -65,6 +69,8 @@ invariant-exec_items-loop-outcome l = record {
   objects : Belongs (csprogram_tree l.program).objects l.state.memory;
   same : catching (over_of l.fn.limits.turns) (csprogram_tree l.program) l.left.fuel (option_map mark_of l.from) (csstmts_from l.list) l.state
       ≡ catching (over_of l.fn.limits.turns) (csprogram_tree l.program) l.fn.limits.fuel (option_map mark_of l.fn.from) (csstmts_from l.list) l.fn.state;
+  past : met_by_gotos (over_of l.fn.limits.turns) (csprogram_tree l.program) l.left.fuel (option_map mark_of l.from) (csstmts_from l.list) l.state
+      ≡ met_by_gotos (over_of l.fn.limits.turns) (csprogram_tree l.program) l.fn.limits.fuel (option_map mark_of l.fn.from) (csstmts_from l.list) l.fn.state;
 }
 
 abbrev pub decreases-exec_items-loop-outcome : goal.decreases-exec_items-loop-outcome
@@ -75,4 +81,6 @@ invariant-exec_row-loop-item l = record {
   objects : Belongs (csprogram_tree l.program).objects l.state.memory;
   same : row (over_of l.limits.turns) (csprogram_tree l.program) l.limits.fuel (option_map mark_of l.from) (csstmts_from (drop l.item-index l.list)) l.state
       ≡ row (over_of l.limits.turns) (csprogram_tree l.program) l.limits.fuel (option_map mark_of l.fn.from) (csstmts_from l.list) l.fn.state;
+  past : met_row (over_of l.limits.turns) (csprogram_tree l.program) l.limits.fuel (option_map mark_of l.from) (csstmts_from (drop l.item-index l.list)) l.state
+      ≡ met_row (over_of l.limits.turns) (csprogram_tree l.program) l.limits.fuel (option_map mark_of l.fn.from) (csstmts_from l.list) l.fn.state;
 }

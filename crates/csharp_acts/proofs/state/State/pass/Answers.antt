@@ -15,7 +15,7 @@ returns-then-args-params-clause-took c =
 pub put_all-requires : goal.put_all-requires
 put_all-requires c =
     let es = map csexpr_tree c.args.args.now in
-    let vs : Some c.in-Some.values.items ≡ values_of es c.args.self.now = rw c.in-Some.is at c.in_ok-values.ensures in
+    let vs : Some c.in-Some.values.items ≡ values_of es c.args.self.now = rw c.in-Some.is at c.in_ok-values.ensures.are in
     let many = as_many es c.args.self.now c.in-Some.values.items (sym vs) in
     let same = ap length c.as_slice.ensures.value in
     omega (arith, many, same, length-map c.args.args.now csexpr_tree, c.if-args-params.false)
@@ -25,7 +25,7 @@ returns-in-Some-clause-took c =
     let es = map csexpr_tree c.args.args.now in
     let ds = c.args.params.now in
     let s = c.args.self.now in
-    let vs : Some c.in-Some.values.items ≡ values_of es s = rw c.in-Some.is at c.in_ok-values.ensures in
+    let vs : Some c.in-Some.values.items ≡ values_of es s = rw c.in-Some.is at c.in_ok-values.ensures.are in
     let many : length es ≡ length ds = omega (arith, length-map c.args.args.now csexpr_tree, c.if-args-params.false) in
     passed s es ds many s ∙ ap (option_map (λ (us : List Value). put_all ds us s)) (sym vs)
     ∙ ap Some (ap (λ (us : List Value). put_all ds us s) (sym c.as_slice.ensures.value) ∙ sym c.put_all.ensures)
@@ -38,6 +38,6 @@ returns-in-None-clause-took c =
     let es = map csexpr_tree c.args.args.now in
     let ds = c.args.params.now in
     let s = c.args.self.now in
-    let vs : None ≡ values_of es s = rw c.in-None.is at c.in_ok-values.ensures in
+    let vs : None ≡ values_of es s = rw c.in-None.is at c.in_ok-values.ensures.are in
     let many : length es ≡ length ds = omega (arith, length-map c.args.args.now csexpr_tree, c.if-args-params.false) in
     (passed s es ds many s ∙ ap (option_map (λ (us : List Value). put_all ds us s)) (sym vs), refl)

@@ -7,4 +7,4 @@ pub returns-clause-memory : goal.returns-clause-memory
 returns-clause-memory c =
     let at : c.args.self.now.memory ≡ c.self.inside.memory = sym (ap (λ (s : State). s.memory) c.self.view_is) in
     keeps_at c.args.self.now.memory c.self.inside.memory c.initialise.new.self at
-    (belongs_stored c.args.ty c.args.place c.args.v c.self.inside.memory c.initialise.new.self c.initialise.ensures)
+    (belongs_stored c.type_of.result c.args.place c.args.v c.self.inside.memory c.initialise.new.self c.initialise.ensures)

@@ -1,5 +1,5 @@
 use Rattle.std.proofs.Common.{◌≡◌, take}
-use Rattle.csharp_acts.proofs.start.queue.Given as goal
+use Rattle.csharp_runs.proofs.first.queue.Given as goal
 
 abbrev pub invariant-loop-input : goal.invariant-loop-input
 invariant-loop-input l = l.queue.items ≡ take l.input-index l.inputs
