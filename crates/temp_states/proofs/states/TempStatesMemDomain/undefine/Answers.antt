@@ -1,0 +1,9 @@
+use Rattle.temp_states.proofs.Alone.{no_undefine}
+use Rattle.temp_states.proofs.Steps.{undefine_stands}
+use Rattle.temp_states.proofs.states.TempStatesMemDomain.undefine.Goals as goal
+
+pub returns-clause-stands : goal.returns-clause-stands
+returns-clause-stands c = λ s t h g. undefine_stands c.args.self.now.objects c.args.self.now.types c.args.self.now.ranges s t h c.args._object g
+
+pub returns-clause-sharp : goal.returns-clause-sharp
+returns-clause-sharp c = λ s t h g. absurd (no_undefine c.args.self.now.types c.args.self.now.objects c.args.self.now.ranges s h c.args._object t g)
