@@ -1,3 +1,4 @@
 pub mod ArithmeticViews
 pub mod OperandViews
 pub mod StoreViews
+pub mod Forms

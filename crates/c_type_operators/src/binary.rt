@@ -7,15 +7,13 @@ ghost use Rattle.c_syntax.specs.Types as types;
 ghost use Rattle.c_syntax.specs.TypedExpr.{texpr_tree};
 ghost use Rattle.c_syntax.specs.TypedExpr as trees;
 ghost use Rattle.c_syntax.specs.Program.{structdef_tree};
-ghost use Rattle.c_layout.specs.Conversion as conversion;
-ghost use Rattle.c_typing.specs.Operands as operands;
 ghost use Rattle.c_typing.specs.Rows as rows;
+ghost use Rattle.c_type_operators.specs.Forms.{binary_of};
 
-use crate::{as_int, balanced, binary_node, complete_size, is_same_but_const};
-use c_layout::{balance, promote};
-use c_syntax::{
-    Arithmetic, CType, Comparison, IntType, Pos, Shift, StructDefs, TBinaryOp, TExpr, Target,
-};
+use crate::forms::{Form, ints_of, row_of};
+use crate::{complete_size, is_same_but_const};
+use c_layout::balance;
+use c_syntax::{Arithmetic, CType, Comparison, Pos, Shift, StructDefs, TBinaryOp, TExpr, Target};
 use std::alloc::{AllocError as NoMemory, Global};
 use std::rc::Rc;
 
@@ -32,24 +30,18 @@ pub fn arithmetic_row(
     ensures { IfOk result (λ row. option_map texpr_tree row
         ≡ rows.balanced_row (TBinaryOp.Arithmetic op) pos (ctype_tree left.now) (ctype_tree right.now) (texpr_tree a) (texpr_tree b)) }
 {
-    match left {
-        CType::Int(t) => match right {
-            CType::Int(u) => {
-                let op = TBinaryOp::Arithmetic(op, balance(*t, *u));
-                let node = balanced(alloc, pos, op, (*t, a), (*u, b))?;
-                Ok(Some(node))
-            }
-            CType::Void
-            | CType::Pointer(_)
-            | CType::Array(_, _)
-            | CType::Struct(_)
-            | CType::Function(_) => Ok(None),
-        },
-        CType::Void
-        | CType::Pointer(_)
-        | CType::Array(_, _)
-        | CType::Struct(_)
-        | CType::Function(_) => Ok(None),
+    let form = arithmetic_form(op, left, right);
+    let row = row_of(alloc, pos, form, a, b)?;
+    Ok(row)
+}
+
+fn arithmetic_form(op: Arithmetic, left: &CType, right: &CType) -> Option<Form>
+    ensures { (at : Pos) (a b : trees.TExprTree) → option_map (λ f. binary_of f at a b) result
+        ≡ rows.balanced_row (TBinaryOp.Arithmetic op) at (ctype_tree left.now) (ctype_tree right.now) a b }
+{
+    match ints_of(left, right) {
+        Some((t, u)) => Some(Form::Balanced(TBinaryOp::Arithmetic(op, balance(t, u)), t, u)),
+        None => None,
     }
 }
 
@@ -66,24 +58,23 @@ pub fn comparison_row(
     ensures { IfOk result (λ row. option_map texpr_tree row
         ≡ rows.balanced_row (TBinaryOp.CompareInts comparison) pos (ctype_tree left.now) (ctype_tree right.now) (texpr_tree a) (texpr_tree b)) }
 {
-    match left {
-        CType::Int(t) => match right {
-            CType::Int(u) => {
-                let op = TBinaryOp::CompareInts(comparison, balance(*t, *u));
-                let node = balanced(alloc, pos, op, (*t, a), (*u, b))?;
-                Ok(Some(node))
-            }
-            CType::Void
-            | CType::Pointer(_)
-            | CType::Array(_, _)
-            | CType::Struct(_)
-            | CType::Function(_) => Ok(None),
-        },
-        CType::Void
-        | CType::Pointer(_)
-        | CType::Array(_, _)
-        | CType::Struct(_)
-        | CType::Function(_) => Ok(None),
+    let form = comparison_form(comparison, left, right);
+    let row = row_of(alloc, pos, form, a, b)?;
+    Ok(row)
+}
+
+/// What `comparison_row` makes of values of these types.
+pub(crate) fn comparison_form(comparison: Comparison, left: &CType, right: &CType) -> Option<Form>
+    ensures { (at : Pos) (a b : trees.TExprTree) → option_map (λ f. binary_of f at a b) result
+        ≡ rows.balanced_row (TBinaryOp.CompareInts comparison) at (ctype_tree left.now) (ctype_tree right.now) a b }
+{
+    match ints_of(left, right) {
+        Some((t, u)) => Some(Form::Balanced(
+            TBinaryOp::CompareInts(comparison, balance(t, u)),
+            t,
+            u,
+        )),
+        None => None,
     }
 }
 
@@ -100,42 +91,19 @@ pub fn shift_row(
     ensures { IfOk result (λ row. option_map texpr_tree row
         ≡ rows.shift_row way pos (ctype_tree left.now) (ctype_tree right.now) (texpr_tree a) (texpr_tree b)) }
 {
-    match left {
-        CType::Int(t) => match right {
-            CType::Int(_) => {
-                let node = shifted(alloc, way, pos, *t, a, b)?;
-                Ok(Some(node))
-            }
-            CType::Void
-            | CType::Pointer(_)
-            | CType::Array(_, _)
-            | CType::Struct(_)
-            | CType::Function(_) => Ok(None),
-        },
-        CType::Void
-        | CType::Pointer(_)
-        | CType::Array(_, _)
-        | CType::Struct(_)
-        | CType::Function(_) => Ok(None),
-    }
+    let form = shift_form(way, left, right);
+    let row = row_of(alloc, pos, form, a, b)?;
+    Ok(row)
 }
 
-// A shift of a value of this type.
-fn shifted(
-    alloc: Global,
-    way: Shift,
-    pos: Pos,
-    t: IntType,
-    a: TExpr,
-    b: TExpr,
-) -> Result<TExpr, NoMemory>
-    ensures { IfOk result (λ node. texpr_tree node ≡ trees.Binary pos (TBinaryOp.Shift way (conversion.promoted t))
-        (operands.as_int (conversion.promoted t) t (texpr_tree a)) (texpr_tree b)) }
+fn shift_form(way: Shift, left: &CType, right: &CType) -> Option<Form>
+    ensures { (at : Pos) (a b : trees.TExprTree) → option_map (λ f. binary_of f at a b) result
+        ≡ rows.shift_row way at (ctype_tree left.now) (ctype_tree right.now) a b }
 {
-    let target = promote(t);
-    let a = as_int(alloc, target, t, a)?;
-    let node = binary_node(alloc, pos, TBinaryOp::Shift(way, target), a, b)?;
-    Ok(node)
+    match ints_of(left, right) {
+        Some((t, _)) => Some(Form::Shifted(way, t)),
+        None => None,
+    }
 }
 
 /// `+`: integers, or a pointer to a complete type and an integer, both ways (C11 6.5.6p2).
@@ -151,51 +119,39 @@ pub fn plus_row(
     ensures { IfOk result (λ row. option_map texpr_tree row
         ≡ rows.plus_row (map structdef_tree structs.now) pos (ctype_tree left.now) (ctype_tree right.now) (texpr_tree a) (texpr_tree b)) }
 {
+    let form = plus_form(structs, left, right);
+    let row = row_of(alloc, pos, form, a, b)?;
+    Ok(row)
+}
+
+fn plus_form(structs: &StructDefs, left: &CType, right: &CType) -> Option<Form>
+    ensures { (at : Pos) (a b : trees.TExprTree) → option_map (λ f. binary_of f at a b) result
+        ≡ rows.plus_row (map structdef_tree structs.now) at (ctype_tree left.now) (ctype_tree right.now) a b }
+{
     match left {
         CType::Pointer(to) => match right {
             CType::Int(_) => match complete_size(structs, &to.ty) {
-                None => Ok(None),
-                Some(element) => {
-                    let node = binary_node(
-                        alloc,
-                        pos,
-                        TBinaryOp::PointerPlusInt { element },
-                        a,
-                        b,
-                    )?;
-                    Ok(Some(node))
-                }
+                None => None,
+                Some(element) => Some(Form::Plain(TBinaryOp::PointerPlusInt { element })),
             },
             CType::Void
             | CType::Pointer(_)
             | CType::Array(_, _)
             | CType::Struct(_)
-            | CType::Function(_) => Ok(None),
+            | CType::Function(_) => None,
         },
         CType::Int(_) => match right {
             CType::Pointer(to) => match complete_size(structs, &to.ty) {
-                None => Ok(None),
-                Some(element) => {
-                    let node = binary_node(
-                        alloc,
-                        pos,
-                        TBinaryOp::IntPlusPointer { element },
-                        a,
-                        b,
-                    )?;
-                    Ok(Some(node))
-                }
+                None => None,
+                Some(element) => Some(Form::Plain(TBinaryOp::IntPlusPointer { element })),
             },
             CType::Int(_)
             | CType::Void
             | CType::Array(_, _)
             | CType::Struct(_)
-            | CType::Function(_) => {
-                let row = arithmetic_row(alloc, Arithmetic::Add, pos, left, right, a, b)?;
-                Ok(row)
-            }
+            | CType::Function(_) => arithmetic_form(Arithmetic::Add, left, right),
         },
-        CType::Void | CType::Array(_, _) | CType::Struct(_) | CType::Function(_) => Ok(None),
+        CType::Void | CType::Array(_, _) | CType::Struct(_) | CType::Function(_) => None,
     }
 }
 
@@ -212,57 +168,40 @@ pub fn minus_row(
     ensures { IfOk result (λ row. option_map texpr_tree row
         ≡ rows.minus_row (map structdef_tree structs.now) pos (ctype_tree left.now) (ctype_tree right.now) (texpr_tree a) (texpr_tree b)) }
 {
+    let form = minus_form(structs, left, right);
+    let row = row_of(alloc, pos, form, a, b)?;
+    Ok(row)
+}
+
+fn minus_form(structs: &StructDefs, left: &CType, right: &CType) -> Option<Form>
+    ensures { (at : Pos) (a b : trees.TExprTree) → option_map (λ f. binary_of f at a b) result
+        ≡ rows.minus_row (map structdef_tree structs.now) at (ctype_tree left.now) (ctype_tree right.now) a b }
+{
     match left {
         CType::Pointer(to) => match right {
             CType::Int(_) => match complete_size(structs, &to.ty) {
-                None => Ok(None),
-                Some(element) => {
-                    let node = binary_node(
-                        alloc,
-                        pos,
-                        TBinaryOp::PointerMinusInt { element },
-                        a,
-                        b,
-                    )?;
-                    Ok(Some(node))
-                }
+                None => None,
+                Some(element) => Some(Form::Plain(TBinaryOp::PointerMinusInt { element })),
             },
-            CType::Pointer(other) => {
-                let row = difference(alloc, structs, pos, to, other, a, b)?;
-                Ok(row)
-            }
-            CType::Void | CType::Array(_, _) | CType::Struct(_) | CType::Function(_) => Ok(None),
+            CType::Pointer(other) => difference_form(structs, to, other),
+            CType::Void | CType::Array(_, _) | CType::Struct(_) | CType::Function(_) => None,
         },
         CType::Int(_) | CType::Void | CType::Array(_, _) | CType::Struct(_) | CType::Function(_) =>
-            {
-                let row = arithmetic_row(alloc, Arithmetic::Subtract, pos, left, right, a, b)?;
-                Ok(row)
-            }
+            arithmetic_form(Arithmetic::Subtract, left, right),
     }
 }
 
 // The elements between two pointers to these types.
-fn difference(
-    alloc: Global,
-    structs: &StructDefs,
-    pos: Pos,
-    left: &Rc<Target>,
-    right: &Rc<Target>,
-    a: TExpr,
-    b: TExpr,
-) -> Result<Option<TExpr>, NoMemory>
-    ensures { IfOk result (λ row. option_map texpr_tree row
-        ≡ rows.minus_row (map structdef_tree structs.now) pos (types.Pointer (ctype_tree left.now.value.ty) left.now.value.is_const)
-        (types.Pointer (ctype_tree right.now.value.ty) right.now.value.is_const) (texpr_tree a) (texpr_tree b)) }
+fn difference_form(structs: &StructDefs, left: &Rc<Target>, right: &Rc<Target>) -> Option<Form>
+    ensures { (at : Pos) (a b : trees.TExprTree) → option_map (λ f. binary_of f at a b) result
+        ≡ rows.minus_row (map structdef_tree structs.now) at (types.Pointer (ctype_tree left.now.value.ty) left.now.value.is_const)
+        (types.Pointer (ctype_tree right.now.value.ty) right.now.value.is_const) a b }
 {
     if !is_same_but_const(&left.ty, &right.ty) {
-        return Ok(None);
+        return None;
     }
     match complete_size(structs, &left.ty) {
-        None => Ok(None),
-        Some(element) => {
-            let node = binary_node(alloc, pos, TBinaryOp::PointerMinusPointer { element }, a, b)?;
-            Ok(Some(node))
-        }
+        None => None,
+        Some(element) => Some(Form::Plain(TBinaryOp::PointerMinusPointer { element })),
     }
 }

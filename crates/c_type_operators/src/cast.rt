@@ -1,12 +1,11 @@
 // Casts.
 #![tactic(auto, using(c_syntax::proofs::Trees::the_trees))]
 
-ghost use Rattle.std.specs.Prelude.{◌≡◌, IfOk, if◌then◌else◌, None, Some, option_map};
+ghost use Rattle.std.specs.Prelude.{◌≡◌, IfOk, option_map};
 ghost use Rattle.c_syntax.specs.Types.{ctype_tree};
 ghost use Rattle.c_syntax.specs.TypedExpr.{texpr_tree};
-ghost use Rattle.c_syntax.specs.TypedExpr as trees;
-ghost use Rattle.c_typing.specs.Constants as constants;
 ghost use Rattle.c_typing.specs.Rows as rows;
+ghost use Rattle.c_type_operators.specs.Forms.{cast_of};
 
 use crate::{convert_node, is_null_constant, is_same, not_used};
 use c_syntax::{CType, Pos, TExpr};
@@ -23,16 +22,48 @@ pub fn cast_row(
 ) -> Result<Option<TExpr>, NoMemory>
     ensures { IfOk result (λ row. option_map texpr_tree row ≡ rows.cast_row pos (ctype_tree target.now) (ctype_tree ty.now) (texpr_tree e)) }
 {
-    match target {
-        CType::Void => {
-            let node = convert_node(alloc, pos, CType::Void, not_used(e))?;
+    match cast_form(target, ty, &e)? {
+        None => Ok(None),
+        Some(form) => {
+            let node = cast_as(alloc, pos, form, target, e)?;
             Ok(Some(node))
         }
+    }
+}
+
+/// What a cast makes of a value.
+#[derive(Clone, Copy)]
+enum Cast {
+    /// To void, which drops the value.
+    Dropped,
+    /// Between types of one kind.
+    Same,
+    /// Of a null pointer constant to a pointer.
+    Null,
+}
+
+// The value that is cast to this type.
+fn cast_as(alloc: Global, pos: Pos, form: Cast, target: &CType, e: TExpr) -> Result<TExpr, NoMemory>
+    ensures { IfOk result (λ node. texpr_tree node ≡ cast_of form pos (ctype_tree target.now) (texpr_tree e)) }
+{
+    match form {
+        Cast::Dropped => convert_node(alloc, pos, CType::Void, not_used(e)),
+        Cast::Same => cast_node(alloc, pos, target, e),
+        Cast::Null => {
+            let ty = target.copy()?;
+            Ok(TExpr::Null { pos, ty })
+        }
+    }
+}
+
+fn cast_form(target: &CType, ty: &CType, e: &TExpr) -> Result<Option<Cast>, NoMemory>
+    ensures { IfOk result (λ form. (at : Pos) → option_map (λ f. cast_of f at (ctype_tree target.now) (texpr_tree e.now)) form
+        ≡ rows.cast_row at (ctype_tree target.now) (ctype_tree ty.now) (texpr_tree e.now)) }
+{
+    match target {
+        CType::Void => Ok(Some(Cast::Dropped)),
         CType::Int(_) => match ty {
-            CType::Int(_) => {
-                let node = cast_node(alloc, pos, target, e)?;
-                Ok(Some(node))
-            }
+            CType::Int(_) => Ok(Some(Cast::Same)),
             CType::Void
             | CType::Pointer(_)
             | CType::Array(_, _)
@@ -40,14 +71,12 @@ pub fn cast_row(
             | CType::Function(_) => Ok(None),
         },
         CType::Pointer(_) => match ty {
-            CType::Pointer(_) => {
-                let node = cast_node(alloc, pos, target, e)?;
-                Ok(Some(node))
-            }
-            CType::Int(_) => {
-                let row = null_cast(pos, target, e)?;
-                Ok(row)
-            }
+            CType::Pointer(_) => Ok(Some(Cast::Same)),
+            CType::Int(_) => if is_null_constant(e)? {
+                Ok(Some(Cast::Null))
+            } else {
+                Ok(None)
+            },
             CType::Void | CType::Array(_, _) | CType::Struct(_) | CType::Function(_) => Ok(None),
         },
         CType::Array(_, _) | CType::Struct(_) | CType::Function(_) => Ok(None),
@@ -65,18 +94,6 @@ fn cast_node(alloc: Global, pos: Pos, target: &CType, e: TExpr) -> Result<TExpr,
     let target = target.copy()?;
     let node = convert_node(alloc, pos, target, e)?;
     Ok(node)
-}
-
-// A cast of an integer to a pointer, which is to be a null pointer constant.
-fn null_cast(pos: Pos, target: &CType, e: TExpr) -> Result<Option<TExpr>, NoMemory>
-    ensures { IfOk result (λ row. option_map texpr_tree row
-        ≡ (if constants.is_null_constant (texpr_tree e) then Some (trees.Null pos (ctype_tree target.now)) else None)) }
-{
-    if !is_null_constant(&e)? {
-        return Ok(None);
-    }
-    let ty = target.copy()?;
-    Ok(Some(TExpr::Null { pos, ty }))
 }
 
 /// Whether a cast to the first type from the second is one between a pointer and an integer (this profile).

@@ -184,29 +184,21 @@ fn is_const_target(target: &Rc<Target>) -> bool
 fn cond_part(alloc: Global, ty: &CType, e: TExpr) -> Result<TExpr, NoMemory>
     ensures { IfOk result (λ part. texpr_tree part ≡ rows.cond_part (ctype_tree ty.now) (texpr_tree e)) }
 {
-    match ty {
-        CType::Pointer(_) => {
-            let part = pointer_part(alloc, ty, e)?;
-            Ok(part)
-        }
-        CType::Void | CType::Int(_) | CType::Array(_, _) | CType::Struct(_) | CType::Function(_) =>
-            {
-                let part = as_type(alloc, ty, e)?;
-                Ok(part)
-            }
+    if takes_null(ty, &e)? {
+        as_null(ty, e)
+    } else {
+        as_type(alloc, ty, e)
     }
 }
 
-// A part at a pointer type.
-fn pointer_part(alloc: Global, ty: &CType, e: TExpr) -> Result<TExpr, NoMemory>
-    ensures { IfOk result (λ part. texpr_tree part
-        ≡ (if constants.is_null_constant (texpr_tree e) then operands.as_null (ctype_tree ty.now) (texpr_tree e)
-        else operands.as_type (ctype_tree ty.now) (texpr_tree e))) }
+// Whether a part of this type is a null pointer constant beside a pointer.
+fn takes_null(ty: &CType, e: &TExpr) -> Result<bool, NoMemory>
+    ensures { IfOk result (λ null. (if null then operands.as_null (ctype_tree ty.now) (texpr_tree e.now)
+        else operands.as_type (ctype_tree ty.now) (texpr_tree e.now)) ≡ rows.cond_part (ctype_tree ty.now) (texpr_tree e.now)) }
 {
-    if is_null_constant(&e)? {
-        let null = as_null(ty, e)?;
-        return Ok(null);
+    match ty {
+        CType::Pointer(_) => is_null_constant(e),
+        CType::Void | CType::Int(_) | CType::Array(_, _) | CType::Struct(_) | CType::Function(_) =>
+            Ok(false),
     }
-    let part = as_type(alloc, ty, e)?;
-    Ok(part)
 }

@@ -111,6 +111,7 @@ mod choice;
 mod compound;
 mod conversions;
 mod equality;
+mod forms;
 mod logical;
 mod operand;
 mod operators;

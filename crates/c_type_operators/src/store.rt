@@ -1,21 +1,20 @@
 // Values that are stored.
 #![tactic(auto, using(c_syntax::proofs::Trees::the_trees))]
 
-ghost use Rattle.std.specs.Prelude.{◌≡◌, ◌||◌, IfOk, if◌then◌else◌, None, Some, map, option_map};
+ghost use Rattle.std.specs.Prelude.{◌≡◌, ◌||◌, IfOk, map, option_map};
 ghost use Rattle.c_syntax.specs.Types.{ctype_tree};
-ghost use Rattle.c_syntax.specs.TypedExpr.{texpr_tree};
+ghost use Rattle.c_syntax.specs.TypedExpr.{TExprTree, texpr_tree};
 ghost use Rattle.c_syntax.specs.Program.{structdef_tree};
 ghost use Rattle.c_layout.specs.RowTypes as row_types;
-ghost use Rattle.c_typing.specs.Constants as constants;
-ghost use Rattle.c_typing.specs.Operands as operands;
 ghost use Rattle.c_typing.specs.Rows as rows;
 ghost use Rattle.c_typing.specs.SameTypes as same;
+ghost use Rattle.c_type_operators.specs.Forms.{store_of, stored_of};
 ghost use Rattle.c_type_operators.specs.StoreViews.{stored_tree};
 
 use crate::{
     as_int, as_null, as_type, extent_of, is_null_constant, is_same_but_const, is_void, keeps_const,
 };
-use c_syntax::{CType, Extent, StructDefs, TExpr};
+use c_syntax::{CType, Extent, IntType, StructDefs, TExpr};
 use std::alloc::{AllocError as NoMemory, Global};
 
 /// What is stored in a place: a scalar of its type, or the bytes of a struct of this size and alignment.
@@ -35,12 +34,44 @@ pub fn store_row(
 ) -> Result<Option<TExpr>, NoMemory>
     ensures { IfOk result (λ row. option_map texpr_tree row ≡ rows.store_row (ctype_tree target.now) (ctype_tree ty.now) (texpr_tree e)) }
 {
+    match store_form(target, ty, &e)? {
+        None => Ok(None),
+        Some(form) => {
+            let value = stored_as(alloc, form, target, e)?;
+            Ok(Some(value))
+        }
+    }
+}
+
+/// What a store makes of a scalar.
+#[derive(Clone, Copy)]
+enum Store {
+    /// An integer of the second type, as one of the first.
+    Number(IntType, IntType),
+    /// A null pointer constant, as a null pointer.
+    Null,
+    /// A pointer.
+    Pointer,
+}
+
+// The value that is stored as this type.
+fn stored_as(alloc: Global, form: Store, target: &CType, e: TExpr) -> Result<TExpr, NoMemory>
+    ensures { IfOk result (λ value. texpr_tree value ≡ store_of form (ctype_tree target.now) (texpr_tree e)) }
+{
+    match form {
+        Store::Number(t, u) => as_int(alloc, t, u, e),
+        Store::Null => as_null(target, e),
+        Store::Pointer => as_type(alloc, target, e),
+    }
+}
+
+fn store_form(target: &CType, ty: &CType, e: &TExpr) -> Result<Option<Store>, NoMemory>
+    ensures { IfOk result (λ form. option_map (λ f. store_of f (ctype_tree target.now) (texpr_tree e.now)) form
+        ≡ rows.store_row (ctype_tree target.now) (ctype_tree ty.now) (texpr_tree e.now)) }
+{
     match target {
         CType::Int(t) => match ty {
-            CType::Int(u) => {
-                let value = as_int(alloc, *t, *u, e)?;
-                Ok(Some(value))
-            }
+            CType::Int(u) => Ok(Some(Store::Number(*t, *u))),
             CType::Void
             | CType::Pointer(_)
             | CType::Array(_, _)
@@ -49,13 +80,14 @@ pub fn store_row(
         },
         CType::Pointer(to) => match ty {
             CType::Pointer(from) => {
-                let row = store_pointer(alloc, target, &to.ty, ty, &from.ty, e)?;
-                Ok(row)
+                let form = pointer_form(target, &to.ty, ty, &from.ty, e)?;
+                Ok(form)
             }
-            CType::Int(_) => {
-                let row = store_null(target, e)?;
-                Ok(row)
-            }
+            CType::Int(_) => if is_null_constant(e)? {
+                Ok(Some(Store::Null))
+            } else {
+                Ok(None)
+            },
             CType::Void | CType::Array(_, _) | CType::Struct(_) | CType::Function(_) => Ok(None),
         },
         CType::Void | CType::Array(_, _) | CType::Struct(_) | CType::Function(_) => Ok(None),
@@ -63,26 +95,24 @@ pub fn store_row(
 }
 
 // A pointer of type `ty`, to `from`, that is stored as one of type `target`, to `to`.
-fn store_pointer(
-    alloc: Global,
+fn pointer_form(
     target: &CType,
     to: &CType,
     ty: &CType,
     from: &CType,
-    e: TExpr,
-) -> Result<Option<TExpr>, NoMemory>
-    ensures { IfOk result (λ row. option_map texpr_tree row
-        ≡ rows.store_pointer (ctype_tree target.now) (ctype_tree to.now) (ctype_tree ty.now) (ctype_tree from.now) (texpr_tree e)) }
+    e: &TExpr,
+) -> Result<Option<Store>, NoMemory>
+    ensures { IfOk result (λ form. option_map (λ f. store_of f (ctype_tree target.now) (texpr_tree e.now)) form
+        ≡ rows.store_pointer (ctype_tree target.now) (ctype_tree to.now) (ctype_tree ty.now) (ctype_tree from.now) (texpr_tree e.now)) }
 {
-    if is_null_constant(&e)? {
-        let null = as_null(target, e)?;
-        return Ok(Some(null));
+    if is_null_constant(e)? {
+        return Ok(Some(Store::Null));
     }
-    if !(agree(to, from) && keeps_const(ty, target)) {
-        return Ok(None);
+    if agree(to, from) && keeps_const(ty, target) {
+        Ok(Some(Store::Pointer))
+    } else {
+        Ok(None)
     }
-    let value = as_type(alloc, target, e)?;
-    Ok(Some(value))
 }
 
 // Whether a pointer to the one is stored as a pointer to the other: both are one type, or one is void.
@@ -91,18 +121,6 @@ fn agree(to: &CType, from: &CType) -> bool
         || (row_types.is_void (ctype_tree to.now) || row_types.is_void (ctype_tree from.now))) }
 {
     is_same_but_const(to, from) || (is_void(to) || is_void(from))
-}
-
-// An integer that is stored as a pointer, which is to be a null pointer constant.
-fn store_null(target: &CType, e: TExpr) -> Result<Option<TExpr>, NoMemory>
-    ensures { IfOk result (λ row. option_map texpr_tree row
-        ≡ (if constants.is_null_constant (texpr_tree e) then Some (operands.as_null (ctype_tree target.now) (texpr_tree e)) else None)) }
-{
-    if !is_null_constant(&e)? {
-        return Ok(None);
-    }
-    let null = as_null(target, e)?;
-    Ok(Some(null))
 }
 
 /// A value of type `ty` that is stored in a place of type `target`, by `=` or an initialiser: a scalar as by
@@ -117,35 +135,35 @@ pub fn stored_row(
     ensures { IfOk result (λ row. option_map stored_tree row
         ≡ rows.stored_row (map structdef_tree structs.now) (ctype_tree target.now) (ctype_tree ty.now) (texpr_tree e)) }
 {
+    match copied_extent(structs, target, ty) {
+        Some(extent) => Ok(Some(Stored::Copied(extent, e))),
+        None => {
+            let row = stored_scalar(alloc, target, ty, e)?;
+            Ok(row)
+        }
+    }
+}
+
+// The size and the alignment of a complete struct that is stored in a place of its type.
+fn copied_extent(structs: &StructDefs, target: &CType, ty: &CType) -> Option<Extent>
+    ensures { (e : TExprTree) → stored_of result (ctype_tree target.now) (ctype_tree ty.now) e
+        ≡ rows.stored_row (map structdef_tree structs.now) (ctype_tree target.now) (ctype_tree ty.now) e }
+{
     match target {
         CType::Struct(m) => match ty {
             CType::Struct(n) => if m == n {
-                Ok(copied(structs, target, e))
+                extent_of(structs, target)
             } else {
-                Ok(None)
+                None
             },
             CType::Void
             | CType::Int(_)
             | CType::Pointer(_)
             | CType::Array(_, _)
-            | CType::Function(_) => Ok(None),
+            | CType::Function(_) => None,
         },
         CType::Int(_) | CType::Pointer(_) | CType::Void | CType::Array(_, _) | CType::Function(_) =>
-            {
-                let row = stored_scalar(alloc, target, ty, e)?;
-                Ok(row)
-            }
-    }
-}
-
-// A struct's bytes, where the struct is complete.
-fn copied(structs: &StructDefs, ty: &CType, e: TExpr) -> Option<Stored>
-    ensures { option_map stored_tree result
-        ≡ option_map (λ extent. rows.Copied extent (texpr_tree e)) (rows.extent_of (map structdef_tree structs.now) (ctype_tree ty.now)) }
-{
-    match extent_of(structs, ty) {
-        None => None,
-        Some(extent) => Some(Stored::Copied(extent, e)),
+            None,
     }
 }
 
