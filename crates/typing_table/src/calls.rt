@@ -14,11 +14,20 @@ pub fn call(stack: &mut Stack, word: &str) -> Result<Operand, Fault> {
     let Some((declared, count)) = word.split_once("/") else {
         return Err(Fault::NoRow);
     };
-    let args = stack.arguments(count)?;
     let mut world = World::new(stack.alloc);
+    call_in(&mut world, stack, declared, count)
+}
+
+fn call_in(
+    world: &mut World,
+    stack: &mut Stack,
+    declared: &str,
+    count: &str,
+) -> Result<Operand, Fault> {
     world.structs = structs(stack.alloc)?;
-    let name = name_of(&mut world, declared)?;
-    Ok(called(&world, AT, name.as_bytes(), args)?)
+    let name = name_of(world, declared)?;
+    let args = stack.arguments(count)?;
+    Ok(called(world, AT, name.as_bytes(), args)?)
 }
 
 // The name, which stands for what is said behind it; nothing declares it where nothing is said.

@@ -5,7 +5,7 @@ use crate::calls::call;
 use crate::letters::form_of;
 use crate::rows::{AT, Fault, Stack};
 use crate::spelled;
-use c_syntax::{CType, IntType, StepTime, StepWay};
+use c_syntax::{CType, IntType, StepTime, StepWay, TExprs};
 use c_type_calls::{input_read, told};
 use c_type_names::World;
 use c_type_nodes::{
@@ -20,12 +20,10 @@ pub fn node(stack: &mut Stack, word: &str) -> Result<Operand, Fault> {
         let operand = stack.popped()?;
         Ok(unary(stack.alloc, &stack.structs.defs, AT, op, operand)?)
     } else if let Some(op) = spelled::binary(word) {
-        let right = stack.value()?;
-        let left = stack.value()?;
+        let (left, right) = stack.pair()?;
         Ok(binary(stack.alloc, &stack.structs.defs, AT, op, left, right)?)
     } else if let Some(op) = spelled::compound(word) {
-        let right = stack.value()?;
-        let left = stack.popped()?;
+        let (left, right) = stack.stored()?;
         Ok(compound(stack.alloc, &stack.structs.defs, AT, op, left, right)?)
     } else {
         other(stack, word)
@@ -36,18 +34,15 @@ fn other(stack: &mut Stack, word: &str) -> Result<Operand, Fault> {
     match word {
         "val" => Ok(Operand::Value(stack.value()?)),
         "," => {
-            let right = stack.value()?;
-            let left = stack.value()?;
+            let (left, right) = stack.pair()?;
             Ok(sequenced(stack.alloc, AT, left, right)?)
         }
         "[]" => {
-            let index = stack.value()?;
-            let base = stack.value()?;
+            let (base, index) = stack.pair()?;
             Ok(indexed(stack.alloc, &stack.structs.defs, AT, base, index)?)
         }
         "=" => {
-            let value = stack.value()?;
-            let place = stack.popped()?;
+            let (place, value) = stack.stored()?;
             Ok(assigned(stack.alloc, &stack.structs.defs, AT, place, value)?)
         }
         "?:" => choice(stack),
@@ -62,8 +57,7 @@ fn other(stack: &mut Stack, word: &str) -> Result<Operand, Fault> {
 }
 
 fn choice(stack: &mut Stack) -> Result<Operand, Fault> {
-    let otherwise = stack.value()?;
-    let then = stack.value()?;
+    let (then, otherwise) = stack.pair()?;
     let test = stack.value()?;
     Ok(conditional(stack.alloc, &stack.structs.defs, AT, test, then, otherwise)?)
 }
@@ -80,9 +74,17 @@ fn step(stack: &mut Stack, time: StepTime, way: StepWay) -> Result<Operand, Faul
 }
 
 fn size(stack: &mut Stack) -> Result<Operand, Fault> {
-    let operand = stack.popped()?;
-    let ty = operand_type(&operand)?;
+    let ty = popped_type(stack)?;
     Ok(size_of(stack.alloc, &stack.structs.defs, AT, ty)?)
+}
+
+fn popped_type(stack: &mut Stack) -> Result<CType, Fault> {
+    let operand = stack.popped()?;
+    type_of(&operand)
+}
+
+fn type_of(operand: &Operand) -> Result<CType, Fault> {
+    Ok(operand_type(operand)?)
 }
 
 // Words that have a name or a type in them.
@@ -132,11 +134,19 @@ fn to_type(stack: &mut Stack, target: CType) -> Result<Operand, Fault> {
 fn assumption(stack: &mut Stack, count: &str) -> Result<Operand, Fault> {
     let args = stack.arguments(count)?;
     let world = World::new(stack.alloc);
-    Ok(told(&world, AT, true, args)?)
+    assumed(&world, args)
 }
 
 fn input(stack: &mut Stack, count: &str) -> Result<Operand, Fault> {
     let args = stack.arguments(count)?;
     let world = World::new(stack.alloc);
-    Ok(input_read(&world, AT, IntType::Int, &args)?)
+    taken(&world, &args)
+}
+
+fn assumed(world: &World, args: TExprs) -> Result<Operand, Fault> {
+    Ok(told(world, AT, true, args)?)
+}
+
+fn taken(world: &World, args: &TExprs) -> Result<Operand, Fault> {
+    Ok(input_read(world, AT, IntType::Int, args)?)
 }

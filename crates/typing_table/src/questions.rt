@@ -64,23 +64,32 @@ fn size_or_name(alloc: Global, word: &str, ty: &CType) -> Result<String, Fault> 
 
 // The type that a cast names by these specs and a declarator that is this name, or nothing.
 fn named(alloc: Global, ty: &CType, name: Option<DeclaredName>) -> Result<String, Fault> {
-    let world = World::new(alloc);
+    let form = Form::Plain(ty.copy()?, false);
     let shape = Shape {
         name,
         steps: Vec::new(alloc),
     };
-    let form = type_name(&world, AT, Form::Plain(ty.copy()?, false), &shape)?;
-    Ok(answer::form(alloc, &form)?)
+    let world = World::new(alloc);
+    cast_to(&world, form, &shape)
+}
+
+fn cast_to(world: &World, form: Form, shape: &Shape) -> Result<String, Fault> {
+    let form = type_name(world, AT, form, shape)?;
+    Ok(answer::form(world.alloc(), &form)?)
 }
 
 // The type that specs tell by this name, where `t` is a typedef name of the type.
 fn by_name(alloc: Global, ty: &CType, name: &[u8]) -> Result<String, Fault> {
-    let mut world = World::new(alloc);
     let declared = Name::from_vec(Vec::from_slice(alloc, b"t")?);
     let form = Form::Plain(ty.copy()?, false);
+    let mut world = World::new(alloc);
+    told_by(&mut world, declared, form, name)
+}
+
+fn told_by(world: &mut World, declared: Name, form: Form, name: &[u8]) -> Result<String, Fault> {
     world.declare(AT, declared, Meaning::TypeName(form))?;
-    match typedef_named(&world, AT, name)? {
-        SpecPart::Type(form) => Ok(answer::form(alloc, &form)?),
+    match typedef_named(world, AT, name)? {
+        SpecPart::Type(form) => Ok(answer::form(world.alloc(), &form)?),
         _ => Err(Fault::NoRow),
     }
 }

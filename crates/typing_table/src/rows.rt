@@ -115,6 +115,20 @@ impl Stack {
         Ok(value_of(self.alloc, operand)?)
     }
 
+    /// The last two values, in their order.
+    pub fn pair(&mut self) -> Result<(TExpr, TExpr), Fault> {
+        let right = self.value()?;
+        let left = self.value()?;
+        Ok((left, right))
+    }
+
+    /// The last value, and the operand before it.
+    pub fn stored(&mut self) -> Result<(Operand, TExpr), Fault> {
+        let value = self.value()?;
+        let operand = self.popped()?;
+        Ok((operand, value))
+    }
+
     /// The last values, as many as a word says, in their order.
     pub fn arguments(&mut self, count: &str) -> Result<TExprs, Fault> {
         let Ok(count) = count.parse::<u64>() else {

@@ -6,7 +6,7 @@ use crate::declared::{declare, told};
 use crate::rows::Fault;
 use c_lexer::{LexError, lex};
 use c_parser::{ParseError, parse};
-use c_syntax::{BlockItem, BlockItems, Decl, Expr, File, Outer, Stmt};
+use c_syntax::{BlockItem, BlockItems, Decl, Declarator, Expr, File, Outer, Pos, Specs, Stmt};
 use c_type_declarators::copy_form;
 use c_type_exprs::{declarator, operand};
 use c_type_names::World;
@@ -20,26 +20,44 @@ const MOST: usize = 4_194_304;
 /// The type of the last declarator of a text or of its last expression, with what this is as a constant.
 pub fn line(alloc: Global, text: &str) -> Result<String, Fault> {
     let file = tree(alloc, text.as_bytes())?;
+    read(alloc, &file)
+}
+
+fn read(alloc: Global, file: &File) -> Result<String, Fault> {
     let mut world = World::new(alloc);
-    let mut line = String::new(alloc);
+    outers(&mut world, file)
+}
+
+fn outers(world: &mut World, file: &File) -> Result<String, Fault> {
+    let mut line = String::new(world.alloc());
     for outer in file.outers.as_slice() {
-        line = match outer {
-            Outer::Declared(decl) => declaration(&mut world, decl)?,
-            Outer::Function {
-                pos,
-                specs,
-                declarator: written,
-                body,
-                ..
-            } => {
-                let form = told(&mut world, false, *pos, specs)?.form;
-                let shape = declarator(&mut world, written)?;
-                declare(&mut world, false, form, shape)?;
-                expressions(&mut world, body)?
-            }
-        };
+        line = self::outer(world, outer)?;
     }
     Ok(line)
+}
+
+fn outer(world: &mut World, outer: &Outer) -> Result<String, Fault> {
+    match outer {
+        Outer::Declared(decl) => declaration(world, decl),
+        Outer::Function {
+            pos,
+            specs,
+            declarator,
+            body,
+            ..
+        } => {
+            function(world, *pos, specs, declarator)?;
+            expressions(world, body)
+        }
+    }
+}
+
+// Declares the function that is defined.
+fn function(world: &mut World, pos: Pos, specs: &Specs, written: &Declarator) -> Result<(), Fault> {
+    let form = told(world, false, pos, specs)?.form;
+    let shape = declarator(world, written)?;
+    declare(world, false, form, shape)?;
+    Ok(())
 }
 
 fn tree(alloc: Global, text: &[u8]) -> Result<File, Fault> {
@@ -87,19 +105,34 @@ fn expressions(world: &mut World, body: &BlockItems) -> Result<String, Fault> {
 
 fn expression(world: &mut World, written: &Expr) -> Result<String, Fault> {
     let operand = operand(world, written)?;
-    let mut line = answer::operand(world.alloc(), &operand)?;
-    let objects = world.objects.as_slice();
-    let address = match &operand {
-        Operand::Place(place) => static_place(objects, place)?,
-        Operand::Value(value) => {
-            if let Some(number) = constant_value(value)? {
-                write!(line, " {number}")?;
-            }
-            static_address(objects, value)?
-        }
-    };
+    told_of(world, &operand)
+}
+
+// The type of an operand, and what it is as a constant.
+fn told_of(world: &World, operand: &Operand) -> Result<String, Fault> {
+    let address = address_of(world, operand)?;
+    let number = number_of(operand)?;
+    let mut line = answer::operand(world.alloc(), operand)?;
+    if let Some(number) = number {
+        write!(line, " {number}")?;
+    }
     held(&mut line, address)?;
     Ok(line)
+}
+
+fn address_of(world: &World, operand: &Operand) -> Result<Option<Address>, AllocError> {
+    let objects = world.objects.as_slice();
+    match operand {
+        Operand::Place(place) => static_place(objects, place),
+        Operand::Value(value) => static_address(objects, value),
+    }
+}
+
+fn number_of(operand: &Operand) -> Result<Option<i128>, AllocError> {
+    match operand {
+        Operand::Place(_) => Ok(None),
+        Operand::Value(value) => constant_value(value),
+    }
 }
 
 // What a static pointer holds: null, or the number of an object and a distance from its start.
