@@ -5,8 +5,9 @@
 //! for an input, was stopped by an assumption, or is wrong, at a place and of a kind; then the machine is as it was, and
 //! answers the same again. Once it wanted memory it answers that for good.
 //!
-//! For example, `int main(void) { return 1 / 0; }` makes seven steps; the next answers DivideByZero at the place of `/`,
-//! and so does each one behind it. The chain of calls is empty there, as main has no call.
+//! For example, a run of `int main(void) { return 1 / 0; }` goes on until both operands stand on the stack; the next step
+//! answers DivideByZero at the place of `/`, and so does each one behind it. The chain of calls is empty there, as main
+//! has no call.
 //!
 //! A machine is made of a well typed program and a plan for it, and steps on that program alone (`IsFor`). Its state is the one
 //! that `c_steps` speaks of (`state_of`), each step is its Step, and the state is one that the run of the plan's main on the
