@@ -44,14 +44,8 @@ impl Work {
                 left,
                 right,
             } => self.put_operands(left, right, Item::Bin(*pos, *op)),
-            SharedExpr::And { pos, left, right } => {
-                let item = Item::AndThen(*pos, value_scalar(left), right.clone()?);
-                self.put_two(Item::Eval(left.clone()?), item)
-            }
-            SharedExpr::Or { pos, left, right } => {
-                let item = Item::OrElse(*pos, value_scalar(left), right.clone()?);
-                self.put_two(Item::Eval(left.clone()?), item)
-            }
+            SharedExpr::And { pos, left, right } => self.put_and(*pos, left, right),
+            SharedExpr::Or { pos, left, right } => self.put_or(*pos, left, right),
             SharedExpr::Cond {
                 pos,
                 condition,
@@ -68,6 +62,32 @@ impl Work {
                 args,
             } => self.put_call(program, *pos, *function, ty, *used, args),
         }
+    }
+
+    fn put_and(
+        &mut self,
+        pos: Pos,
+        left: &Rc<SharedExpr>,
+        right: &Rc<SharedExpr>,
+    ) -> Result<(), NoMemory>
+        ensures { OnOk result (work_of self.new ≡ steps.Eval (expr_tree left.now.value)
+            ∷ steps.AndThen pos (scalar_of_value (expr_tree left.now.value)) (expr_tree right.now.value) ∷ work_of self.old) }
+    {
+        let item = Item::AndThen(pos, value_scalar(left), right.clone()?);
+        self.put_two(Item::Eval(left.clone()?), item)
+    }
+
+    fn put_or(
+        &mut self,
+        pos: Pos,
+        left: &Rc<SharedExpr>,
+        right: &Rc<SharedExpr>,
+    ) -> Result<(), NoMemory>
+        ensures { OnOk result (work_of self.new ≡ steps.Eval (expr_tree left.now.value)
+            ∷ steps.OrElse pos (scalar_of_value (expr_tree left.now.value)) (expr_tree right.now.value) ∷ work_of self.old) }
+    {
+        let item = Item::OrElse(pos, value_scalar(left), right.clone()?);
+        self.put_two(Item::Eval(left.clone()?), item)
     }
 
     // An operator's operands from left to right, and its item.
@@ -150,11 +170,7 @@ impl Work {
                 Item::Addr(place.clone()?),
                 Item::Named(place_pos(place)),
             ),
-            SharedExpr::Assign { place, value, .. } => self.put_write(
-                place,
-                value,
-                Item::StoreAt(place_pos(place), place_scalar(place)),
-            ),
+            SharedExpr::Assign { place, value, .. } => self.put_store(place, value),
             SharedExpr::AssignStruct {
                 extent,
                 place,
@@ -176,6 +192,15 @@ impl Work {
             } => self.put_step(*pos, *time, *way, *stride, place),
             _ => unreachable!(),
         }
+    }
+
+    // A place, then the scalar that is stored there.
+    fn put_store(&mut self, place: &Rc<SharedPlace>, value: &Rc<SharedExpr>) -> Result<(), NoMemory>
+        ensures { OnOk result (work_of self.new ≡ steps.Addr (place_tree place.now.value) ∷ steps.Eval (expr_tree value.now.value)
+            ∷ steps.StoreAt (tlvalue_pos (place_tree place.now.value)) (scalar_there (place_tree place.now.value)) ∷ work_of self.old) }
+    {
+        let item = Item::StoreAt(place_pos(place), place_scalar(place));
+        self.put_write(place, value, item)
     }
 
     // A place, then what is written there, and the item that writes it.
