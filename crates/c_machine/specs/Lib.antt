@@ -2,5 +2,6 @@ pub mod Chains
 pub mod Functions
 pub mod States
 pub mod Steps
+pub mod Kinds
 pub mod Landing
 pub mod Made

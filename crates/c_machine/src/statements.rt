@@ -1,16 +1,17 @@
 // Rows of statements.
 #![tactic(auto, using(c_syntax::proofs::Trees::the_trees, c_shared::proofs::SharedTrees::the_shared_trees))]
 
-ghost use Rattle.std.specs.Prelude.{◌≡◌, ◌∷◌, IfOk, IsSome, OnOk, Some, map};
+ghost use Rattle.std.specs.Prelude.{◌≡◌, ◌∷◌, IfOk, IsSome, List, OnOk, Some, map};
 ghost use Rattle.c_objects.specs.Opening.{open_all, undefined};
 ghost use Rattle.c_shared.specs.Statements.{inits_tree, option_tree, stmt_tree, stmts_tree};
 ghost use Rattle.c_steps.specs.Marks.{does};
 ghost use Rattle.c_steps.specs.States.{Goes, state};
-ghost use Rattle.c_steps.specs.Statements.{init_items, rest_items, return_step};
+ghost use Rattle.c_steps.specs.Statements.{do_step, init_items, rest_items, return_step};
 ghost use Rattle.c_steps.specs.Work as steps;
 ghost use Rattle.c_syntax.specs.Program.{tprogram_tree};
 ghost use Rattle.c_syntax.specs.TypedStmt.{none};
-ghost use Rattle.c_syntax.specs.Types.{object_tree};
+ghost use Rattle.c_syntax.specs.Types.{ObjectTree, object_tree};
+ghost use Rattle.c_machine.specs.Kinds.{EvaluatesFirst, IsJump, IsLoop};
 ghost use Rattle.c_values.specs.Places.{ObjectMemory, place_of};
 ghost use Rattle.c_work.specs.Views.{loop_of};
 
@@ -45,8 +46,8 @@ impl Run {
             SharedStmt::Label { .. } | SharedStmt::Case { .. } | SharedStmt::Default { .. } => {
                 Ok(Step::Went)
             }
-            SharedStmt::Expr { value, .. } => {
-                self.work.put_two(Item::Eval(value.clone()?), Item::Drop)?;
+            SharedStmt::Expr { .. } | SharedStmt::If { .. } | SharedStmt::Switch { .. } => {
+                self.evaluate_first(statement)?;
                 Ok(Step::Went)
             }
             SharedStmt::Block {
@@ -66,23 +67,83 @@ impl Run {
                 self.declare(*object, inits, *zeroes_rest)?;
                 Ok(Step::Went)
             }
+            SharedStmt::While { .. } | SharedStmt::DoWhile { .. } | SharedStmt::For { .. } => {
+                self.start_loop(alloc, objects, statement)?;
+                Ok(Step::Went)
+            }
+            SharedStmt::Break { .. } | SharedStmt::Continue { .. } => {
+                self.jump(statement)?;
+                Ok(Step::Went)
+            }
+            SharedStmt::Goto { .. } | SharedStmt::Return { .. } => {
+                self.jump(statement)?;
+                Ok(Step::Went)
+            }
+        }
+    }
+
+    // Statements that evaluate an expression first, and go on by its value.
+    fn evaluate_first(&mut self, statement: &SharedStmt) -> Result<(), NoMemory>
+        requires { EvaluatesFirst (stmt_tree statement.now) }
+        ensures { (objects : List ObjectTree) → OnOk result (do_step objects (stmt_tree statement.now) (run_state self.old).work
+            (run_state self.old).stack (run_state self.old).memory (run_state self.old).inputs ≡ Goes (run_state self.new)) }
+    {
+        match statement {
+            SharedStmt::Expr { value, .. } => {
+                self.work.put_two(Item::Eval(value.clone()?), Item::Drop)
+            }
             SharedStmt::If {
                 pos,
                 condition,
                 then,
                 otherwise,
+            } => self.work.put_branches(*pos, condition, then, otherwise),
+            SharedStmt::Switch {
+                value,
+                objects,
+                items,
+                ..
             } => {
-                self.work.put_branches(*pos, condition, then, otherwise)?;
-                Ok(Step::Went)
+                let select = Item::Select(objects.clone()?, items.clone()?);
+                self.work.put_two(Item::Eval(value.clone()?), select)
             }
+            SharedStmt::Empty { .. }
+            | SharedStmt::Block { .. }
+            | SharedStmt::Declare { .. }
+            | SharedStmt::Static { .. }
+            | SharedStmt::While { .. }
+            | SharedStmt::DoWhile { .. }
+            | SharedStmt::For { .. }
+            | SharedStmt::Break { .. }
+            | SharedStmt::Continue { .. }
+            | SharedStmt::Goto { .. }
+            | SharedStmt::Return { .. }
+            | SharedStmt::Label { .. }
+            | SharedStmt::Case { .. }
+            | SharedStmt::Default { .. } => unreachable!(),
+        }
+    }
+
+    // A loop begins.
+    fn start_loop(
+        &mut self,
+        alloc: Global,
+        objects: &[Object],
+        statement: &SharedStmt,
+    ) -> Result<(), NoMemory>
+        requires kind { IsLoop (stmt_tree statement.now) }
+        requires needs { DoNeeds self.old.values.memory (stmt_tree statement.now) (work_of self.old.work) }
+        ensures { OnOk result (do_step (map object_tree objects.now) (stmt_tree statement.now) (run_state self.old).work
+            (run_state self.old).stack (run_state self.old).memory (run_state self.old).inputs ≡ Goes (run_state self.new)) }
+    {
+        match statement {
             SharedStmt::While {
                 pos,
                 condition,
                 body,
             } => {
                 let parts = Loop::of_condition(alloc, *pos, condition, body)?;
-                self.work.put(Item::Begin(0, parts))?;
-                Ok(Step::Went)
+                self.work.put(Item::Begin(0, parts))
             }
             SharedStmt::DoWhile {
                 pos,
@@ -91,8 +152,7 @@ impl Run {
             } => {
                 let parts = Loop::of_condition(alloc, *pos, condition, body)?;
                 self.work
-                    .put_two(Item::Do(body.clone()?), Item::Again(1, parts))?;
-                Ok(Step::Went)
+                    .put_two(Item::Do(body.clone()?), Item::Again(1, parts))
             }
             SharedStmt::For {
                 pos,
@@ -103,35 +163,53 @@ impl Run {
                 body,
             } => {
                 let parts = Loop::of_for(alloc, *pos, condition, step, body)?;
-                self.open_loop(alloc, objects, opened, head, parts)?;
-                Ok(Step::Went)
+                self.open_loop(alloc, objects, opened, head, parts)
             }
-            SharedStmt::Switch {
-                value,
-                objects: opened,
-                items,
-                ..
-            } => {
-                let select = Item::Select(opened.clone()?, items.clone()?);
-                self.work.put_two(Item::Eval(value.clone()?), select)?;
-                Ok(Step::Went)
-            }
+            SharedStmt::Empty { .. }
+            | SharedStmt::Expr { .. }
+            | SharedStmt::Block { .. }
+            | SharedStmt::Declare { .. }
+            | SharedStmt::Static { .. }
+            | SharedStmt::If { .. }
+            | SharedStmt::Switch { .. }
+            | SharedStmt::Break { .. }
+            | SharedStmt::Continue { .. }
+            | SharedStmt::Goto { .. }
+            | SharedStmt::Return { .. }
+            | SharedStmt::Label { .. }
+            | SharedStmt::Case { .. }
+            | SharedStmt::Default { .. } => unreachable!(),
+        }
+    }
+
+    // A jump is made, or the value of a `return` is evaluated before it.
+    fn jump(&mut self, statement: &SharedStmt) -> Result<(), NoMemory>
+        requires kind { IsJump (stmt_tree statement.now) }
+        requires needs { DoNeeds self.old.values.memory (stmt_tree statement.now) (work_of self.old.work) }
+        ensures { (objects : List ObjectTree) → OnOk result (do_step objects (stmt_tree statement.now) (run_state self.old).work
+            (run_state self.old).stack (run_state self.old).memory (run_state self.old).inputs ≡ Goes (run_state self.new)) }
+    {
+        match statement {
             SharedStmt::Break { .. } => {
                 self.break_out();
-                Ok(Step::Went)
+                Ok(())
             }
-            SharedStmt::Continue { .. } => {
-                self.go_on()?;
-                Ok(Step::Went)
-            }
-            SharedStmt::Goto { label, .. } => {
-                self.go_to(*label)?;
-                Ok(Step::Went)
-            }
-            SharedStmt::Return { value, .. } => {
-                self.give_back(value)?;
-                Ok(Step::Went)
-            }
+            SharedStmt::Continue { .. } => self.go_on(),
+            SharedStmt::Goto { label, .. } => self.go_to(*label),
+            SharedStmt::Return { value, .. } => self.give_back(value),
+            SharedStmt::Empty { .. }
+            | SharedStmt::Expr { .. }
+            | SharedStmt::Block { .. }
+            | SharedStmt::Declare { .. }
+            | SharedStmt::Static { .. }
+            | SharedStmt::If { .. }
+            | SharedStmt::While { .. }
+            | SharedStmt::DoWhile { .. }
+            | SharedStmt::For { .. }
+            | SharedStmt::Switch { .. }
+            | SharedStmt::Label { .. }
+            | SharedStmt::Case { .. }
+            | SharedStmt::Default { .. } => unreachable!(),
         }
     }
 
