@@ -6,9 +6,10 @@ use crate::exprs::{VARIABLES, below, comparison, expression, small, value};
 use env_lift::Env;
 use ext_int::Ext;
 use intervals::Interval;
-use num_api::{Live, Messages, NExpr, NumDomain, Oracle, Range, Residue, Unknowing, Var};
+use num_api::{Live, Messages, NExpr, NumDomain, Oracle, Range, Unknowing, Var};
 use rand_pcg::Pcg32;
 use residues::{Class, Pair};
+use small_boxes::{Valuation, all_in, hull, numbers_between, valuations};
 use std::alloc::{AllocError as NoMemory, Global};
 
 type State = Env<Pair<Interval, Class>>;
@@ -60,16 +61,11 @@ fn some_bounds(random: &mut Pcg32) -> Bounds
 }
 
 // All valuations of the box.
-fn valuations(alloc: Global, bounds: &[Bounds; 3]) -> Result<Vec<[i128; 3]>, NoMemory> {
-    let mut all = Vec::new(alloc);
-    for a in bounds[0].lo..=bounds[0].hi {
-        for b in bounds[1].lo..=bounds[1].hi {
-            for c in bounds[2].lo..=bounds[2].hi {
-                all.push([a, b, c])?;
-            }
-        }
-    }
-    Ok(all)
+fn walked(alloc: Global, bounds: &[Bounds; 3]) -> Result<Vec<Valuation>, NoMemory> {
+    let firsts = numbers_between(alloc, bounds[0].lo, bounds[0].hi)?;
+    let seconds = numbers_between(alloc, bounds[1].lo, bounds[1].hi)?;
+    let thirds = numbers_between(alloc, bounds[2].lo, bounds[2].hi)?;
+    valuations(alloc, &firsts, &seconds, &thirds)
 }
 
 fn state_of(alloc: Global, bounds: &[Bounds; 3]) -> Result<State, NoMemory> {
@@ -86,44 +82,10 @@ fn state_of(alloc: Global, bounds: &[Bounds; 3]) -> Result<State, NoMemory> {
     Ok(state)
 }
 
-fn is_in(n: i128, r: Range, c: Residue) -> bool {
-    let above = match r.lo {
-        Ext::Low => true,
-        Ext::Fin(lo) => lo <= n,
-        Ext::High => false,
-    };
-    let below = match r.hi {
-        Ext::Low => false,
-        Ext::Fin(hi) => n <= hi,
-        Ext::High => true,
-    };
-    above && below && is_of_class(n, c)
-}
-
-fn is_of_class(n: i128, c: Residue) -> bool {
-    match n.checked_sub(c.rem) {
-        Some(off) => match off.checked_rem(c.modulus) {
-            Some(rest) => rest == 0,
-            None => off == 0,
-        },
-        None => true,
-    }
-}
-
-// The least range that holds these numbers.
-fn hull(numbers: &[i128]) -> Option<Range> {
-    let lo = numbers.iter().copied().min()?;
-    let hi = numbers.iter().copied().max()?;
-    Some(Range {
-        lo: Ext::Fin(lo),
-        hi: Ext::Fin(hi),
-    })
-}
-
 // Whether the answers for the expression hold all its values, and whether the range is the least.
 fn try_value(state: &State, e: &NExpr, values: &[i128], told: &mut Told) {
     let (r, c) = (state.range(e), state.residue(e));
-    told.held.count(values.iter().all(|n| is_in(*n, r, c)));
+    told.held.count(all_in(values, r, c));
     match hull(values) {
         Some(least) => told.least.count(r == least),
         None => told.least.count(!r.holds_some()),
@@ -134,7 +96,7 @@ fn try_value(state: &State, e: &NExpr, values: &[i128], told: &mut Told) {
 fn try_test(
     alloc: Global,
     state: &State,
-    passed: &[[i128; 3]],
+    passed: &[Valuation],
     told: &mut Told,
 ) -> Result<(), NoMemory> {
     let mut kept = true;
@@ -147,7 +109,7 @@ fn try_test(
                 numbers.push(*n)?;
             }
         }
-        kept = kept && numbers.iter().all(|n| is_in(*n, r, c));
+        kept = kept && all_in(&numbers, r, c);
         told.cut.count(hull(&numbers) == Some(r));
     }
     told.kept.count(kept);
@@ -161,7 +123,7 @@ fn try_once(alloc: Global, random: &mut Pcg32, told: &mut Told) -> Result<(), No
         some_bounds(random),
         some_bounds(random),
     ];
-    let all = valuations(alloc, &bounds)?;
+    let all = walked(alloc, &bounds)?;
     let mut state = state_of(alloc, &bounds)?;
     let e = expression(alloc, random, 3)?;
     let mut values = Vec::new(alloc);

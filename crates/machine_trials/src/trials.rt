@@ -8,8 +8,9 @@ use crate::tally::Tally;
 use c_syntax::IntType;
 use ext_int::Ext;
 use machine_nums::MExpr;
-use num_api::{Live, Message, Range, Residue, Var};
+use num_api::{Live, Message, Range, Var};
 use rand_pcg::Pcg32;
+use small_boxes::{Valuation, all_in, hull, numbers_between, valuations};
 use std::alloc::{AllocError as NoMemory, Global};
 
 /// The variable that is given the value of an expression.
@@ -30,27 +31,12 @@ pub struct Told {
     pub lost: Vec<String>,
 }
 
-/// A number for each variable.
-type Valuation = [i128; 3];
-
 /// Variables of small ranges: a type and a range for each, and all valuations.
 #[derive(Drop)]
 struct Boxed {
     types: Types,
     bounds: [Bounds; 3],
     all: Vec<Valuation>,
-}
-
-fn valuations(alloc: Global, bounds: &[Bounds; 3]) -> Result<Vec<Valuation>, NoMemory> {
-    let mut all = Vec::new(alloc);
-    for a in bounds[0].lo..=bounds[0].hi {
-        for b in bounds[1].lo..=bounds[1].hi {
-            for c in bounds[2].lo..=bounds[2].hi {
-                all.push([a, b, c])?;
-            }
-        }
-    }
-    Ok(all)
 }
 
 fn some_box(alloc: Global, random: &mut Pcg32) -> Result<Boxed, NoMemory> {
@@ -60,7 +46,10 @@ fn some_box(alloc: Global, random: &mut Pcg32) -> Result<Boxed, NoMemory> {
         some_bounds(random, types[1]),
         some_bounds(random, types[2]),
     ];
-    let all = valuations(alloc, &bounds)?;
+    let firsts = numbers_between(alloc, bounds[0].lo, bounds[0].hi)?;
+    let seconds = numbers_between(alloc, bounds[1].lo, bounds[1].hi)?;
+    let thirds = numbers_between(alloc, bounds[2].lo, bounds[2].hi)?;
+    let all = valuations(alloc, &firsts, &seconds, &thirds)?;
     Ok(Boxed { types, bounds, all })
 }
 
@@ -77,49 +66,11 @@ fn state_of(alloc: Global, bounds: &[Bounds; 3]) -> Result<State, NoMemory> {
     Ok(state)
 }
 
-fn is_in(n: i128, r: Range, c: Residue) -> bool {
-    let above = match r.lo {
-        Ext::Low => true,
-        Ext::Fin(lo) => lo <= n,
-        Ext::High => false,
-    };
-    let below = match r.hi {
-        Ext::Low => false,
-        Ext::Fin(hi) => n <= hi,
-        Ext::High => true,
-    };
-    above && below && is_of_class(n, c)
-}
-
-fn is_of_class(n: i128, c: Residue) -> bool {
-    match n.checked_sub(c.rem) {
-        Some(off) => match off.checked_rem(c.modulus) {
-            Some(rest) => rest == 0,
-            None => off == 0,
-        },
-        None => true,
-    }
-}
-
-// The least range that holds these numbers.
-fn hull(numbers: &[i128]) -> Option<Range> {
-    let lo = numbers.iter().copied().min()?;
-    let hi = numbers.iter().copied().max()?;
-    Some(Range {
-        lo: Ext::Fin(lo),
-        hi: Ext::Fin(hi),
-    })
-}
-
 // Whether the range is the least that holds the numbers, where there are some.
 fn count_least(tally: &mut Tally, numbers: &[i128], r: Range) {
     if let Some(least) = hull(numbers) {
         tally.count(r == least);
     }
-}
-
-fn all_in(numbers: &[i128], r: Range, c: Residue) -> bool {
-    numbers.iter().all(|n| is_in(*n, r, c))
 }
 
 // Whether all exact results are held of the expression, and all values of a variable that is given it.
