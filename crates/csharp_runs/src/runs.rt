@@ -47,9 +47,7 @@ pub fn exec(
         CsStmt::Assume { .. } | CsStmt::Return { .. } => act(alloc, program, stmt, state),
         CsStmt::Exit { .. } | CsStmt::Goto { .. } => act(alloc, program, stmt, state),
         CsStmt::Label { .. } | CsStmt::Case { .. } => act(alloc, program, stmt, state),
-        CsStmt::Sequence { first, second } => {
-            exec_sequence(alloc, program, limits, first, second, state)
-        }
+        CsStmt::Sequence { first, second } => in_turn(alloc, program, limits, first, second, state),
         CsStmt::If {
             condition,
             then,
@@ -69,8 +67,9 @@ pub fn exec(
     }
 }
 
+// Two statements, the second behind the first.
 #[cycle(runs)]
-fn exec_sequence(
+fn in_turn(
     alloc: Global,
     program: &CsProgram,
     limits: Limits,

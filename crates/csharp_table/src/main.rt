@@ -18,10 +18,10 @@
 //! | `set:0`, `load:0:int`, `store:int`, `copy:4`, `undef:0`, `input:0:int`, `assume` | an action, with its temporary, type, size or object |
 //! | `check:Overflow:-2147483648:2147483647:0:0:-:1` | a check: kind, `lo`, `hi`, `size`, `align`, the type of a load, and how many operands |
 //! | `nothing`, `seq`, `if`, `loop`, `block`, `exit:0`, `goto:7`, `return:0`, `return:1` | statements; a return with no value or with one |
-//! | `scope:0:3`, `switch:-:3` | a scope, or a switch, with an object or none, and so many items |
+//! | `scope:0:3`, `switch:-:3` | a scope, or a switch, with objects (`0+1` are two) or none, and so many items |
 //! | `label:7`, `case:2`, `default` | items |
 //! | `call:9:1:1:0:2` | a call: column, function, how many arguments, and the temporaries of the value and the flag, or `-` |
-//! | `fn:-`, `fn:1` | a function with no parameter, or with this one |
+//! | `fn:-`, `fn:1`, `fn:1+2` | a function with no parameter, or with these |
 //! | `in:300`, `fuel:9`, `turns:2` | an input; the fuel, which is 9 without this word; how many turns behind the first are enough |
 //!
 //! A normal end is told with the values of the temporaries, a way out with what leaves, and a failure with the columns of its

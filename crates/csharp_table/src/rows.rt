@@ -134,11 +134,11 @@ impl Stacks {
         Ok(CsStmts::from_vec(items))
     }
 
-    /// One number, or none.
+    /// Numbers between plus signs, or none.
     pub fn numbers(&self, word: &str) -> Result<Numbers, Fault> {
         let mut numbers = Vec::new(self.alloc);
-        if let Some(number) = some_count(word)? {
-            numbers.push(number)?;
+        for number in word.split("+").filter(|number| *number != "-") {
+            numbers.push(count(number)?)?;
         }
         Ok(Numbers::from_vec(numbers))
     }

@@ -1,5 +1,5 @@
 //! Tests of what no program of the repository tells: memory, values, cells and sets, files and sinks, the single steps of
-//! the parser, and shares of trees.
+//! the parser, shares of trees, and lists of the language that is analysed.
 //!
 //! They stand here, and not in the crates that they call, since a crate with tests is proved twice.
 #![tactic(auto)]
@@ -8,6 +8,8 @@
 mod blocks;
 #[cfg(test)]
 mod cells;
+#[cfg(test)]
+mod csharp_lists;
 #[cfg(test)]
 mod host;
 #[cfg(test)]

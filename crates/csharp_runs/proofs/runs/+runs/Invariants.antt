@@ -15,8 +15,8 @@ use Rattle.csharp_runs.proofs.runs.+runs.Given as goal
 abbrev pub decreases-exec : goal.decreases-exec
 decreases-exec l = worth (csprogram_tree l.program.now) l.limits.fuel + 8 * csstmt_size (csstmt_tree l.stmt.now) + 1
 
-abbrev pub decreases-exec_sequence : goal.decreases-exec_sequence
-decreases-exec_sequence l =
+abbrev pub decreases-in_turn : goal.decreases-in_turn
+decreases-in_turn l =
     worth (csprogram_tree l.program.now) l.limits.fuel + 8 * (csstmt_size (csstmt_tree l.first.now) + csstmt_size (csstmt_tree l.second.now)) + 2
 
 abbrev pub decreases-exec_if : goal.decreases-exec_if
