@@ -8,12 +8,12 @@
 //! Overflow, with the operator's place, and both stand on the stack as before.
 //!
 //! A row needs values of the right types on the stack, and objects that live (`specs/Needs`): what the states of a typed
-//! run have. `stack_of` is the stack with the top first (`specs/Contents`), `Does` says what a row comes to
+//! run have (`c_row_needs`). `stack_of` is the stack with the top first (`specs/Contents`), `Does` says what a row comes to
 //! (`specs/Rows`). The rows themselves are those of `c_steps`.
 //!
 //! | What | Stated in `c_steps` | Promised by |
 //! |---|---|---|
-//! | the row of an item of the kinds that `Needs` lists | `Steps` | `Values::row` |
+//! | the row of an item of the kinds that `Items` lists | `Steps` | `Values::row` |
 //! | a test of a value, by which other rows go on | `Steps` | `Values::test` |
 //! | a call's arguments become the values of its parameters | `Calls` | `Values::enter` |
 #![tactic(auto)]

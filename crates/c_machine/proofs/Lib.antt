@@ -1,0 +1,7 @@
+mod Tested
+mod Parts
+mod Landing
+mod Chained
+mod Entered
+mod Reached
+mod Ready

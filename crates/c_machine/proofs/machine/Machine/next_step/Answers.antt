@@ -1,0 +1,52 @@
+use Rattle.std.proofs.Common.{List, drop, ap, ◌∙◌, subst}
+use Rattle.c_syntax.specs.Program.{tprogram_tree}
+use Rattle.c_steps.specs.States.{state}
+use Rattle.c_steps.specs.Steps.{work_step}
+use Rattle.c_steps.specs.Work as steps
+use Rattle.c_typed_runs.specs.Fits.{Fits}
+use Rattle.c_row_needs.proofs.Shaped.{work_left}
+use Rattle.c_value_rows.specs.Contents.{stack_of}
+use Rattle.c_work.specs.Views.{item_of}
+use Rattle.c_work.specs.Works.{work_of}
+use Rattle.c_machine.specs.Made.{state_of}
+use Rattle.c_machine.specs.States.{run_state}
+use Rattle.c_machine.specs.Steps.{IsRow}
+use Rattle.c_machine.proofs.Reached.{reached_fits, reached_next}
+use Rattle.c_machine.proofs.machine.Machine.next_step.Goals as goal
+
+pub unreachable-requires : goal.unreachable-requires
+unreachable-requires c =
+    let h = c.requires in
+    let run = c.args.self.now.run in
+    let p = tprogram_tree c.args.program.now in
+    work_left (subst (λ (w : List steps.Item). Fits p (state w (stack_of run.values) run.values.memory (drop run.read run.inputs))) c.in_default.ensures.0
+    (reached_fits p h.plan h.typed h.planned h.inputs (state_of c.args.self.now) h.bits h.reached))
+
+pub row-requires-clause-next : goal.row-requires-clause-next
+row-requires-clause-next c =
+    let h = c.requires in
+    let run = c.args.self.now.run in
+    let p = tprogram_tree c.args.program.now in
+    record {
+      typed = h.typed;
+      fits = subst (λ (w : List steps.Item). Fits p (state w (stack_of run.values) run.values.memory (drop run.read run.inputs))) c.in-Some.ensures
+          (reached_fits p h.plan h.typed h.planned h.inputs (state_of c.args.self.now) h.bits h.reached);
+    }
+
+pub returns-in-Went-clause-made : goal.returns-in-Went-clause-made
+returns-in-Went-clause-made c =
+    let h = c.requires in
+    let run = c.args.self.now.run in
+    let p = tprogram_tree c.args.program.now in
+    let rest = state (work_of c.take.new.self) (stack_of run.values) run.values.memory (drop run.read run.inputs) in
+    let went = subst (λ s. IsRow p (item_of c.in-Some.item) rest (run_state c.row.new.self) s) c.in-Went.is c.in_ok-step.ensures in
+    record {
+      plan = h.plan;
+      inputs = h.inputs;
+      typed = h.typed;
+      planned = h.planned;
+      bits = h.bits;
+      reached = reached_next p h.plan.main h.inputs (state_of c.args.self.now) (run_state c.row.new.self) h.reached
+          (ap (λ w. work_step p w (stack_of run.values) run.values.memory (drop run.read run.inputs)) c.in-Some.ensures ∙ went);
+      functions = h.functions;
+    }

@@ -1,0 +1,38 @@
+use Rattle.std.proofs.Common.{◌∷◌, refl, sym, ap, ◌∙◌, subst}
+use Rattle.c_shared.specs.Statements.{stmt_tree}
+use Rattle.c_shared.specs.declared.statement.SharedStmt.{SharedStmt}
+use Rattle.c_steps.specs.Work.{Do}
+use Rattle.c_value_rows.specs.Contents.{stack_of}
+use Rattle.c_value_rows.specs.Rows.{Tests}
+use Rattle.c_work.specs.Works.{work_of}
+use Rattle.std.proofs.Common.{true, false}
+use Rattle.c_machine.proofs.Tested.{chosen_one, choose_wrong, arrives, stays}
+use Rattle.c_machine.proofs.run.Run.choose.Goals as goal
+
+pub returns-in_ok-put-in-Passes : goal.returns-in_ok-put-in-Passes
+returns-in_ok-put-in-Passes c = λ p.
+    let m = c.args.self.now.values.memory in
+    let s = stack_of c.args.self.now.values in
+    let rest = stack_of c.test.new.self in
+    let h = subst (λ r. Tests p.objects c.args.ty s m rest r) c.in-Passes.is (c.in_ok-v.ensures.test p.objects) in
+    chosen_one p c.args.pos c.args.ty c.in-Passes.v s rest m h.0 (work_of c.args.self.now.work) _ (stmt_tree c.args.then.now.value) (stmt_tree c.args.otherwise.now.value) true h.1 (sym c.truth.ensures ∙ c.if-truth.true)
+    ∙ arrives _ _ _ _ _ _ _ (sym (c.in_ok-put-in-Passes.ensures ∙ ap (λ (x : SharedStmt). Do (stmt_tree x) ∷ work_of c.args.self.now.work) c.in_ok-clone-in-Passes.ensures.cases)) refl (sym c.in_ok-v.ensures.memory)
+
+pub returns-in_ok-put-in-Passes-2 : goal.returns-in_ok-put-in-Passes-2
+returns-in_ok-put-in-Passes-2 c = λ p.
+    let m = c.args.self.now.values.memory in
+    let s = stack_of c.args.self.now.values in
+    let rest = stack_of c.test.new.self in
+    let h = subst (λ r. Tests p.objects c.args.ty s m rest r) c.in-Passes.is (c.in_ok-v.ensures.test p.objects) in
+    chosen_one p c.args.pos c.args.ty c.in-Passes.v s rest m h.0 (work_of c.args.self.now.work) _ (stmt_tree c.args.then.now.value) (stmt_tree c.args.otherwise.now.value) false h.1 (sym c.truth.ensures ∙ c.if-truth.false)
+    ∙ arrives _ _ _ _ _ _ _ (sym (c.in_ok-put-in-Passes-2.ensures ∙ ap (λ (x : SharedStmt). Do (stmt_tree x) ∷ work_of c.args.self.now.work) c.in_ok-clone-in-Passes-2.ensures.cases)) refl (sym c.in_ok-v.ensures.memory)
+
+pub returns-in-Wrong : goal.returns-in-Wrong
+returns-in-Wrong c = λ p.
+    let m = c.args.self.now.values.memory in
+    let s = stack_of c.args.self.now.values in
+    let rest = stack_of c.test.new.self in
+    let h = subst (λ r. Tests p.objects c.args.ty s m rest r) c.in-Wrong.is (c.in_ok-v.ensures.test p.objects) in (
+      (h.0.3.0, choose_wrong p c.args.pos c.args.ty h.0.0 s h.0.1 m h.0.2 (work_of c.args.self.now.work) _ (stmt_tree c.args.then.now.value) (stmt_tree c.args.otherwise.now.value) _ h.0.3.0 h.0.3.1),
+      stays _ _ _ _ _ _ h.1 c.in_ok-v.ensures.memory,
+    )
