@@ -2,6 +2,12 @@
 
 use std::alloc::{AllocError, Global};
 
+/// The most steps of a run.
+const STEPS: u32 = 100_000;
+
+/// The most steps of a run that is to be timed.
+const MANY: u32 = 1_000_000_000;
+
 /// A case, line by line.
 #[derive(Drop)]
 pub struct Case {
@@ -28,7 +34,7 @@ impl Case {
         Ok(())
     }
 
-    /// The inputs, behind the word `inputs`; `None` where one is no number.
+    /// The inputs, behind the first word; `None` where one is no number.
     pub fn inputs(&self, alloc: Global) -> Result<Option<Vec<i64>>, AllocError> {
         let mut numbers = Vec::new(alloc);
         let Some(line) = &self.inputs else {
@@ -44,6 +50,14 @@ impl Case {
             numbers.push(number)?;
         }
         Ok(Some(numbers))
+    }
+
+    /// The most steps that the run makes: many, where the case begins with `timed` and not with `inputs`.
+    pub fn most_steps(&self) -> u32 {
+        match &self.inputs {
+            Some(line) if line.starts_with(b"timed") => MANY,
+            _ => STEPS,
+        }
     }
 
     /// The lines behind the inputs, each with its end.

@@ -19,9 +19,6 @@ use std::alloc::{AllocError, AllocFailed, Global};
 /// The most bytes of a file that is cut into tokens.
 const MOST: usize = 4_194_304;
 
-/// The most steps that a run makes.
-const STEPS: u32 = 100_000;
-
 /// What a run comes to.
 #[derive(Drop)]
 pub enum End {
@@ -69,7 +66,7 @@ fn run(alloc: Global, case: &Case) -> Result<End, Fault> {
     };
     let program = program(alloc, case.text())?;
     let machine = machine(alloc, &program, Inputs::from_vec(inputs))?;
-    steps(machine, &program)
+    steps(machine, &program, case.most_steps())
 }
 
 // The machine of a program that is admitted.
@@ -88,10 +85,10 @@ fn machine(alloc: Global, program: &TProgram, inputs: Inputs) -> Result<Machine,
     }
 }
 
-fn steps(mut machine: Machine, program: &TProgram) -> Result<End, Fault>
+fn steps(mut machine: Machine, program: &TProgram, most: u32) -> Result<End, Fault>
     requires { IsFor machine (tprogram_tree program.now) }
 {
-    'steps: for _ in 0..STEPS {
+    'steps: for _ in 0..most {
         if let Some(end) = one_step(&mut machine, program)? {
             return Ok(end);
         }
