@@ -3,3 +3,4 @@ pub mod Writing
 pub mod Statics
 pub mod Kept
 pub mod Cells
+pub mod FactsIn

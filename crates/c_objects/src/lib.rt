@@ -18,6 +18,7 @@
 //! | the start of a run | `Statics` | `start` |
 //! | what every memory keeps | `Kept` | `memory_keeps`, `objects_keep`, `start_keeps` |
 //! | what facts say of cells | `Cells` | `cells_are_read_at_their_types` |
+//! | when a fact holds in memory | `FactsIn` | the crates above that list facts |
 #![tactic(auto)]
 
 mod accesses;

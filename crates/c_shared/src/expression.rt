@@ -11,7 +11,6 @@ use std::rc::Rc;
 
 /// A typed expression whose parts are shared. Each form is that of `TExpr`.
 #[cycle(expressions)]
-#[derive(Drop)]
 pub enum SharedExpr {
     /// An integer: a constant, an enumeration constant or a size.
     Const {
@@ -144,9 +143,117 @@ pub enum SharedExpr {
     },
 }
 
+// Letting go of a node is one call; it goes as deep as the nesting.
+impl Drop for SharedExpr {
+    #[cycle(expressions)]
+    fn drop(self) {
+        match self {
+            SharedExpr::Const {
+                pos: _,
+                ty: _,
+                value: _,
+            } => {}
+            SharedExpr::Null { pos: _, ty: _ty } => {}
+            SharedExpr::Load {
+                pos: _,
+                place: _place,
+            } => {}
+            SharedExpr::AddressOf {
+                pos: _,
+                place: _place,
+            } => {}
+            SharedExpr::Decay {
+                pos: _,
+                place: _place,
+            } => {}
+            SharedExpr::Whole {
+                pos: _,
+                place: _place,
+            } => {}
+            SharedExpr::Unary {
+                pos: _,
+                op: _,
+                operand: _operand,
+            } => {}
+            SharedExpr::Binary {
+                pos: _,
+                op: _,
+                left: _left,
+                right: _right,
+            } => {}
+            SharedExpr::Convert {
+                pos: _,
+                ty: _ty,
+                operand: _operand,
+            } => {}
+            SharedExpr::Assign {
+                pos: _,
+                place: _place,
+                value: _value,
+            } => {}
+            SharedExpr::AssignStruct {
+                pos: _,
+                extent: _,
+                place: _place,
+                source: _source,
+            } => {}
+            SharedExpr::Compound {
+                pos: _,
+                op: _,
+                place: _place,
+                value: _value,
+            } => {}
+            SharedExpr::Step {
+                pos: _,
+                time: _,
+                way: _,
+                stride: _,
+                place: _place,
+            } => {}
+            SharedExpr::And {
+                pos: _,
+                left: _left,
+                right: _right,
+            } => {}
+            SharedExpr::Or {
+                pos: _,
+                left: _left,
+                right: _right,
+            } => {}
+            SharedExpr::Cond {
+                pos: _,
+                ty: _ty,
+                condition: _condition,
+                then: _then,
+                otherwise: _otherwise,
+            } => {}
+            SharedExpr::Comma {
+                pos: _,
+                left: _left,
+                right: _right,
+            } => {}
+            SharedExpr::Call {
+                pos: _,
+                function: _,
+                ty: _ty,
+                used: _,
+                args: _args,
+            } => {}
+            SharedExpr::Any { pos: _, ty: _ } => {}
+            SharedExpr::Assume {
+                pos: _,
+                operand: _operand,
+            } => {}
+            SharedExpr::Assert {
+                pos: _,
+                operand: _operand,
+            } => {}
+        }
+    }
+}
+
 /// An expression that names a place, whose parts are shared. Each form is that of `TLvalue`.
 #[cycle(expressions)]
-#[derive(Drop)]
 pub enum SharedPlace {
     /// The object of this number.
     Var {
@@ -173,6 +280,35 @@ pub enum SharedPlace {
         is_const: bool,
         place: Rc<SharedPlace>,
     },
+}
+
+impl Drop for SharedPlace {
+    #[cycle(expressions)]
+    fn drop(self) {
+        match self {
+            SharedPlace::Var {
+                pos: _,
+                object: _,
+                ty: _ty,
+                is_const: _,
+            } => {}
+            SharedPlace::Deref {
+                pos: _,
+                kind: _,
+                ty: _ty,
+                is_const: _,
+                pointer: _pointer,
+            } => {}
+            SharedPlace::Member {
+                pos: _,
+                member: _,
+                offset: _,
+                ty: _ty,
+                is_const: _,
+                place: _place,
+            } => {}
+        }
+    }
 }
 
 /// Expressions in their order, as the arguments of a call.

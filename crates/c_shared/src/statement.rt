@@ -9,7 +9,6 @@ use c_syntax::{BlockKind, CType, Extent, Numbers, Pos};
 use std::rc::Rc;
 
 /// An item of an initialiser, `offset` bytes after the object's first one, whose value is shared.
-#[derive(Drop)]
 pub enum SharedInit {
     /// The value is stored as an integer or a pointer of this type, which it has.
     Store {
@@ -25,9 +24,25 @@ pub enum SharedInit {
     },
 }
 
+impl Drop for SharedInit {
+    fn drop(self) {
+        match self {
+            SharedInit::Store {
+                offset: _,
+                ty: _ty,
+                value: _value,
+            } => {}
+            SharedInit::Copy {
+                offset: _,
+                extent: _,
+                source: _source,
+            } => {}
+        }
+    }
+}
+
 /// A typed statement, or what stands before one, whose parts are shared. Each form is that of `TStmt`.
 #[cycle(statements)]
-#[derive(Drop)]
 pub enum SharedStmt {
     /// `;`
     Empty {
@@ -128,6 +143,74 @@ pub enum SharedStmt {
     Default {
         pos: Pos,
     },
+}
+
+// One call, as for expressions.
+impl Drop for SharedStmt {
+    #[cycle(statements)]
+    fn drop(self) {
+        match self {
+            SharedStmt::Empty { pos: _ } => {}
+            SharedStmt::Expr {
+                pos: _,
+                value: _value,
+            } => {}
+            SharedStmt::Block {
+                pos: _,
+                kind: _,
+                objects: _objects,
+                items: _items,
+            } => {}
+            SharedStmt::Declare {
+                pos: _,
+                object: _,
+                inits: _inits,
+                zeroes_rest: _,
+            } => {}
+            SharedStmt::Static { pos: _, object: _ } => {}
+            SharedStmt::If {
+                pos: _,
+                condition: _condition,
+                then: _then,
+                otherwise: _otherwise,
+            } => {}
+            SharedStmt::While {
+                pos: _,
+                condition: _condition,
+                body: _body,
+            } => {}
+            SharedStmt::DoWhile {
+                pos: _,
+                body: _body,
+                condition: _condition,
+            } => {}
+            SharedStmt::For {
+                pos: _,
+                objects: _objects,
+                head: _head,
+                condition: _condition,
+                step: _step,
+                body: _body,
+            } => {}
+            SharedStmt::Switch {
+                pos: _,
+                value: _value,
+                kind: _,
+                objects: _objects,
+                items: _items,
+            } => {}
+            SharedStmt::Break { pos: _ } => {}
+            SharedStmt::Continue { pos: _ } => {}
+            SharedStmt::Goto { pos: _, label: _ } => {}
+            SharedStmt::Return {
+                pos: _,
+                value: _value,
+            } => {}
+            SharedStmt::Label { pos: _, label: _ } => {}
+            SharedStmt::Case { pos: _, value: _ } => {}
+            SharedStmt::Default { pos: _ } => {}
+        }
+    }
 }
 
 /// Statements in their order.

@@ -1,5 +1,5 @@
 -- Where a typed node stands, and the type of what it gives.
-use Rattle.std.specs.Prelude.{Bool, ◌||◌}
+use Rattle.std.specs.Prelude.{Bool, false, ◌||◌}
 use Rattle.c_written.specs.declared.place.Pos.{Pos}
 use Rattle.c_written.specs.declared.int_type.IntType.TheVariants as ints
 use Rattle.c_syntax.specs.declared.operator.TUnaryOp.{TUnaryOp}
@@ -116,3 +116,8 @@ texpr_type (Call at function ty used args) = ty
 texpr_type (Any at ty) = Int ty
 texpr_type (Assume at operand) = Void
 texpr_type (Assert at operand) = Void
+
+-- the value of a call is not used where what stands round it drops it (this profile)
+abbrev pub not_used : TExprTree → TExprTree
+not_used (Call at function ty used args) = Call at function ty false args
+not_used e = e

@@ -20,7 +20,6 @@ pub enum BlockKind {
 }
 
 /// An item of an initialiser, `offset` bytes after the object's first one.
-#[derive(Drop)]
 pub enum TInit {
     /// The value is stored as an integer or a pointer of this type, which it has.
     Store {
@@ -36,10 +35,26 @@ pub enum TInit {
     },
 }
 
+impl Drop for TInit {
+    fn drop(self) {
+        match self {
+            TInit::Store {
+                offset: _,
+                ty: _ty,
+                value: _value,
+            } => {}
+            TInit::Copy {
+                offset: _,
+                extent: _,
+                source: _source,
+            } => {}
+        }
+    }
+}
+
 /// A typed statement, or what stands before one: a label, a `case` or a `default`. These stand
 /// right among the items of a block.
 #[cycle(statements)]
-#[derive(Drop)]
 pub enum TStmt {
     /// `;`
     Empty {
@@ -140,6 +155,74 @@ pub enum TStmt {
     Default {
         pos: Pos,
     },
+}
+
+// A call of this crate, as for expressions; it goes as deep as the nesting.
+impl Drop for TStmt {
+    #[cycle(statements)]
+    fn drop(self) {
+        match self {
+            TStmt::Empty { pos: _ } => {}
+            TStmt::Expr {
+                pos: _,
+                value: _value,
+            } => {}
+            TStmt::Block {
+                pos: _,
+                kind: _,
+                objects: _objects,
+                items: _items,
+            } => {}
+            TStmt::Declare {
+                pos: _,
+                object: _,
+                inits: _inits,
+                zeroes_rest: _,
+            } => {}
+            TStmt::Static { pos: _, object: _ } => {}
+            TStmt::If {
+                pos: _,
+                condition: _condition,
+                then: _then,
+                otherwise: _otherwise,
+            } => {}
+            TStmt::While {
+                pos: _,
+                condition: _condition,
+                body: _body,
+            } => {}
+            TStmt::DoWhile {
+                pos: _,
+                body: _body,
+                condition: _condition,
+            } => {}
+            TStmt::For {
+                pos: _,
+                objects: _objects,
+                head: _head,
+                condition: _condition,
+                step: _step,
+                body: _body,
+            } => {}
+            TStmt::Switch {
+                pos: _,
+                value: _value,
+                kind: _,
+                objects: _objects,
+                items: _items,
+            } => {}
+            TStmt::Break { pos: _ } => {}
+            TStmt::Continue { pos: _ } => {}
+            TStmt::Goto { pos: _, label: _ } => {}
+            TStmt::Return {
+                pos: _,
+                value: _value,
+            } => {}
+            TStmt::Label { pos: _, label: _ } => {}
+            TStmt::Case { pos: _, value: _ } => {}
+            TStmt::Default { pos: _ } => {}
+        }
+    }
 }
 
 /// Statements in their order.

@@ -3,7 +3,7 @@
 
 ghost use Rattle.std.specs.Prelude.{◌≡◌};
 ghost use Rattle.c_syntax.specs.TypedExpr.{none, texpr_tree, texprs_from, texprs_tree, tlvalue_tree};
-ghost use Rattle.c_syntax.specs.TypedParts.{texpr_pos, tlvalue_is_const, tlvalue_pos, tlvalue_type};
+ghost use Rattle.c_syntax.specs.TypedParts.{not_used, texpr_pos, tlvalue_is_const, tlvalue_pos, tlvalue_type};
 ghost use Rattle.c_syntax.specs.Types.{ctype_tree};
 
 use crate::{
@@ -14,7 +14,6 @@ use std::alloc::Global;
 /// A typed expression. Every conversion of C stands in it as a node of its own, so that the
 /// operands of an operator have the operator's types.
 #[cycle(typed)]
-#[derive(Drop)]
 pub enum TExpr {
     /// An integer: a constant, an enumeration constant or a size.
     Const {
@@ -150,7 +149,6 @@ pub enum TExpr {
 /// An expression that names a place. `ty` is the type of what stands there, and `is_const` tells
 /// whether it is const.
 #[cycle(typed)]
-#[derive(Drop)]
 pub enum TLvalue {
     /// The object of this number.
     Var {
@@ -177,6 +175,145 @@ pub enum TLvalue {
         is_const: bool,
         place: Box<TLvalue>,
     },
+}
+
+// Letting go of a node is a call of this crate, so that the crates above need not prove again that it ends: it goes as
+// deep as the nesting.
+impl Drop for TExpr {
+    #[cycle(typed)]
+    fn drop(self) {
+        match self {
+            TExpr::Const {
+                pos: _,
+                ty: _,
+                value: _,
+            } => {}
+            TExpr::Null { pos: _, ty: _ty } => {}
+            TExpr::Load {
+                pos: _,
+                place: _place,
+            } => {}
+            TExpr::AddressOf {
+                pos: _,
+                place: _place,
+            } => {}
+            TExpr::Decay {
+                pos: _,
+                place: _place,
+            } => {}
+            TExpr::Whole {
+                pos: _,
+                place: _place,
+            } => {}
+            TExpr::Unary {
+                pos: _,
+                op: _,
+                operand: _operand,
+            } => {}
+            TExpr::Binary {
+                pos: _,
+                op: _,
+                left: _left,
+                right: _right,
+            } => {}
+            TExpr::Convert {
+                pos: _,
+                ty: _ty,
+                operand: _operand,
+            } => {}
+            TExpr::Assign {
+                pos: _,
+                place: _place,
+                value: _value,
+            } => {}
+            TExpr::AssignStruct {
+                pos: _,
+                extent: _,
+                place: _place,
+                source: _source,
+            } => {}
+            TExpr::Compound {
+                pos: _,
+                op: _,
+                place: _place,
+                value: _value,
+            } => {}
+            TExpr::Step {
+                pos: _,
+                time: _,
+                way: _,
+                stride: _,
+                place: _place,
+            } => {}
+            TExpr::And {
+                pos: _,
+                left: _left,
+                right: _right,
+            } => {}
+            TExpr::Or {
+                pos: _,
+                left: _left,
+                right: _right,
+            } => {}
+            TExpr::Cond {
+                pos: _,
+                ty: _ty,
+                condition: _condition,
+                then: _then,
+                otherwise: _otherwise,
+            } => {}
+            TExpr::Comma {
+                pos: _,
+                left: _left,
+                right: _right,
+            } => {}
+            TExpr::Call {
+                pos: _,
+                function: _,
+                ty: _ty,
+                used: _,
+                args: _args,
+            } => {}
+            TExpr::Any { pos: _, ty: _ } => {}
+            TExpr::Assume {
+                pos: _,
+                operand: _operand,
+            } => {}
+            TExpr::Assert {
+                pos: _,
+                operand: _operand,
+            } => {}
+        }
+    }
+}
+
+impl Drop for TLvalue {
+    #[cycle(typed)]
+    fn drop(self) {
+        match self {
+            TLvalue::Var {
+                pos: _,
+                object: _,
+                ty: _ty,
+                is_const: _,
+            } => {}
+            TLvalue::Deref {
+                pos: _,
+                kind: _,
+                ty: _ty,
+                is_const: _,
+                pointer: _pointer,
+            } => {}
+            TLvalue::Member {
+                pos: _,
+                member: _,
+                offset: _,
+                ty: _ty,
+                is_const: _,
+                place: _place,
+            } => {}
+        }
+    }
 }
 
 /// Expressions in their order, as the arguments of a call.
@@ -213,6 +350,47 @@ impl TExpr {
             | TExpr::Any { pos, .. }
             | TExpr::Assume { pos, .. }
             | TExpr::Assert { pos, .. } => *pos,
+        }
+    }
+
+    /// The expression where its value is dropped: a call then gives none.
+    pub fn not_used(self) -> TExpr
+        ensures { texpr_tree result ≡ not_used (texpr_tree self) }
+    {
+        match self {
+            TExpr::Call {
+                pos,
+                function,
+                ty,
+                used: _,
+                args,
+            } => TExpr::Call {
+                pos,
+                function,
+                ty,
+                used: false,
+                args,
+            },
+            other @ (TExpr::Const { .. }
+            | TExpr::Null { .. }
+            | TExpr::Load { .. }
+            | TExpr::AddressOf { .. }
+            | TExpr::Decay { .. }
+            | TExpr::Whole { .. }
+            | TExpr::Unary { .. }
+            | TExpr::Binary { .. }
+            | TExpr::Convert { .. }
+            | TExpr::Assign { .. }
+            | TExpr::AssignStruct { .. }
+            | TExpr::Compound { .. }
+            | TExpr::Step { .. }
+            | TExpr::And { .. }
+            | TExpr::Or { .. }
+            | TExpr::Cond { .. }
+            | TExpr::Comma { .. }
+            | TExpr::Any { .. }
+            | TExpr::Assume { .. }
+            | TExpr::Assert { .. }) => other,
         }
     }
 }

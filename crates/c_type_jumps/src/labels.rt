@@ -2,6 +2,7 @@
 #![tactic(auto)]
 
 ghost use Rattle.std.specs.Prelude.{◌≡◌};
+ghost use Rattle.c_syntax.specs.TypedStmt as trees;
 ghost use Rattle.c_syntax.specs.TypedStmt.{tstmt_tree};
 ghost use Rattle.c_typing.specs.Stmts as stmts;
 ghost use Rattle.c_typing.specs.World.{World as Program};
@@ -50,12 +51,25 @@ pub fn goto_of(around: Context, at: Pos, name: &[u8]) -> Result<TStmt, TypeError
     }
 }
 
-/// A statement that may stand here alone. Where it may not it is Undeclared at this place.
-pub fn allowed(at: Pos, is_allowed: bool, statement: TStmt) -> Result<TStmt, TypeError>
-    ensures { (w : Program) → Answers (λ out. out ≡ stmts.allowed w at is_allowed (tstmt_tree statement)) (λ s. stmts.one (tstmt_tree s)) w result }
+/// A `break`, in a loop or a switch. One elsewhere is Undeclared at this place.
+#[tactic(auto, using(c_syntax::proofs::Trees::the_trees))]
+pub fn break_of(around: Context, at: Pos) -> Result<TStmt, TypeError>
+    ensures { (w : Program) → Answers (λ out. out ≡ stmts.allowed w at (context_tree around.entry).breaks (trees.Break at)) (λ s. stmts.one (tstmt_tree s)) w result }
 {
-    if is_allowed {
-        Ok(statement)
+    if around.breaks {
+        Ok(TStmt::Break { pos: at })
+    } else {
+        Err(TypeError::Undeclared(at))
+    }
+}
+
+/// A `continue`, in a loop. One elsewhere is Undeclared at this place.
+#[tactic(auto, using(c_syntax::proofs::Trees::the_trees))]
+pub fn continue_of(around: Context, at: Pos) -> Result<TStmt, TypeError>
+    ensures { (w : Program) → Answers (λ out. out ≡ stmts.allowed w at (context_tree around.entry).continues (trees.Continue at)) (λ s. stmts.one (tstmt_tree s)) w result }
+{
+    if around.continues {
+        Ok(TStmt::Continue { pos: at })
     } else {
         Err(TypeError::Undeclared(at))
     }

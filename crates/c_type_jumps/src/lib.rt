@@ -31,7 +31,7 @@
 //! | labels, and gotos to them | `labelled`, `goto_of` | `labelled`, `goto_of` |
 //! | cases and defaults | `case_of`, `default_of` | `case_of`, `default_of` |
 //! | the cases of the switch around, kept while those of another are told | `without_cases`, `with_cases_of` | `begin_cases`, `end_cases` |
-//! | `break` and `continue` | `allowed` | `allowed` |
+//! | `break` and `continue` | `allowed` | `break_of`, `continue_of` |
 //! | `return` | `returned`, `returned_bare` | `returned`, `returned_bare` |
 //! | the value of a switch | `switched_by` | `switched_by` |
 //!
@@ -51,7 +51,7 @@ mod switches;
 pub use around::{Context, Function};
 pub use context_labels::labels_of;
 pub use definitions::FileNames;
-pub use labels::{allowed, goto_of, labelled};
+pub use labels::{break_of, continue_of, goto_of, labelled};
 pub use name_set::NameSet;
 pub use returns::{returned, returned_bare};
 pub use storage::is_word;

@@ -16,7 +16,7 @@ ghost use Rattle.c_type_names.specs.Views.{Answers};
 use crate::given::given;
 use c_syntax::{Op, Pos, StructDefs, TExpr};
 use c_type_names::{TypeError, no_rule};
-use c_type_operators::{Operand, cond_row, is_scalar, not_used};
+use c_type_operators::{Operand, cond_row, is_scalar};
 use std::alloc::{AllocError as NoMemory, Global};
 
 /// A condition, which is to be a scalar (C11 6.8.4.1p1, 6.8.5p2). Where it is none it is NoRule with Op `test`.
@@ -76,7 +76,7 @@ fn chosen(
 pub fn sequenced(alloc: Global, pos: Pos, a: TExpr, b: TExpr) -> Result<Operand, TypeError>
     ensures { (w : World) → Answers (λ out. out ≡ nodes.sequenced w pos (texpr_tree a) (texpr_tree b)) operand_tree w result }
 {
-    let node = comma_node(alloc, pos, not_used(a), b)?;
+    let node = comma_node(alloc, pos, a.not_used(), b)?;
     Ok(Operand::Value(node))
 }
 

@@ -8,7 +8,8 @@ use Rattle.c_syntax.specs.declared.operator.TBinaryOp.TheVariants as binaries
 use Rattle.c_syntax.specs.Types.{CTypeTree, Void, Int}
 use Rattle.c_syntax.specs.TypedExpr.{TExprTree, Null, Binary, Convert}
 use Rattle.c_layout.specs.Conversion.{promoted, balanced}
-use Rattle.c_typing.specs.Operands.{as_int, as_type, as_null, not_used}
+use Rattle.c_syntax.specs.TypedParts.{not_used}
+use Rattle.c_typing.specs.Operands.{as_int, as_type, as_null}
 use Rattle.c_typing.specs.Rows.{CompoundTree, Stored, Scalar, Copied, cast_node, store_row}
 use Rattle.c_type_operators.specs.declared.forms.Form.{Form}
 use Rattle.c_type_operators.specs.declared.forms.Form.TheVariants as forms

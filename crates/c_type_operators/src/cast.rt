@@ -7,7 +7,7 @@ ghost use Rattle.c_syntax.specs.TypedExpr.{texpr_tree};
 ghost use Rattle.c_typing.specs.Rows as rows;
 ghost use Rattle.c_type_operators.specs.Forms.{cast_of};
 
-use crate::{convert_node, is_null_constant, is_same, not_used};
+use crate::{convert_node, is_null_constant, is_same};
 use c_syntax::{CType, Pos, TExpr};
 use std::alloc::{AllocError as NoMemory, Global};
 
@@ -47,7 +47,7 @@ fn cast_as(alloc: Global, pos: Pos, form: Cast, target: &CType, e: TExpr) -> Res
     ensures { IfOk result (λ node. texpr_tree node ≡ cast_of form pos (ctype_tree target.now) (texpr_tree e)) }
 {
     match form {
-        Cast::Dropped => convert_node(alloc, pos, CType::Void, not_used(e)),
+        Cast::Dropped => convert_node(alloc, pos, CType::Void, e.not_used()),
         Cast::Same => cast_node(alloc, pos, target, e),
         Cast::Null => {
             let ty = target.copy()?;

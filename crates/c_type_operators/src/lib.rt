@@ -13,7 +13,6 @@
 //! | What | Stated in | Promised by |
 //! |---|---|---|
 //! | the value in a place, and its type | `Operands` of c_typing | `value_of`, `value_type`, `operand_type` |
-//! | a call whose value is dropped | `Operands` | `not_used` |
 //! | conversions, null pointers | `Operands` | `as_int`, `as_type`, `as_null` |
 //! | two integers at their balanced type | `Rows` | `balanced` |
 //! | one type, with const and without | `SameTypes` | `is_same`, `is_same_but_const`, `keeps_const` |
@@ -128,7 +127,7 @@ pub use compound::{Compound, compound_row, step_row};
 pub use conversions::{as_int, as_null, as_type, balanced, binary_node, convert_node, unary_node};
 pub use equality::{equality_row, order_row};
 pub use logical::{and_row, or_row};
-pub use operand::{Operand, not_used, operand_type, pointer_to, value_of, value_type};
+pub use operand::{Operand, operand_type, pointer_to, value_of, value_type};
 pub use places::{index_row, star_row};
 pub use store::{Stored, store_row, stored_row};
 pub use types::{

@@ -1,154 +1,99 @@
 -- Lists that are settled one by one.
-use Rattle.std.proofs.Common.{◌≡◌, ℕ, ◌+◌, ◌<◌, ◌≤◌, List, [], ◌∷◌, ◌++◌, refl, sym, ap, ◌∙◌, map, arith}
+use Rattle.std.proofs.Common.{◌≡◌, ℕ, ◌+◌, ◌<◌, List, [], ◌∷◌, ◌++◌, refl, sym, ap, ◌∙◌, map, length, take, get_or}
 use Rattle.std.specs.Prelude.{reverse}
-use Rattle.std.proofs.lemmas.List.{reverse-append, reverse-reverse}
+use Rattle.std.proofs.lemmas.List.{reverse-append, reverse-reverse, take_more}
 use Rattle.c_syntax.specs.declared.typed.TExpr.{TExpr}
+use Rattle.c_syntax.specs.declared.statement.TInit.{TInit}
 use Rattle.c_syntax.specs.declared.statement.TStmt.{TStmt}
 use Rattle.c_syntax.specs.Types.{ObjectTree}
 use Rattle.c_syntax.specs.TypedExpr as exprs
-use Rattle.c_syntax.specs.TypedExpr.{TExprTree, TExprTrees, texpr_tree, texprs_from}
+use Rattle.c_syntax.specs.TypedExpr.{TExprTree, TExprTrees, texpr_tree, texprs_from, texprs_then}
 use Rattle.c_syntax.specs.TypedStmt as stmts
-use Rattle.c_syntax.specs.TypedStmt.{TStmtTree, TStmtTrees, tstmt_tree, tstmts_from}
-use Rattle.c_syntax.specs.Sizes.{texpr_size, texprs_size, tstmt_size, tstmts_size}
-use Rattle.c_syntax.proofs.TypedExprTrees.{texprs_nil, texprs_cons}
-use Rattle.c_syntax.proofs.TypedStmtTrees.{tstmts_nil, tstmts_cons}
-use Rattle.c_typing.specs.Settled.{settled_expr, settled_exprs, settled_stmt, settled_stmts}
-use Rattle.c_type_programs.proofs.Lines.{exprs_none, exprs_more}
-use Rattle.c_type_programs.proofs.StmtLines.{stmts_none, stmts_more}
+use Rattle.c_syntax.specs.TypedStmt.{TStmtTree, TStmtTrees, tinit_tree, tstmt_tree, tstmts_from, tstmts_then}
+use Rattle.c_syntax.proofs.TypedExprTrees.{texprs_push}
+use Rattle.c_syntax.proofs.TypedStmtTrees.{tstmts_push}
+use Rattle.c_typing.specs.Settled.{settled_expr, settled_exprs, settled_init, settled_stmt, settled_stmts}
 
--- these items, and a list behind them
-unfoldable pub onto : {A T L : Type 0} → (A → T) → (T → L → L) → List A → L → L
-onto tree more [] l = l
-onto tree more (x ∷ xs) l = more (tree x) (onto tree more xs l)
+map_push : {A B : Type 0} (f : A → B) (items : List A) (last : A) → map f (items ++ last ∷ []) ≡ map f items ++ f last ∷ []
+map_push f [] last = refl
+map_push f (item ∷ items) last = ap (λ rest. f item ∷ rest) (map_push f items last)
 
-onto_push : {A T L : Type 0} (tree : A → T) (more : T → L → L) (xs : List A) (y : A) (l : L)
-    → onto tree more (xs ++ y ∷ []) l ≡ onto tree more xs (more (tree y) l)
+exprs_then : (objects : List ObjectTree) (items : TExprTrees) (last : TExprTree)
+    → settled_exprs objects (texprs_then items last) ≡ texprs_then (settled_exprs objects items) (settled_expr objects last)
+unfolding settled_exprs texprs_then
+exprs_then objects exprs.none last = refl
+exprs_then objects (exprs.more item rest) last = ap (exprs.more (settled_expr objects item)) (exprs_then objects rest last)
+
+stmts_then : (objects : List ObjectTree) (items : TStmtTrees) (last : TStmtTree)
+    → settled_stmts objects (tstmts_then items last) ≡ tstmts_then (settled_stmts objects items) (settled_stmt objects last)
+unfolding settled_stmts tstmts_then
+stmts_then objects stmts.none last = refl
+stmts_then objects (stmts.more item rest) last = ap (stmts.more (settled_stmt objects item)) (stmts_then objects rest last)
+
+-- what is done is the list up to an item, settled; and so it is up to the next
+one_more : {A T L : Type 0} (from : List A → L) (then : L → T → L) (tree : A → T) (settle : T → T) (all : L → L)
+    → ((items : List A) (last : A) → from (items ++ last ∷ []) ≡ then (from items) (tree last))
+    → ((items : L) (last : T) → all (then items last) ≡ then (all items) (settle last))
+    → (done items : List A) (i : ℕ) (next item : A) → i < length items
+    → from done ≡ all (from (take i items)) → item ≡ get_or items i item → tree next ≡ settle (tree item)
+    → from (done ++ next ∷ []) ≡ all (from (take (i + 1) items))
+one_more from then tree settle all push settles done items i next item h e is same =
+    push done next
+    ∙ ap (λ list. then list (tree next)) e
+    ∙ ap (then (all (from (take i items)))) same
+    ∙ sym (settles (from (take i items)) (tree item))
+    ∙ ap all (sym (push (take i items) item) ∙ ap from (ap (λ x. take i items ++ x ∷ []) is ∙ sym (take_more items i item h)))
+
+pub one_more_expr : (objects : List ObjectTree) (done items : List TExpr) (i : ℕ) (next item : TExpr) → i < length items
+    → texprs_from done ≡ settled_exprs objects (texprs_from (take i items)) → item ≡ get_or items i item
+    → texpr_tree next ≡ settled_expr objects (texpr_tree item)
+    → texprs_from (done ++ next ∷ []) ≡ settled_exprs objects (texprs_from (take (i + 1) items))
+one_more_expr objects = one_more texprs_from texprs_then texpr_tree (settled_expr objects) (settled_exprs objects) texprs_push (exprs_then objects)
+
+pub one_more_stmt : (objects : List ObjectTree) (done items : List TStmt) (i : ℕ) (next item : TStmt) → i < length items
+    → tstmts_from done ≡ settled_stmts objects (tstmts_from (take i items)) → item ≡ get_or items i item
+    → tstmt_tree next ≡ settled_stmt objects (tstmt_tree item)
+    → tstmts_from (done ++ next ∷ []) ≡ settled_stmts objects (tstmts_from (take (i + 1) items))
+one_more_stmt objects = one_more tstmts_from tstmts_then tstmt_tree (settled_stmt objects) (settled_stmts objects) tstmts_push (stmts_then objects)
+
+pub one_more_init : (objects : List ObjectTree) (done items : List TInit) (i : ℕ) (next item : TInit) → i < length items
+    → map tinit_tree done ≡ map (settled_init objects) (map tinit_tree (take i items)) → item ≡ get_or items i item
+    → tinit_tree next ≡ settled_init objects (tinit_tree item)
+    → map tinit_tree (done ++ next ∷ []) ≡ map (settled_init objects) (map tinit_tree (take (i + 1) items))
+one_more_init objects =
+    one_more (map tinit_tree) (λ items last. items ++ last ∷ []) tinit_tree (settled_init objects) (map (settled_init objects))
+    (map_push tinit_tree) (map_push (settled_init objects))
+
+-- ---- a list that is taken apart, from its first item on: these items, and a list behind them
+
+unfoldable pub onto : {A T : Type 0} → (A → T) → List A → List T → List T
+onto tree [] list = list
+onto tree (x ∷ xs) list = tree x ∷ onto tree xs list
+
+onto_push : {A T : Type 0} (tree : A → T) (xs : List A) (y : A) (list : List T) → onto tree (xs ++ y ∷ []) list ≡ onto tree xs (tree y ∷ list)
 unfolding onto
-onto_push tree more [] y l = refl
-onto_push tree more (x ∷ xs) y l = ap (more (tree x)) (onto_push tree more xs y l)
+onto_push tree [] y list = refl
+onto_push tree (x ∷ xs) y list = ap (λ rest. tree x ∷ rest) (onto_push tree xs y list)
 
-reversed : {A : Type 0} (left new : List A) (x : A) → left ≡ new ++ x ∷ [] → reverse left ≡ x ∷ reverse new
-reversed left new x e = ap reverse e ∙ reverse-append new (x ∷ [])
-
--- nothing is done yet
-pub begun : {A T L : Type 0} (tree : A → T) (more : T → L → L) (from : List A → L) (all : L → L) (given left : List A) → left ≡ reverse given
-    → onto tree more [] (all (from (reverse left))) ≡ all (from given)
+onto_none : {A T : Type 0} (tree : A → T) (xs : List A) → onto tree xs [] ≡ map tree xs
 unfolding onto
-begun tree more from all given left e = ap (λ xs. all (from xs)) (ap reverse e ∙ reverse-reverse given)
-
--- one more is done
-pub one_more : {A T L : Type 0} (tree : A → T) (more : T → L → L) (from : List A → L) (settle : T → T) (all : L → L)
-    → ((x : A) (xs : List A) → from (x ∷ xs) ≡ more (tree x) (from xs)) → ((t : T) (l : L) → all (more t l) ≡ more (settle t) (all l))
-    → (done left new : List A) (x y : A) (total : L) → left ≡ new ++ x ∷ [] → tree y ≡ settle (tree x)
-    → onto tree more done (all (from (reverse left))) ≡ total
-    → onto tree more (done ++ y ∷ []) (all (from (reverse new))) ≡ total
-one_more tree more from settle all cons settles done left new x y total e same p =
-    onto_push tree more done y (all (from (reverse new)))
-    ∙ ap (λ t. onto tree more done (more t (all (from (reverse new))))) same
-    ∙ ap (onto tree more done) (sym (settles (tree x) (from (reverse new))) ∙ ap all (sym (cons x (reverse new)) ∙ ap from (sym (reversed left new x e))))
-    ∙ p
-
--- all are done
-pub ended : {A T L : Type 0} (tree : A → T) (more : T → L → L) (from : List A → L) (all : L → L) → all (from []) ≡ from []
-    → ((x : A) (xs : List A) → from (x ∷ xs) ≡ more (tree x) (from xs)) → (done : List A) → onto tree more done (all (from [])) ≡ from done
-unfolding onto
-ended tree more from all nil cons [] = nil
-ended tree more from all nil cons (x ∷ xs) = ap (more (tree x)) (ended tree more from all nil cons xs) ∙ sym (cons x xs)
-
--- ---- expressions
-
-abbrev pub exprs_onto : List TExpr → TExprTrees → TExprTrees
-exprs_onto done list = onto texpr_tree exprs.more done list
-
-pub exprs_begun : (objects : List ObjectTree) (given left : List TExpr) (list : TExprTrees) → left ≡ reverse given → texprs_from given ≡ list
-    → exprs_onto [] (settled_exprs objects (texprs_from (reverse left))) ≡ settled_exprs objects list
-exprs_begun objects given left list e f = begun texpr_tree exprs.more texprs_from (settled_exprs objects) given left e ∙ ap (settled_exprs objects) f
-
-pub exprs_one_more : (objects : List ObjectTree) (done left new : List TExpr) (x y : TExpr) (total : TExprTrees) → left ≡ new ++ x ∷ []
-    → texpr_tree y ≡ settled_expr objects (texpr_tree x)
-    → exprs_onto done (settled_exprs objects (texprs_from (reverse left))) ≡ total
-    → exprs_onto (done ++ y ∷ []) (settled_exprs objects (texprs_from (reverse new))) ≡ total
-exprs_one_more objects = one_more texpr_tree exprs.more texprs_from (settled_expr objects) (settled_exprs objects) texprs_cons (exprs_more objects)
-
-pub exprs_ended : (objects : List ObjectTree) (done left : List TExpr) (total : TExprTrees) → left ≡ []
-    → exprs_onto done (settled_exprs objects (texprs_from (reverse left))) ≡ total → texprs_from done ≡ total
-exprs_ended objects done left total e p =
-    sym (ap (λ xs. exprs_onto done (settled_exprs objects (texprs_from (reverse xs)))) e
-    ∙ ended texpr_tree exprs.more texprs_from (settled_exprs objects) (ap (settled_exprs objects) texprs_nil ∙ exprs_none objects ∙ sym texprs_nil) texprs_cons done)
-    ∙ p
-
--- the whole is no larger than the list
-pub exprs_size_begun : (given left : List TExpr) (list : TExprTrees) → left ≡ reverse given → texprs_from given ≡ list
-    → texprs_size (texprs_from (reverse left)) ≤ texprs_size list
-exprs_size_begun given left list e f =
-    let same : texprs_size (texprs_from (reverse left)) ≡ texprs_size list = ap (λ xs. texprs_size (texprs_from xs)) (ap reverse e ∙ reverse-reverse given) ∙ ap texprs_size f in
-    omega arith
-
-exprs_size_left : (left new : List TExpr) (x : TExpr) → left ≡ new ++ x ∷ []
-    → texprs_size (texprs_from (reverse left)) ≡ 1 + (texpr_size (texpr_tree x) + texprs_size (texprs_from (reverse new)))
-exprs_size_left left new x e = ap texprs_size (ap texprs_from (reversed left new x e) ∙ texprs_cons x (reverse new))
-
-pub expr_below : (left new : List TExpr) (x : TExpr) (n : ℕ) → left ≡ new ++ x ∷ [] → texprs_size (texprs_from (reverse left)) ≤ n
-    → texpr_size (texpr_tree x) < n
-expr_below left new x n e h = let size = exprs_size_left left new x e in omega arith
-
-pub exprs_size_less : (left new : List TExpr) (x : TExpr) (n : ℕ) → left ≡ new ++ x ∷ [] → texprs_size (texprs_from (reverse left)) ≤ n
-    → texprs_size (texprs_from (reverse new)) ≤ n
-exprs_size_less left new x n e h = let size = exprs_size_left left new x e in omega arith
-
--- ---- statements
-
-abbrev pub stmts_onto : List TStmt → TStmtTrees → TStmtTrees
-stmts_onto done list = onto tstmt_tree stmts.more done list
-
-pub stmts_begun : (objects : List ObjectTree) (given left : List TStmt) (list : TStmtTrees) → left ≡ reverse given → tstmts_from given ≡ list
-    → stmts_onto [] (settled_stmts objects (tstmts_from (reverse left))) ≡ settled_stmts objects list
-stmts_begun objects given left list e f = begun tstmt_tree stmts.more tstmts_from (settled_stmts objects) given left e ∙ ap (settled_stmts objects) f
-
-pub stmts_one_more : (objects : List ObjectTree) (done left new : List TStmt) (x y : TStmt) (total : TStmtTrees) → left ≡ new ++ x ∷ []
-    → tstmt_tree y ≡ settled_stmt objects (tstmt_tree x)
-    → stmts_onto done (settled_stmts objects (tstmts_from (reverse left))) ≡ total
-    → stmts_onto (done ++ y ∷ []) (settled_stmts objects (tstmts_from (reverse new))) ≡ total
-stmts_one_more objects = one_more tstmt_tree stmts.more tstmts_from (settled_stmt objects) (settled_stmts objects) tstmts_cons (stmts_more objects)
-
-pub stmts_ended : (objects : List ObjectTree) (done left : List TStmt) (total : TStmtTrees) → left ≡ []
-    → stmts_onto done (settled_stmts objects (tstmts_from (reverse left))) ≡ total → tstmts_from done ≡ total
-stmts_ended objects done left total e p =
-    sym (ap (λ xs. stmts_onto done (settled_stmts objects (tstmts_from (reverse xs)))) e
-    ∙ ended tstmt_tree stmts.more tstmts_from (settled_stmts objects) (ap (settled_stmts objects) tstmts_nil ∙ stmts_none objects ∙ sym tstmts_nil) tstmts_cons done)
-    ∙ p
-
--- the whole is no larger than the list
-pub stmts_size_begun : (given left : List TStmt) (list : TStmtTrees) → left ≡ reverse given → tstmts_from given ≡ list
-    → tstmts_size (tstmts_from (reverse left)) ≤ tstmts_size list
-stmts_size_begun given left list e f =
-    let same : tstmts_size (tstmts_from (reverse left)) ≡ tstmts_size list = ap (λ xs. tstmts_size (tstmts_from xs)) (ap reverse e ∙ reverse-reverse given) ∙ ap tstmts_size f in
-    omega arith
-
-stmts_size_left : (left new : List TStmt) (x : TStmt) → left ≡ new ++ x ∷ []
-    → tstmts_size (tstmts_from (reverse left)) ≡ 1 + (tstmt_size (tstmt_tree x) + tstmts_size (tstmts_from (reverse new)))
-stmts_size_left left new x e = ap tstmts_size (ap tstmts_from (reversed left new x e) ∙ tstmts_cons x (reverse new))
-
-pub stmt_below : (left new : List TStmt) (x : TStmt) (n : ℕ) → left ≡ new ++ x ∷ [] → tstmts_size (tstmts_from (reverse left)) ≤ n
-    → tstmt_size (tstmt_tree x) < n
-stmt_below left new x n e h = let size = stmts_size_left left new x e in omega arith
-
-pub stmts_size_less : (left new : List TStmt) (x : TStmt) (n : ℕ) → left ≡ new ++ x ∷ [] → tstmts_size (tstmts_from (reverse left)) ≤ n
-    → tstmts_size (tstmts_from (reverse new)) ≤ n
-stmts_size_less left new x n e h = let size = stmts_size_left left new x e in omega arith
-
--- ---- lists of any kind, one by one
+onto_none tree [] = refl
+onto_none tree (x ∷ xs) = ap (λ rest. tree x ∷ rest) (onto_none tree xs)
 
 pub list_begun : {A T : Type 0} (tree : A → T) (settle : T → T) (given left : List A) → left ≡ reverse given
-    → onto tree ◌∷◌ [] (map settle (map tree (reverse left))) ≡ map settle (map tree given)
-list_begun tree settle = begun tree ◌∷◌ (map tree) (map settle)
+    → onto tree [] (map settle (map tree (reverse left))) ≡ map settle (map tree given)
+unfolding onto
+list_begun tree settle given left e = ap (λ xs. map settle (map tree xs)) (ap reverse e ∙ reverse-reverse given)
 
 pub list_one_more : {A T : Type 0} (tree : A → T) (settle : T → T) (done left new : List A) (x y : A) (total : List T) → left ≡ new ++ x ∷ []
-    → tree y ≡ settle (tree x) → onto tree ◌∷◌ done (map settle (map tree (reverse left))) ≡ total
-    → onto tree ◌∷◌ (done ++ y ∷ []) (map settle (map tree (reverse new))) ≡ total
-list_one_more tree settle = one_more tree ◌∷◌ (map tree) settle (map settle) (λ x xs. refl) (λ t l. refl)
+    → tree y ≡ settle (tree x) → onto tree done (map settle (map tree (reverse left))) ≡ total
+    → onto tree (done ++ y ∷ []) (map settle (map tree (reverse new))) ≡ total
+list_one_more tree settle done left new x y total e same p =
+    onto_push tree done y (map settle (map tree (reverse new)))
+    ∙ ap (λ t. onto tree done (t ∷ map settle (map tree (reverse new)))) same
+    ∙ sym (ap (λ xs. onto tree done (map settle (map tree xs))) (ap reverse e ∙ reverse-append new (x ∷ [])))
+    ∙ p
 
 pub list_ended : {A T : Type 0} (tree : A → T) (settle : T → T) (done left : List A) (total : List T) → left ≡ []
-    → onto tree ◌∷◌ done (map settle (map tree (reverse left))) ≡ total → map tree done ≡ total
-list_ended tree settle done left total e p =
-    sym (ap (λ xs. onto tree ◌∷◌ done (map settle (map tree (reverse xs)))) e ∙ ended tree ◌∷◌ (map tree) (map settle) refl (λ x xs. refl) done) ∙ p
+    → onto tree done (map settle (map tree (reverse left))) ≡ total → map tree done ≡ total
+list_ended tree settle done left total e p = sym (ap (λ xs. onto tree done (map settle (map tree (reverse xs)))) e ∙ onto_none tree done) ∙ p

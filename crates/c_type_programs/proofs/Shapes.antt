@@ -1,9 +1,10 @@
 -- A node of a shape is one of the variants that have it.
-use Rattle.std.proofs.Common.{◌≡◌, ℕ, Bool, List, refl}
+use Rattle.std.proofs.Common.{◌≡◌, ℕ, ℤ, Bool, List, refl}
 use Rattle.std.specs.Prelude.{Option}
 use Rattle.std.specs.declared.boxed.Box.{Box}
 use Rattle.std.specs.declared.alloc.Global.{Global}
 use Rattle.c_written.specs.declared.place.Pos.{Pos}
+use Rattle.c_written.specs.declared.int_type.IntType.{IntType}
 use Rattle.c_written.specs.declared.step.StepWay.{StepWay}
 use Rattle.c_syntax.specs.declared.operator.TUnaryOp.{TUnaryOp}
 use Rattle.c_syntax.specs.declared.operator.TBinaryOp.{TBinaryOp}
@@ -19,7 +20,17 @@ use Rattle.c_syntax.specs.declared.statement.TStmt.{TStmt}
 use Rattle.c_syntax.specs.declared.statement.TStmt.TheVariants as stmts
 use Rattle.c_syntax.specs.TypedExpr.{texpr_tree}
 use Rattle.c_syntax.specs.TypedStmt.{tstmt_tree}
-use Rattle.c_type_programs.specs.Shapes.{HasOneOperand, HasOperands, HoldsExpressions, IsAssignment, IsGuarded, IsUseOfPlace}
+use Rattle.c_shared.specs.Shapes.{HasOneOperand, HasOperands, HoldsExpressions, HoldsNothing, IsAssignment, IsGuarded, IsLeaf, IsUseOfPlace}
+
+pub no_leaf : (e : TExpr) → IsLeaf (texpr_tree e)
+    → ((at : Pos) (ty : IntType) (value : ℤ) → e ≡ exprs.Const at ty value → ⊥)
+    → ((at : Pos) (ty : IntType) → e ≡ exprs.Any at ty → ⊥)
+    → ((at : Pos) (ty : CType) → e ≡ exprs.Null at ty → ⊥) → ⊥
+unfolding texpr_tree
+no_leaf (exprs.Const at ty value) h const any null = const at ty value refl
+no_leaf (exprs.Any at ty) h const any null = any at ty refl
+no_leaf (exprs.Null at ty) h const any null = null at ty refl
+no_leaf _ h const any null = h
 
 pub no_use : (e : TExpr) → IsUseOfPlace (texpr_tree e)
     → ((at : Pos) (place : Box TLvalue Global) → e ≡ exprs.Load at place → ⊥)
@@ -71,6 +82,26 @@ no_assignment (exprs.Assign' at place_box place value_box value) h assign struct
 no_assignment (exprs.AssignStruct' at extent place_box place source_box source) h assign struct compound = struct at extent _ _ refl
 no_assignment (exprs.Compound' at op place_box place value_box value) h assign struct compound = compound at op _ _ refl
 no_assignment _ h assign struct compound = h
+
+pub no_bare : (s : TStmt) → HoldsNothing (tstmt_tree s)
+    → ((at : Pos) → s ≡ stmts.Empty at → ⊥)
+    → ((at : Pos) (object : ℕ) → s ≡ stmts.Static at object → ⊥)
+    → ((at : Pos) → s ≡ stmts.Break at → ⊥)
+    → ((at : Pos) → s ≡ stmts.Continue at → ⊥)
+    → ((at : Pos) (label : ℕ) → s ≡ stmts.Goto at label → ⊥)
+    → ((at : Pos) (label : ℕ) → s ≡ stmts.Label at label → ⊥)
+    → ((at : Pos) (value : ℤ) → s ≡ stmts.Case at value → ⊥)
+    → ((at : Pos) → s ≡ stmts.Default at → ⊥) → ⊥
+unfolding tstmt_tree
+no_bare (stmts.Empty at) h empty static break continue goto label case default = empty at refl
+no_bare (stmts.Static at object) h empty static break continue goto label case default = static at object refl
+no_bare (stmts.Break at) h empty static break continue goto label case default = break at refl
+no_bare (stmts.Continue at) h empty static break continue goto label case default = continue at refl
+no_bare (stmts.Goto at to) h empty static break continue goto label case default = goto at to refl
+no_bare (stmts.Label at named) h empty static break continue goto label case default = label at named refl
+no_bare (stmts.Case at value) h empty static break continue goto label case default = case at value refl
+no_bare (stmts.Default at) h empty static break continue goto label case default = default at refl
+no_bare _ h empty static break continue goto label case default = h
 
 pub no_plain : (s : TStmt) → HoldsExpressions (tstmt_tree s)
     → ((at : Pos) (value : TExpr) → s ≡ stmts.Expr at value → ⊥)

@@ -15,9 +15,9 @@
 //! | statements | `settled_stmt`, `settled_stmts` | `settled_stmt`, `settled_stmts` |
 //! | a function | `settled_function` | `settled_function` |
 //!
-//! A tree is taken apart and put together again, node by node, so that a body is never there twice: each node is given back
-//! before the one in its place is taken. A list is made anew, of the nodes that it has. A type is shared. Trees nest no
-//! deeper than the text does, and lists are walked by loops.
+//! A tree is made anew from the one that is there, node by node; a type is shared. The body that a function had is let go of
+//! before the next function is settled, so that one body at most is there twice. Trees nest no deeper than the text does, and
+//! lists are walked by loops.
 //!
 //! # The typed program at the end of its file
 //!
@@ -33,8 +33,8 @@
 //! | the program | `program_of` | `program_of` |
 //! | an initial value for each static object | `initials_from`, `given_initial` | `static_initials` |
 //!
-//! No body is copied (c_type_programs). Initial values go into a table by the numbers of their objects, from which each is
-//! taken once, so that none is searched for.
+//! Initial values go into a table by the numbers of their objects, from which each is taken once, so that none is searched
+//! for.
 #![tactic(auto)]
 
 mod exprs;

@@ -1,5 +1,5 @@
-// Statements, what initialises objects, and functions.
-#![tactic(auto)]
+// Statements, what initialises objects, and functions. A node with more than one part has a function of its own.
+#![tactic(auto, using(c_syntax::proofs::Trees::the_trees, c_syntax::proofs::Sizes::the_typed_sizes, crate::proofs::StmtLines::the_settled_stmts))]
 
 ghost use Rattle.std.specs.Prelude.{◌≡◌, IfOk, map, option_map};
 ghost use Rattle.c_syntax.specs.Program.{tfunction_tree};
@@ -8,13 +8,13 @@ ghost use Rattle.c_syntax.specs.TypedStmt.{tinit_tree, tstmt_tree, tstmts_tree};
 ghost use Rattle.c_syntax.specs.TypedStmt as trees;
 ghost use Rattle.c_syntax.specs.Types.{object_tree};
 ghost use Rattle.c_typing.specs.Settled as typing;
-ghost use Rattle.c_type_programs.specs.Shapes.{HoldsExpressions, IsGuarded};
+ghost use Rattle.c_shared.specs.Shapes.{HoldsExpressions, HoldsNothing, IsGuarded};
 
 use crate::exprs::settled_expr;
 use c_syntax::{BlockKind, Numbers, Object, Pos, TExpr, TFunction, TInit, TInits, TStmt, TStmts};
 use std::alloc::{AllocError as NoMemory, Global};
 
-/// The function with the types that objects have at the end of the file.
+/// The function with the types that objects have at the end of the file. The body that it had is let go of.
 pub fn settled_function(
     alloc: Global,
     objects: &[Object],
@@ -29,10 +29,7 @@ pub fn settled_function(
         result,
         body,
     } = function;
-    let body = match body {
-        None => None,
-        Some(body) => Some(settled_stmt(alloc, objects, body)?),
-    };
+    let body = settled_body(alloc, objects, &body)?;
     Ok(TFunction {
         name,
         pos,
@@ -42,39 +39,51 @@ pub fn settled_function(
     })
 }
 
+// A body that may be missing.
+fn settled_body(
+    alloc: Global,
+    objects: &[Object],
+    body: &Option<TStmt>,
+) -> Result<Option<TStmt>, NoMemory>
+    ensures { IfOk result (λ last. option_map tstmt_tree last ≡ option_map (typing.settled_stmt (map object_tree objects.now)) (option_map tstmt_tree body.now)) }
+{
+    match body {
+        None => Ok(None),
+        Some(body) => Ok(Some(settled_stmt(alloc, objects, body)?)),
+    }
+}
+
 /// The statement with the types that objects have at the end of the file.
 #[cycle(settles)]
-pub fn settled_stmt(alloc: Global, objects: &[Object], stmt: TStmt) -> Result<TStmt, NoMemory>
-    ensures { IfOk result (λ last. tstmt_tree last ≡ typing.settled_stmt (map object_tree objects.now) (tstmt_tree stmt)) }
+pub fn settled_stmt(alloc: Global, objects: &[Object], stmt: &TStmt) -> Result<TStmt, NoMemory>
+    ensures { IfOk result (λ last. tstmt_tree last ≡ typing.settled_stmt (map object_tree objects.now) (tstmt_tree stmt.now)) }
 {
     match stmt {
-        TStmt::Empty { .. } => Ok(stmt),
-        TStmt::Static { .. } => Ok(stmt),
-        TStmt::Break { .. } => Ok(stmt),
-        TStmt::Continue { .. } => Ok(stmt),
-        TStmt::Goto { .. } => Ok(stmt),
-        TStmt::Label { .. } => Ok(stmt),
-        TStmt::Case { .. } => Ok(stmt),
-        TStmt::Default { .. } => Ok(stmt),
+        TStmt::Empty { .. } => Ok(same_bare(objects, stmt)),
+        TStmt::Static { .. } => Ok(same_bare(objects, stmt)),
+        TStmt::Break { .. } | TStmt::Continue { .. } => Ok(same_bare(objects, stmt)),
+        TStmt::Goto { .. } => Ok(same_bare(objects, stmt)),
+        TStmt::Label { .. } => Ok(same_bare(objects, stmt)),
+        TStmt::Case { .. } => Ok(same_bare(objects, stmt)),
+        TStmt::Default { .. } => Ok(same_bare(objects, stmt)),
         TStmt::Expr { .. } => settled_plain(alloc, objects, stmt),
         TStmt::Declare { .. } => settled_plain(alloc, objects, stmt),
         TStmt::Return { .. } => settled_plain(alloc, objects, stmt),
         TStmt::If { .. } => settled_guarded(alloc, objects, stmt),
-        TStmt::While { .. } => settled_guarded(alloc, objects, stmt),
-        TStmt::DoWhile { .. } => settled_guarded(alloc, objects, stmt),
+        TStmt::While { .. } | TStmt::DoWhile { .. } => settled_guarded(alloc, objects, stmt),
         TStmt::Block {
             pos,
             kind,
             objects: numbers,
             items,
-        } => settled_block(alloc, objects, pos, kind, numbers, items),
+        } => settled_block(alloc, objects, *pos, *kind, numbers, items),
         TStmt::Switch {
             pos,
             value,
             kind,
             objects: numbers,
             items,
-        } => settled_switch(alloc, objects, pos, value, kind, numbers, items),
+        } => settled_switch(alloc, objects, *pos, value, *kind, numbers, items),
         TStmt::For {
             pos,
             objects: numbers,
@@ -82,18 +91,48 @@ pub fn settled_stmt(alloc: Global, objects: &[Object], stmt: TStmt) -> Result<TS
             condition,
             step,
             body,
-        } => settled_for(alloc, objects, pos, numbers, head, condition, step, body),
+        } => settled_for(alloc, objects, *pos, numbers, head, condition, step, body),
+    }
+}
+
+// A statement that holds no expression and no other statement, which stays as it is.
+fn same_bare(objects: &[Object], stmt: &TStmt) -> TStmt
+    requires { HoldsNothing (tstmt_tree stmt.now) }
+    ensures { tstmt_tree result ≡ typing.settled_stmt (map object_tree objects.now) (tstmt_tree stmt.now) }
+{
+    match stmt {
+        TStmt::Empty { pos } => TStmt::Empty { pos: *pos },
+        TStmt::Static { pos, object } => TStmt::Static {
+            pos: *pos,
+            object: *object,
+        },
+        TStmt::Break { pos } => TStmt::Break { pos: *pos },
+        TStmt::Continue { pos } => TStmt::Continue { pos: *pos },
+        TStmt::Goto { pos, label } => TStmt::Goto {
+            pos: *pos,
+            label: *label,
+        },
+        TStmt::Label { pos, label } => TStmt::Label {
+            pos: *pos,
+            label: *label,
+        },
+        TStmt::Case { pos, value } => TStmt::Case {
+            pos: *pos,
+            value: *value,
+        },
+        TStmt::Default { pos } => TStmt::Default { pos: *pos },
+        _ => unreachable!(),
     }
 }
 
 // A statement that holds expressions and no other statement.
-fn settled_plain(alloc: Global, objects: &[Object], stmt: TStmt) -> Result<TStmt, NoMemory>
-    requires { HoldsExpressions (tstmt_tree stmt) }
-    ensures { IfOk result (λ last. tstmt_tree last ≡ typing.settled_stmt (map object_tree objects.now) (tstmt_tree stmt)) }
+fn settled_plain(alloc: Global, objects: &[Object], stmt: &TStmt) -> Result<TStmt, NoMemory>
+    requires { HoldsExpressions (tstmt_tree stmt.now) }
+    ensures { IfOk result (λ last. tstmt_tree last ≡ typing.settled_stmt (map object_tree objects.now) (tstmt_tree stmt.now)) }
 {
     match stmt {
         TStmt::Expr { pos, value } => Ok(TStmt::Expr {
-            pos,
+            pos: *pos,
             value: settled_expr(alloc, objects, value)?,
         }),
         TStmt::Declare {
@@ -102,13 +141,13 @@ fn settled_plain(alloc: Global, objects: &[Object], stmt: TStmt) -> Result<TStmt
             inits,
             zeroes_rest,
         } => Ok(TStmt::Declare {
-            pos,
-            object,
+            pos: *pos,
+            object: *object,
             inits: settled_inits(alloc, objects, inits)?,
-            zeroes_rest,
+            zeroes_rest: *zeroes_rest,
         }),
         TStmt::Return { pos, value } => Ok(TStmt::Return {
-            pos,
+            pos: *pos,
             value: settled_option(alloc, objects, value)?,
         }),
         _ => unreachable!(),
@@ -117,9 +156,9 @@ fn settled_plain(alloc: Global, objects: &[Object], stmt: TStmt) -> Result<TStmt
 
 // A statement that goes by a condition.
 #[cycle(settles)]
-fn settled_guarded(alloc: Global, objects: &[Object], stmt: TStmt) -> Result<TStmt, NoMemory>
-    requires { IsGuarded (tstmt_tree stmt) }
-    ensures { IfOk result (λ last. tstmt_tree last ≡ typing.settled_stmt (map object_tree objects.now) (tstmt_tree stmt)) }
+fn settled_guarded(alloc: Global, objects: &[Object], stmt: &TStmt) -> Result<TStmt, NoMemory>
+    requires { IsGuarded (tstmt_tree stmt.now) }
+    ensures { IfOk result (λ last. tstmt_tree last ≡ typing.settled_stmt (map object_tree objects.now) (tstmt_tree stmt.now)) }
 {
     match stmt {
         TStmt::If {
@@ -127,43 +166,17 @@ fn settled_guarded(alloc: Global, objects: &[Object], stmt: TStmt) -> Result<TSt
             condition,
             then,
             otherwise,
-        } => {
-            let condition = settled_expr(alloc, objects, condition)?;
-            let then = boxed_stmt(alloc, objects, then)?;
-            let otherwise = boxed_stmt(alloc, objects, otherwise)?;
-            Ok(TStmt::If {
-                pos,
-                condition,
-                then,
-                otherwise,
-            })
-        }
+        } => settled_if(alloc, objects, *pos, condition, then, otherwise),
         TStmt::While {
             pos,
             condition,
             body,
-        } => {
-            let condition = settled_expr(alloc, objects, condition)?;
-            let body = boxed_stmt(alloc, objects, body)?;
-            Ok(TStmt::While {
-                pos,
-                condition,
-                body,
-            })
-        }
+        } => settled_while(alloc, objects, *pos, condition, body),
         TStmt::DoWhile {
             pos,
             body,
             condition,
-        } => {
-            let body = boxed_stmt(alloc, objects, body)?;
-            let condition = settled_expr(alloc, objects, condition)?;
-            Ok(TStmt::DoWhile {
-                pos,
-                body,
-                condition,
-            })
-        }
+        } => settled_do_while(alloc, objects, *pos, body, condition),
         _ => unreachable!(),
     }
 }
@@ -174,16 +187,73 @@ fn settled_block(
     objects: &[Object],
     pos: Pos,
     kind: BlockKind,
-    numbers: Numbers,
-    items: TStmts,
+    numbers: &Numbers,
+    items: &TStmts,
 ) -> Result<TStmt, NoMemory>
-    ensures { IfOk result (λ last. tstmt_tree last ≡ trees.Block pos kind numbers (typing.settled_stmts (map object_tree objects.now) (tstmts_tree items))) }
+    ensures { IfOk result (λ last. tstmt_tree last ≡ typing.settled_stmt (map object_tree objects.now)
+        (trees.Block pos kind numbers.now (tstmts_tree items.now))) }
 {
     Ok(TStmt::Block {
         pos,
         kind,
-        objects: numbers,
+        objects: numbers.copy()?,
         items: settled_stmts(alloc, objects, items)?,
+    })
+}
+
+#[cycle(settles)]
+fn settled_if(
+    alloc: Global,
+    objects: &[Object],
+    pos: Pos,
+    condition: &TExpr,
+    then: &TStmt,
+    otherwise: &TStmt,
+) -> Result<TStmt, NoMemory>
+    ensures { IfOk result (λ last. tstmt_tree last ≡ typing.settled_stmt (map object_tree objects.now)
+        (trees.If pos (texpr_tree condition.now) (tstmt_tree then.now) (tstmt_tree otherwise.now))) }
+{
+    Ok(TStmt::If {
+        pos,
+        condition: settled_expr(alloc, objects, condition)?,
+        then: boxed_stmt(alloc, objects, then)?,
+        otherwise: boxed_stmt(alloc, objects, otherwise)?,
+    })
+}
+
+#[cycle(settles)]
+fn settled_while(
+    alloc: Global,
+    objects: &[Object],
+    pos: Pos,
+    condition: &TExpr,
+    body: &TStmt,
+) -> Result<TStmt, NoMemory>
+    ensures { IfOk result (λ last. tstmt_tree last ≡ typing.settled_stmt (map object_tree objects.now)
+        (trees.While pos (texpr_tree condition.now) (tstmt_tree body.now))) }
+{
+    Ok(TStmt::While {
+        pos,
+        condition: settled_expr(alloc, objects, condition)?,
+        body: boxed_stmt(alloc, objects, body)?,
+    })
+}
+
+#[cycle(settles)]
+fn settled_do_while(
+    alloc: Global,
+    objects: &[Object],
+    pos: Pos,
+    body: &TStmt,
+    condition: &TExpr,
+) -> Result<TStmt, NoMemory>
+    ensures { IfOk result (λ last. tstmt_tree last ≡ typing.settled_stmt (map object_tree objects.now)
+        (trees.DoWhile pos (tstmt_tree body.now) (texpr_tree condition.now))) }
+{
+    Ok(TStmt::DoWhile {
+        pos,
+        body: boxed_stmt(alloc, objects, body)?,
+        condition: settled_expr(alloc, objects, condition)?,
     })
 }
 
@@ -192,19 +262,19 @@ fn settled_switch(
     alloc: Global,
     objects: &[Object],
     pos: Pos,
-    value: TExpr,
+    value: &TExpr,
     kind: BlockKind,
-    numbers: Numbers,
-    items: TStmts,
+    numbers: &Numbers,
+    items: &TStmts,
 ) -> Result<TStmt, NoMemory>
-    ensures { IfOk result (λ last. tstmt_tree last ≡ trees.Switch pos (typing.settled_expr (map object_tree objects.now) (texpr_tree value)) kind numbers
-        (typing.settled_stmts (map object_tree objects.now) (tstmts_tree items))) }
+    ensures { IfOk result (λ last. tstmt_tree last ≡ typing.settled_stmt (map object_tree objects.now)
+        (trees.Switch pos (texpr_tree value.now) kind numbers.now (tstmts_tree items.now))) }
 {
     Ok(TStmt::Switch {
         pos,
         value: settled_expr(alloc, objects, value)?,
         kind,
-        objects: numbers,
+        objects: numbers.copy()?,
         items: settled_stmts(alloc, objects, items)?,
     })
 }
@@ -214,20 +284,19 @@ fn settled_for(
     alloc: Global,
     objects: &[Object],
     pos: Pos,
-    numbers: Numbers,
-    head: TStmts,
-    condition: Option<TExpr>,
-    step: Option<TExpr>,
-    body: Box<TStmt>,
+    numbers: &Numbers,
+    head: &TStmts,
+    condition: &Option<TExpr>,
+    step: &Option<TExpr>,
+    body: &TStmt,
 ) -> Result<TStmt, NoMemory>
-    ensures { IfOk result (λ last. tstmt_tree last ≡ trees.For pos numbers (typing.settled_stmts (map object_tree objects.now) (tstmts_tree head))
-        (option_map (typing.settled_expr (map object_tree objects.now)) (option_map texpr_tree condition))
-        (option_map (typing.settled_expr (map object_tree objects.now)) (option_map texpr_tree step))
-        (typing.settled_stmt (map object_tree objects.now) (tstmt_tree body.value))) }
+    ensures { IfOk result (λ last. tstmt_tree last ≡ typing.settled_stmt (map object_tree objects.now)
+        (trees.For pos numbers.now (tstmts_tree head.now) (option_map texpr_tree condition.now) (option_map texpr_tree step.now)
+        (tstmt_tree body.now))) }
 {
     Ok(TStmt::For {
         pos,
-        objects: numbers,
+        objects: numbers.copy()?,
         head: settled_stmts(alloc, objects, head)?,
         condition: settled_option(alloc, objects, condition)?,
         step: settled_option(alloc, objects, step)?,
@@ -237,24 +306,21 @@ fn settled_for(
 
 /// The statements with the types that objects have at the end of the file.
 #[cycle(settles)]
-pub fn settled_stmts(alloc: Global, objects: &[Object], list: TStmts) -> Result<TStmts, NoMemory>
-    ensures { IfOk result (λ last. tstmts_tree last ≡ typing.settled_stmts (map object_tree objects.now) (tstmts_tree list)) }
+pub fn settled_stmts(alloc: Global, objects: &[Object], list: &TStmts) -> Result<TStmts, NoMemory>
+    ensures { IfOk result (λ last. tstmts_tree last ≡ typing.settled_stmts (map object_tree objects.now) (tstmts_tree list.now)) }
 {
-    let mut left = list.into_vec();
-    left.reverse();
-    let mut done = Vec::new(alloc);
-    'each: while let Some(item) = left.pop() {
-        let last = settled_stmt(alloc, objects, item)?;
-        done.push(last)?;
+    let mut items = Vec::new(alloc);
+    for item in list.as_slice() {
+        items.push(settled_stmt(alloc, objects, item)?)?;
     }
-    Ok(TStmts::from_vec(done))
+    Ok(TStmts::from_vec(items))
 }
 
 #[cycle(settles)]
-fn boxed_stmt(alloc: Global, objects: &[Object], stmt: Box<TStmt>) -> Result<Box<TStmt>, NoMemory>
-    ensures { IfOk result (λ last. tstmt_tree last.value ≡ typing.settled_stmt (map object_tree objects.now) (tstmt_tree stmt.value)) }
+fn boxed_stmt(alloc: Global, objects: &[Object], stmt: &TStmt) -> Result<Box<TStmt>, NoMemory>
+    ensures { IfOk result (λ last. tstmt_tree last.value ≡ typing.settled_stmt (map object_tree objects.now) (tstmt_tree stmt.now)) }
 {
-    let last = settled_stmt(alloc, objects, Box::into_inner(stmt))?;
+    let last = settled_stmt(alloc, objects, stmt)?;
     Ok(Box::new(alloc, last)?)
 }
 
@@ -262,9 +328,9 @@ fn boxed_stmt(alloc: Global, objects: &[Object], stmt: Box<TStmt>) -> Result<Box
 fn settled_option(
     alloc: Global,
     objects: &[Object],
-    value: Option<TExpr>,
+    value: &Option<TExpr>,
 ) -> Result<Option<TExpr>, NoMemory>
-    ensures { IfOk result (λ last. option_map texpr_tree last ≡ option_map (typing.settled_expr (map object_tree objects.now)) (option_map texpr_tree value)) }
+    ensures { IfOk result (λ last. option_map texpr_tree last ≡ option_map (typing.settled_expr (map object_tree objects.now)) (option_map texpr_tree value.now)) }
 {
     match value {
         None => Ok(None),
@@ -273,27 +339,24 @@ fn settled_option(
 }
 
 /// The items of an initialiser with the types that objects have at the end of the file.
-pub fn settled_inits(alloc: Global, objects: &[Object], list: TInits) -> Result<TInits, NoMemory>
-    ensures { IfOk result (λ last. map tinit_tree last ≡ map (typing.settled_init (map object_tree objects.now)) (map tinit_tree list)) }
+pub fn settled_inits(alloc: Global, objects: &[Object], list: &TInits) -> Result<TInits, NoMemory>
+    ensures { IfOk result (λ last. map tinit_tree last ≡ map (typing.settled_init (map object_tree objects.now)) (map tinit_tree list.now)) }
 {
-    let mut left = list.into_vec();
-    left.reverse();
-    let mut done = Vec::new(alloc);
-    'each: while let Some(item) = left.pop() {
-        let last = settled_init(alloc, objects, item)?;
-        done.push(last)?;
+    let mut items = Vec::new(alloc);
+    for item in list.as_slice() {
+        items.push(settled_init(alloc, objects, item)?)?;
     }
-    Ok(TInits::from_vec(done))
+    Ok(TInits::from_vec(items))
 }
 
 /// The item with the types that objects have at the end of the file.
-pub fn settled_init(alloc: Global, objects: &[Object], item: TInit) -> Result<TInit, NoMemory>
-    ensures { IfOk result (λ last. tinit_tree last ≡ typing.settled_init (map object_tree objects.now) (tinit_tree item)) }
+pub fn settled_init(alloc: Global, objects: &[Object], item: &TInit) -> Result<TInit, NoMemory>
+    ensures { IfOk result (λ last. tinit_tree last ≡ typing.settled_init (map object_tree objects.now) (tinit_tree item.now)) }
 {
     match item {
         TInit::Store { offset, ty, value } => Ok(TInit::Store {
-            offset,
-            ty,
+            offset: *offset,
+            ty: ty.copy()?,
             value: settled_expr(alloc, objects, value)?,
         }),
         TInit::Copy {
@@ -301,8 +364,8 @@ pub fn settled_init(alloc: Global, objects: &[Object], item: TInit) -> Result<TI
             extent,
             source,
         } => Ok(TInit::Copy {
-            offset,
-            extent,
+            offset: *offset,
+            extent: *extent,
             source: settled_expr(alloc, objects, source)?,
         }),
     }

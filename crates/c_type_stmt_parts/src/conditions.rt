@@ -15,7 +15,6 @@ use c_type_exprs::value;
 use c_type_jumps::{Switched, switched_by};
 use c_type_names::{TypeError, World};
 use c_type_nodes::tested;
-use c_type_operators::not_used;
 
 /// A condition of the statement at this place, which is to be a scalar (C11 6.8.4.1p1, 6.8.5p2). Where it is none it is
 /// NoRule with Op `test`.
@@ -49,7 +48,7 @@ pub fn dropped(world: &mut World, e: &Expr) -> Result<TExpr, TypeError>
     ensures { Answers (stmts.Dropped (world_of world.old) (expr_tree e.now)) texpr_tree (world_of world.new) result }
 {
     let x = typed!(value(world, e));
-    Ok(not_used(x))
+    Ok(x.not_used())
 }
 
 /// An expression that may be missing, and whose value is dropped.

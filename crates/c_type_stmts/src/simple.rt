@@ -6,7 +6,6 @@ ghost use Rattle.c_written.specs.Written.{expr_tree};
 ghost use Rattle.c_written.specs.WrittenDecl.{decl_tree};
 ghost use Rattle.c_written.specs.WrittenFile as files;
 ghost use Rattle.c_written.specs.WrittenFile.{StmtTree, forstart_tree, optional_tree};
-ghost use Rattle.c_syntax.specs.TypedStmt as trees;
 ghost use Rattle.c_syntax.specs.TypedStmt.{tstmt_tree};
 ghost use Rattle.c_typing.specs.Context.{Context as Surroundings};
 ghost use Rattle.c_typing.specs.Stmts.{TypesStart, TypesStmt, one};
@@ -19,7 +18,7 @@ ghost use Rattle.c_type_stmts.specs.Forms.{Behind, BehindDeclaration, ValueStart
 
 use c_syntax::{Decl, Expr, ForStart, Name, Pos, TStmt};
 use c_type_decls::{Made, declaration};
-use c_type_jumps::{Context, allowed, goto_of};
+use c_type_jumps::{Context, break_of, continue_of, goto_of};
 use c_type_names::{TypeError, World};
 use c_type_stmt_parts::{dropped, empty_node, expression_node, return_of};
 
@@ -97,28 +96,14 @@ pub(crate) fn goto_form(around: Context, at: Pos, label: &Name) -> Result<TStmt,
 pub(crate) fn continue_form(around: Context, at: Pos) -> Result<TStmt, TypeError>
     ensures { (w : Program) → Answers (TypesStmt w (context_tree around.entry) (files.Continue at)) (λ s. one (tstmt_tree s)) w result }
 {
-    allowed(at, around.continues, continue_node(at))
-}
-
-#[tactic(auto, using(c_syntax::proofs::Trees::the_trees))]
-fn continue_node(pos: Pos) -> TStmt
-    ensures { tstmt_tree result ≡ trees.Continue pos }
-{
-    TStmt::Continue { pos }
+    continue_of(around, at)
 }
 
 /// A `break`, in a loop or a switch (C11 6.8.6.3).
 pub(crate) fn break_form(around: Context, at: Pos) -> Result<TStmt, TypeError>
     ensures { (w : Program) → Answers (TypesStmt w (context_tree around.entry) (files.Break at)) (λ s. one (tstmt_tree s)) w result }
 {
-    allowed(at, around.breaks, break_node(at))
-}
-
-#[tactic(auto, using(c_syntax::proofs::Trees::the_trees))]
-fn break_node(pos: Pos) -> TStmt
-    ensures { tstmt_tree result ≡ trees.Break pos }
-{
-    TStmt::Break { pos }
+    break_of(around, at)
 }
 
 /// A `return` (C11 6.8.6.4).

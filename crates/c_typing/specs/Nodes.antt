@@ -21,14 +21,14 @@ use Rattle.c_syntax.specs.declared.operator.StepTime.{StepTime}
 use Rattle.c_syntax.specs.declared.operator.TUnaryOp.TheVariants as unaries
 use Rattle.c_syntax.specs.Types.{CTypeTree, Void, Int, Function, ObjectTree}
 use Rattle.c_syntax.specs.TypedExpr.{TExprTree, Const, AddressOf, Assign, AssignStruct, Compound, Step, Comma, Call, Any, Assume, Assert, TLvalueTree, Var, TExprTrees, none, more}
-use Rattle.c_syntax.specs.TypedParts.{texpr_type, tlvalue_type, tlvalue_is_const}
+use Rattle.c_syntax.specs.TypedParts.{texpr_type, tlvalue_type, tlvalue_is_const, not_used}
 use Rattle.c_layout.specs.Conversion.{literal_type_of}
 use Rattle.c_layout.specs.RowTypes.{is_declared_const}
 use Rattle.c_layout.specs.WellTyped.{is_array}
 use Rattle.c_typing.specs.World.{World, Form, Plain, Unsized, Callable, Meaning, Object, Missing, Parameter, TypeName, Enumeration, Refusal, no_rule, Undeclared, NotConstant, NotLvalue, Unsupported, Outcome, Typed, Refused, unless}
 use Rattle.c_typing.specs.World as world
 use Rattle.c_typing.specs.Names.{input_type, is_assume, is_assert, is_reserved, meaning_of, within_limits, with_literal, literal_type}
-use Rattle.c_typing.specs.Operands.{OperandTree, Place, Value, value_of, not_used, is_unsized, complete_size}
+use Rattle.c_typing.specs.Operands.{OperandTree, Place, Value, value_of, is_unsized, complete_size}
 use Rattle.c_typing.specs.Rows.{Stored, Scalar, Copied, is_scalar, unary_row, not_row, star_row, binary_row, cond_row, cast_row, is_pointer_integer, member_row, arrow_row, index_row, stored_row, store_row, compound_row, step_row}
 use Rattle.c_typing.specs.Declarators.{unknown_function}
 

@@ -2,7 +2,7 @@
 use Rattle.std.specs.Prelude.{ℕ, zero, Bool, true, false, if◌then◌else◌, Option, Some, None, List}
 use Rattle.c_written.specs.declared.int_type.IntType.{IntType}
 use Rattle.c_syntax.specs.Types.{CTypeTree, Int, Array, Struct}
-use Rattle.c_syntax.specs.TypedExpr.{TExprTree, Null, Load, Decay, Whole, Convert, Call, TLvalueTree}
+use Rattle.c_syntax.specs.TypedExpr.{TExprTree, Null, Load, Decay, Whole, Convert, TLvalueTree}
 use Rattle.c_syntax.specs.TypedParts.{texpr_pos, texpr_type, tlvalue_pos, tlvalue_type}
 use Rattle.c_syntax.specs.Program.{StructDefTree}
 use Rattle.c_layout.specs.declared.layout.Sized.{Sized}
@@ -29,11 +29,6 @@ value_of (Value e) = e
 abbrev pub operand_type : OperandTree → CTypeTree
 operand_type (Place place) = tlvalue_type place
 operand_type (Value e) = texpr_type e
-
--- the value of a call is not used where what stands round it drops it (this profile)
-abbrev pub not_used : TExprTree → TExprTree
-not_used (Call at function ty used args) = Call at function ty false args
-not_used e = e
 
 -- an integer as one of this type, which is a node only where it has another (C11 6.3.1.3)
 abbrev pub as_int : IntType → IntType → TExprTree → TExprTree

@@ -24,13 +24,13 @@ use Rattle.c_syntax.specs.declared.operator.TBinaryOp.{TBinaryOp}
 use Rattle.c_syntax.specs.declared.operator.TBinaryOp.TheVariants as binaries
 use Rattle.c_syntax.specs.Types.{CTypeTree, Void, Int, Pointer, Struct}
 use Rattle.c_syntax.specs.TypedExpr.{TExprTree, Null, Unary, Binary, Convert, And, Or, Cond, TLvalueTree, Deref, Member}
-use Rattle.c_syntax.specs.TypedParts.{texpr_type, tlvalue_type, tlvalue_is_const}
+use Rattle.c_syntax.specs.TypedParts.{texpr_type, tlvalue_type, tlvalue_is_const, not_used}
 use Rattle.c_syntax.specs.Program.{MemberTree, StructDefTree}
 use Rattle.c_layout.specs.Conversion.{promoted, balanced}
 use Rattle.c_layout.specs.Layout.{members_of, align_in}
 use Rattle.c_layout.specs.RowTypes.{is_void, has_const_target}
 use Rattle.c_typing.specs.SameTypes.{is_same, is_same_but_const, keeps_const}
-use Rattle.c_typing.specs.Operands.{as_int, as_type, as_null, complete_size, not_used}
+use Rattle.c_typing.specs.Operands.{as_int, as_type, as_null, complete_size}
 use Rattle.c_typing.specs.Constants.{is_null_constant}
 
 -- an integer or a pointer (C11 6.2.5p21)

@@ -12,13 +12,13 @@ use Rattle.c_syntax.specs.declared.op.Op.TheVariants as ops
 use Rattle.c_syntax.specs.declared.statement.BlockKind.TheVariants as kinds
 use Rattle.c_syntax.specs.Types.{CTypeTree, Void, Int}
 use Rattle.c_syntax.specs.TypedExpr.{TExprTree}
-use Rattle.c_syntax.specs.TypedParts.{texpr_type}
+use Rattle.c_syntax.specs.TypedParts.{texpr_type, not_used}
 use Rattle.c_syntax.specs.TypedStmt.{TStmtTree, TStmtTrees, Empty, Expr, Block, If, While, DoWhile, For, Switch, Break, Continue, Goto, Return, Label, Case, Default, none, more}
 use Rattle.c_layout.specs.Conversion.{promoted}
 use Rattle.c_typing.specs.World.{World, no_rule, Undeclared, NotConstant, Outcome, Typed, Refused, Then, Is}
 use Rattle.c_typing.specs.Names.{opened, closed, unless_declared}
 use Rattle.c_typing.specs.Constants.{constant_value}
-use Rattle.c_typing.specs.Operands.{not_used, as_int}
+use Rattle.c_typing.specs.Operands.{as_int}
 use Rattle.c_typing.specs.Rows.{store_row}
 use Rattle.c_typing.specs.Nodes.{tested}
 use Rattle.c_typing.specs.Typing.{Types, Valued}

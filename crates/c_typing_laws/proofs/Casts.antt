@@ -13,7 +13,7 @@ use Rattle.c_written.specs.Integer.{greatest, HasNumber, wrapped}
 use Rattle.c_written.specs.Constant.{first_holding}
 use Rattle.c_syntax.specs.Types.{CTypeTree, Void, Int, Pointer, Struct}
 use Rattle.c_syntax.specs.TypedExpr.{TExprTree, Const, Null, Load, AddressOf, Decay, Whole, Unary, Binary, Convert, Assign, AssignStruct, Compound, Step, And, Or, Cond, Comma, Call, Any, Assume, Assert}
-use Rattle.c_syntax.specs.TypedParts.{texpr_pos, texpr_type}
+use Rattle.c_syntax.specs.TypedParts.{texpr_pos, texpr_type, not_used}
 use Rattle.c_layout.specs.Conversion.{balanced}
 use Rattle.c_layout.specs.ProperTypes.{IsProperType, IsTold}
 use Rattle.c_layout.specs.RowTypes.{is_void, has_const_target, unqualified, KeepsConst, IsCondType}
@@ -21,7 +21,7 @@ use Rattle.c_layout.specs.TypedNodes.{Scope, IsTypedExpr, IsTypedPlace, AreTyped
 use Rattle.c_values.proofs.Settled.{wrapped_is_of}
 use Rattle.c_typing.specs.World.{World, Refusal, Typed, Refused}
 use Rattle.c_typing.specs.SameTypes.{is_same, is_same_but_const}
-use Rattle.c_typing.specs.Operands.{OperandTree, as_type, as_null, not_used}
+use Rattle.c_typing.specs.Operands.{OperandTree, as_type, as_null}
 use Rattle.c_typing.specs.Constants.{is_null_constant}
 use Rattle.c_typing.specs.Rows.{is_scalar, cond_type, cond_part, cond_row, cast_node, cast_row}
 use Rattle.c_typing.specs.Nodes.{given}

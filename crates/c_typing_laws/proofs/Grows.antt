@@ -26,7 +26,7 @@ use Rattle.c_typing.specs.Inits.{Initialised, static_bytes}
 use Rattle.c_typing.specs.Context.{Context, has_name}
 use Rattle.c_typing.specs.Decls as decls
 use Rattle.c_typing.specs.Decls.{Declares, AnObject, NoObject, ObjectNow, Made, nothing_made, both, made_then, made_of, automatic, static_made, numbers_from, function_tree}
-use Rattle.c_typing.specs.Operands.{not_used}
+use Rattle.c_syntax.specs.TypedParts.{not_used}
 use Rattle.c_typing.specs.Stmts.{one, no_else, without_cases}
 use Rattle.c_typing.proofs.Changes.{Constants, Any}
 use Rattle.c_typing.proofs.Good.{Good}

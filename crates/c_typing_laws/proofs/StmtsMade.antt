@@ -11,12 +11,11 @@ use Rattle.c_written.specs.WrittenFile.{ForStartTree, StmtTree, BlockItemTrees}
 use Rattle.c_syntax.specs.declared.statement.BlockKind.TheVariants as kinds
 use Rattle.c_syntax.specs.Types.{CTypeTree, Void, Int, Pointer, Array, Struct, Function}
 use Rattle.c_syntax.specs.TypedExpr.{TExprTree}
-use Rattle.c_syntax.specs.TypedParts.{texpr_type}
+use Rattle.c_syntax.specs.TypedParts.{texpr_type, not_used}
 use Rattle.c_syntax.specs.TypedStmt.{TStmtTree, TStmtTrees, Expr, Block, If, While, DoWhile, For, Switch, Break, Continue, Label, Case, Default, more}
 use Rattle.c_typing.specs.World.{World, Outcome, Typed, Refused, Then, Is}
 use Rattle.c_typing.specs.Names.{opened, closed}
 use Rattle.c_typing.specs.Constants.{constant_value}
-use Rattle.c_typing.specs.Operands.{not_used}
 use Rattle.c_typing.specs.Rows.{is_scalar, store_row}
 use Rattle.c_typing.specs.Typing.{Types, Valued}
 use Rattle.c_typing.specs.Context.{Context, inside_block, inside_loop, inside_switch}

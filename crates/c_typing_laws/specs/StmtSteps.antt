@@ -11,12 +11,12 @@ use Rattle.c_written.specs.WrittenFile.{ForStartTree, StmtTree, BlockItemTrees}
 use Rattle.c_syntax.specs.declared.statement.BlockKind.TheVariants as kinds
 use Rattle.c_syntax.specs.Types.{Void, Int}
 use Rattle.c_syntax.specs.TypedExpr.{TExprTree}
-use Rattle.c_syntax.specs.TypedParts.{texpr_type}
+use Rattle.c_syntax.specs.TypedParts.{texpr_type, not_used}
 use Rattle.c_syntax.specs.TypedStmt.{TStmtTrees, Empty, Expr, Block, If, While, DoWhile, For, Switch, Break, Continue, Goto, Return, Label, Case, Default, more}
 use Rattle.c_layout.specs.Conversion.{promoted}
 use Rattle.c_typing.specs.World.{World, Typed}
 use Rattle.c_typing.specs.Names.{opened, closed}
-use Rattle.c_typing.specs.Operands.{not_used, as_int}
+use Rattle.c_typing.specs.Operands.{as_int}
 use Rattle.c_typing.specs.Rows.{is_scalar, store_row}
 use Rattle.c_typing.specs.Typing.{Types, Valued}
 use Rattle.c_typing.specs.Context.{Context, inside_block, inside_loop, inside_switch}

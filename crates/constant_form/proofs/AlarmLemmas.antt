@@ -28,7 +28,8 @@ use Rattle.constant_form.specs.Operators.{Outcome, Gives, Fails, checked, negate
 use Rattle.constant_form.specs.Outcome.{Found, Value, found_at, negated, operated, found_of}
 use Rattle.constant_form.specs.Outcome as found
 use Rattle.constant_form.specs.Admission.{IsAdmitted}
-use Rattle.constant_form.specs.Sound.{MainGoesWrong, TellsOf, HoldsIn, Covers, IsSound}
+use Rattle.c_objects.specs.FactsIn.{HoldsIn}
+use Rattle.constant_form.specs.Sound.{MainGoesWrong, TellsOf, Covers, IsSound}
 use Rattle.constant_form.specs.Order.{Precedes, IsPrintable, IsNumeric}
 use Rattle.constant_form.proofs.MainLemmas.{WrongOnly, wrong_only}
 use Rattle.constant_form.proofs.CheckLemmas.{operator_checks, Makes, checks_at}
@@ -148,7 +149,7 @@ shown_there p e n form = itself_shown n
 covers : (program : TProgramTree) (e : ExprTree) (s : State) (p : Pos) (k : WrongKind) (n : ℤ) (a : Alarm) → IsForm program e → IsAlarmOf p k n a → (chain : List Pos) (at : Pos) (kind : WrongKind) (operand : Operand)
     → WrongOnly (found.Wrong p k (Number n)) chain at kind operand → Covers program s operand a
 covers program e s p k n a form is chain at kind operand (c, f, g, same) =
-    (rw (is.shown, same) (shown_there program e n form), subst (λ (facts : List Fact). All (HoldsIn program s.memory) facts) (sym is.facts) (none_all (HoldsIn program s.memory)))
+    (rw (is.shown, same) (shown_there program e n form), subst (λ (facts : List Fact). All (HoldsIn program.structs program.objects s.memory) facts) (sym is.facts) (none_all (HoldsIn program.structs program.objects s.memory)))
 
 -- an expression whose first check fails wants one alarm
 pub one_sound : (program : TProgramTree) (e : ExprTree) (p : Pos) (k : WrongKind) (n : ℤ) (a : Alarm) → found_of e ≡ found.Wrong p k (Number n) → IsAlarmOf p k n a → IsForm program e

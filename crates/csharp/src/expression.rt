@@ -7,7 +7,6 @@ use std::marker::Model;
 
 /// What is computed at once, without an effect. Its operators are those of typed expressions, so
 /// that both languages have one meaning of them.
-#[derive(Drop)]
 pub enum CsExpr {
     /// An integer of this type.
     Const {
@@ -38,6 +37,32 @@ pub enum CsExpr {
         ty: IntType,
         operand: Box<CsExpr>,
     },
+}
+
+// Letting go of a node is a call of this crate, so that the crates above need not prove again that it ends: it goes as
+// deep as the nesting.
+impl Drop for CsExpr {
+    fn drop(self) {
+        match self {
+            CsExpr::Const { ty: _, value: _ } => {}
+            CsExpr::Null => {}
+            CsExpr::Temp { temp: _ } => {}
+            CsExpr::Address { object: _ } => {}
+            CsExpr::Unary {
+                op: _,
+                operand: _operand,
+            } => {}
+            CsExpr::Binary {
+                op: _,
+                left: _left,
+                right: _right,
+            } => {}
+            CsExpr::Convert {
+                ty: _,
+                operand: _operand,
+            } => {}
+        }
+    }
 }
 
 /// Expressions in their order.

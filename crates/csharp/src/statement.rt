@@ -19,7 +19,6 @@ pub struct CsCall {
 
 /// A statement, or what stands before one among the items of a scope: a label, a case or a default.
 #[cycle(statements)]
-#[derive(Drop)]
 pub enum CsStmt {
     /// Does nothing.
     Nothing,
@@ -118,6 +117,71 @@ pub enum CsStmt {
     },
     /// An item of a switch.
     Default,
+}
+
+// A call of this crate, as for expressions.
+impl Drop for CsStmt {
+    #[cycle(statements)]
+    fn drop(self) {
+        match self {
+            CsStmt::Nothing => {}
+            CsStmt::Set {
+                temp: _,
+                value: _value,
+            } => {}
+            CsStmt::Load {
+                temp: _,
+                ty: _,
+                address: _address,
+            } => {}
+            CsStmt::Store {
+                ty: _,
+                address: _address,
+                value: _value,
+            } => {}
+            CsStmt::CopyBytes {
+                size: _,
+                to: _to,
+                from: _from,
+            } => {}
+            CsStmt::Undefine { object: _ } => {}
+            CsStmt::Checked { check: _check } => {}
+            CsStmt::Input { temp: _, ty: _ } => {}
+            CsStmt::Assume {
+                condition: _condition,
+            } => {}
+            CsStmt::Sequence {
+                first: _first,
+                second: _second,
+            } => {}
+            CsStmt::If {
+                condition: _condition,
+                then: _then,
+                otherwise: _otherwise,
+            } => {}
+            CsStmt::Loop {
+                pos: _,
+                body: _body,
+            } => {}
+            CsStmt::Block { body: _body } => {}
+            CsStmt::Exit { level: _ } => {}
+            CsStmt::Scope {
+                objects: _objects,
+                items: _items,
+            } => {}
+            CsStmt::Switch {
+                value: _value,
+                objects: _objects,
+                items: _items,
+            } => {}
+            CsStmt::Goto { label: _ } => {}
+            CsStmt::Call { call: _call } => {}
+            CsStmt::Return { value: _value } => {}
+            CsStmt::Label { pos: _, label: _ } => {}
+            CsStmt::Case { value: _ } => {}
+            CsStmt::Default => {}
+        }
+    }
 }
 
 /// Items of a scope in their order.

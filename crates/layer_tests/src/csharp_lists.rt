@@ -13,7 +13,11 @@ fn expressions(rt: HostRuntime) -> Result<(), Fail> {
     items.push(CsExpr::Null)?;
     items.push(CsExpr::Temp { temp: 3 })?;
     let list = CsExprs::from_vec(items);
-    assert!(rt; matches!(list.as_slice(), [CsExpr::Null, CsExpr::Temp { temp: 3 }]));
+    let [first, second] = list.as_slice() else {
+        return Err(Fail::new("another list"));
+    };
+    assert!(rt; matches!(first, CsExpr::Null));
+    assert!(rt; matches!(second, CsExpr::Temp { temp: 3 }));
     assert_eq!(rt; list.into_vec().len(), 2);
     Ok(())
 }
@@ -24,12 +28,11 @@ fn statements(rt: HostRuntime) -> Result<(), Fail> {
     items.push(CsStmt::Nothing)?;
     items.push(CsStmt::Exit { level: 2 })?;
     let list = CsStmts::from_vec(items);
-    assert!(rt;
-        matches!(
-            list.as_slice(),
-            [CsStmt::Nothing, CsStmt::Exit { level: 2 }]
-        )
-    );
+    let [first, second] = list.as_slice() else {
+        return Err(Fail::new("another list"));
+    };
+    assert!(rt; matches!(first, CsStmt::Nothing));
+    assert!(rt; matches!(second, CsStmt::Exit { level: 2 }));
     assert_eq!(rt; list.into_vec().len(), 2);
     Ok(())
 }
@@ -43,15 +46,10 @@ fn functions(rt: HostRuntime) -> Result<(), Fail> {
         body: CsStmt::Default,
     })?;
     let list = CsFunctions::from_vec(items);
-    assert!(rt;
-        matches!(
-            list.as_slice(),
-            [CsFunction {
-                body: CsStmt::Default,
-                ..
-            }]
-        )
-    );
+    let [only] = list.as_slice() else {
+        return Err(Fail::new("another list"));
+    };
+    assert!(rt; matches!(&only.body, CsStmt::Default));
     assert_eq!(rt; list.into_vec().len(), 1);
     Ok(())
 }

@@ -1,24 +1,20 @@
 -- When facts hold of a state, and what they name.
-use Rattle.std.specs.Prelude.{◌≡◌, ℕ, ℤ, ◌<◌, ◌++◌, List, All, Contains, Option, Some, IsSomeAnd, slice_get}
+use Rattle.std.specs.Prelude.{◌≡◌, ℕ, ℤ, ◌<◌, ◌++◌, List, All, Contains, IsSomeAnd, slice_get}
 use Rattle.c_syntax.specs.declared.alarm.Cell.{Cell}
 use Rattle.c_syntax.specs.declared.alarm.Fact.{Fact}
 use Rattle.c_syntax.specs.declared.alarm.Fact.TheVariants as facts
-use Rattle.c_syntax.specs.Fact.{FactHolds}
 use Rattle.c_syntax.specs.Types.{Int}
 use Rattle.c_written.specs.declared.int_type.IntType.{IntType}
 use Rattle.c_written.specs.Integer.{bytes}
 use Rattle.c_values.specs.Places.{ObjectMemory}
-use Rattle.c_objects.specs.Cells.{IsCellNumber, cell_spot}
+use Rattle.c_objects.specs.Cells.{IsCellNumber}
+use Rattle.c_objects.specs.FactsIn as facts_in
 use Rattle.csharp.specs.Trees.{CsProgramTree}
 use Rattle.decide.specs.Decisions.{NamesBelow}
 
--- each number that is told of a cell is the cell's
-abbrev pub TellNumbers : CsProgramTree → ObjectMemory → (Cell → Option ℤ) → Type 0
-TellNumbers q m number = (cell : Cell) (n : ℤ) → number cell ≡ Some n → IsCellNumber q.structs q.objects m cell n
-
--- the fact holds, whatever is told of cells
+-- the fact holds in memory of the program's objects
 abbrev pub HoldsIn : CsProgramTree → ObjectMemory → Fact → Type 0
-HoldsIn q m fact = (number : Cell → Option ℤ) → TellNumbers q m number → FactHolds q.objects number (cell_spot m) fact
+HoldsIn q m fact = facts_in.HoldsIn q.structs q.objects m fact
 
 abbrev pub NamesFactObjects : ℕ → Fact → Type 0
 NamesFactObjects count (facts.Between x lo hi) = x.object < count

@@ -1,6 +1,7 @@
 // Sets of states of the language that is analysed, and their laws.
 
-ghost use Rattle.std.specs.Prelude.{◌≡◌, ◌≢◌, ℕ, ℤ, List, [], ◌∷◌, ◌<◌, length, IsTrue, true, false, Bool, Option, Some, IfOk, OnOk};
+ghost use Rattle.std.specs.Prelude.{◌≡◌, ◌≢◌, ℕ, ℤ, pos, List, [], ◌∷◌, ◌<◌, length, IsTrue, true, false, Bool, Option, Some, IfOk, OnOk};
+ghost use Rattle.num_api.specs.Fold.{IsAlignment};
 ghost use Rattle.num_api.specs.Told.{Keeps};
 ghost use Rattle.num_api.specs.Lives.{is_live};
 ghost use Rattle.c_syntax.specs.Operand.{Operand};
@@ -46,8 +47,8 @@ pub trait MemDomain: Sized + Drop {
     /// It has this state alone, up to what no set tells apart. No input is left.
     ghost sharp: { Self → State → Type 0 };
 
-    /// Whether the sharp and the plain laws are claimed.
-    ghost exact: { Bool };
+    /// Whether the sharp and the plain laws are claimed of this program.
+    ghost exact: { CsProgramTree → Bool };
 
     /// What it knows is no wider than this plain state.
     ghost under: { Self → Plain → Type 0 };
@@ -60,8 +61,8 @@ pub trait MemDomain: Sized + Drop {
         requires { IsFormed (csprogram_tree program.now) }
         ensures is_for { IfOk result (λ m. Self.is_for m (csprogram_tree program.now)) }
         ensures stands { IfOk result (λ m. (inputs : List ℤ) → Self.stands m (first (csprogram_tree program.now) inputs)) }
-        ensures sharp { IfOk result (λ m. IsTrue Self.exact → Self.sharp m (first (csprogram_tree program.now) [])) }
-        ensures plain { IfOk result (λ m. IsTrue Self.exact → Self.under m (plain_first (csprogram_tree program.now))) };
+        ensures sharp { IfOk result (λ m. IsTrue (Self.exact (csprogram_tree program.now)) → Self.sharp m (first (csprogram_tree program.now) [])) }
+        ensures plain { IfOk result (λ m. IsTrue (Self.exact (csprogram_tree program.now)) → Self.under m (plain_first (csprogram_tree program.now))) };
 
     /// A set that equals this one.
     fn copy(&self) -> Result<Self, NoMemory>
@@ -157,7 +158,9 @@ pub trait MemDomain: Sized + Drop {
         ensures plain { IfOk result (λ live. (q : CsProgramTree) (p : Plain) (r : Option Plain) → Self.is_for self.old q → Self.under self.old p
             → plains.plain_test q.temps p (csexpr_tree condition.now) truth ≡ Some r → IsBelow Self.under (is_live live) self.new r) };
 
-    /// What holds the operand of the check. Of an address in one named object it shows that object alone.
+    /// What holds the operand of the check. Of an address in one named object it shows that object alone, at
+    /// offsets that are multiples of each alignment of which its steps are. Of other numbers that is not asked:
+    /// a class has a modulus of at most 2^100, so that of a step by 2^101 no class tells more.
     fn show(&self, check: &CsCheck) -> Result<Shown, NoMemory>
         requires { IsGiven (Self.is_for self.now) (code.Checked (cscheck_tree check.now)) }
         ensures holds { IfOk result (λ w. (q : CsProgramTree) (s : State) (x : Operand) → Self.is_for self.now q → Self.stands self.now s
@@ -169,10 +172,12 @@ pub trait MemDomain: Sized + Drop {
             → looked_at (cscheck_tree check.now) s ≡ Some x → IsAlone q.objects x w) }
         ensures plain { IfOk result (λ w. (q : CsProgramTree) (p : Plain) (x : Operand) → Self.is_for self.now q → Self.under self.now p
             → plain_suspect q.temps p (cscheck_tree check.now) ≡ Some false → IsInShown q.objects x w → Fails q.objects check.now.check x → ⊥) }
-        ensures named { IfOk result (λ w. (q : CsProgramTree) (e : CsExprTree) (o c : ℕ) → IsTrue Self.exact → Self.is_for self.now q
-            → LooksAtPlace check.now.check.kind → (cscheck_tree check.now).operands ≡ e ∷ [] → IsNamed o c e → ShowsOnly q.objects o c w) }
-        ensures fixed { IfOk result (λ w. (e : CsExprTree) (f : Fixed) → IsTrue Self.exact → LooksAtPlace check.now.check.kind
-            → (cscheck_tree check.now).operands ≡ e ∷ [] → fixed_at e ≡ Some f → IsModerate (Some f.offset) → ShowsOffset f.offset w) };
+        ensures named { IfOk result (λ w. (q : CsProgramTree) (e : CsExprTree) (o c : ℕ) → IsTrue (Self.exact q) → Self.is_for self.now q
+            → LooksAtPlace check.now.check.kind → (cscheck_tree check.now).operands ≡ e ∷ [] → IsAlignment (pos c) → IsNamed o c e
+            → ShowsOnly q.objects o c w) }
+        ensures fixed { IfOk result (λ w. (q : CsProgramTree) (e : CsExprTree) (f : Fixed) → IsTrue (Self.exact q) → Self.is_for self.now q
+            → LooksAtPlace check.now.check.kind → (cscheck_tree check.now).operands ≡ e ∷ [] → fixed_at e ≡ Some f → IsModerate (Some f.offset)
+            → ShowsOffset f.offset w) };
 
     /// Keeps the states in which the check passes; `Dead` only where there is none.
     fn pass(&mut self, check: &CsCheck) -> Result<Live, NoMemory>
@@ -234,7 +239,7 @@ pub trait MemDomain: Sized + Drop {
     ghost under_right: { (m : Self) (p q : Plain) → under m q → under m (hull p q) };
 }
 
-/// A memory domain that keeps the sharp and the plain laws.
+/// A memory domain that keeps the sharp and the plain laws of each program.
 pub trait Exact: MemDomain {
-    ghost is_exact: { IsTrue Self.exact };
+    ghost is_exact: { (q : CsProgramTree) → IsTrue (Self.exact q) };
 }

@@ -84,7 +84,7 @@ impl MemDomain for Everything {
 
     ghost sharp = { λ m s. ⊥ };
 
-    ghost exact = { false };
+    ghost exact = { λ q. false };
 
     ghost under = { λ m p. ⊥ };
 

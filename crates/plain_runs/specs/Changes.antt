@@ -163,20 +163,20 @@ temps_behind p ranges d = between (ranges d).lo (ranges d).hi (p.temps d)
 abbrev pub has_numbers : Span → Bool
 has_numbers s = int_le s.lo s.hi
 
-abbrev has_values : Option Cell → Bool
+abbrev pub has_values : Option Cell → Bool
 has_values None = true
 has_values (Some cell) = has_numbers cell.numbers
 
-abbrev source_in : Plain → Option ℕ → Option Cell
+abbrev pub source_in : Plain → Option ℕ → Option Cell
 source_in p None = None
 source_in p (Some x) = p.objects x
 
 -- numbers are left of each of these temporaries, and of each object of which one is a copy
-abbrev are_left : Plain → List ℕ → Bool
+abbrev pub are_left : Plain → List ℕ → Bool
 are_left p [] = true
 are_left p (d ∷ ds) = has_numbers (p.temps d) && has_values (source_in p (p.copies d)) && are_left p ds
 
-abbrev if_left : List ℕ → Plain → Option Plain
+abbrev pub if_left : List ℕ → Plain → Option Plain
 if_left ds p = if are_left p ds then Some p else None
 
 -- the state behind a test that has this truth; a test leads nowhere where its interval excludes the truth, or where its cuts leave nothing

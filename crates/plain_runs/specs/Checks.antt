@@ -112,7 +112,7 @@ abbrev pub with_operand : Plain → CsExprTree → Span → Span → Option Plai
 with_operand p (Temp d) before after = Some (record p { temps = λ k. if k == d then after else p.temps k; passed = None })
 with_operand p e before after = if int_eq before.lo after.lo && int_eq before.hi after.hi then Some (record p { passed = None }) else None
 
-abbrev if_reached : {A : Type 0} → Span → Option A → Option (Option A)
+abbrev pub if_reached : {A : Type 0} → Span → Option A → Option (Option A)
 if_reached s q = if has_numbers s then option_map Some q else Some None
 
 abbrev pub pass_operand : List Scalar → Plain → CsExprTree → (Span → Span) → Option (Option Plain)

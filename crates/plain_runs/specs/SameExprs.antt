@@ -32,7 +32,7 @@ type_number ints.ULLong = 10
 abbrev pub is_same_type : IntType → IntType → Bool
 is_same_type t u = type_number t == type_number u
 
-abbrev arithmetic_number : Arithmetic → ℕ
+abbrev pub arithmetic_number : Arithmetic → ℕ
 arithmetic_number arithmetics.Multiply = 0
 arithmetic_number arithmetics.Divide = 1
 arithmetic_number arithmetics.Remainder = 2
@@ -42,11 +42,11 @@ arithmetic_number arithmetics.BitAnd = 5
 arithmetic_number arithmetics.BitXor = 6
 arithmetic_number arithmetics.BitOr = 7
 
-abbrev shift_number : Shift → ℕ
+abbrev pub shift_number : Shift → ℕ
 shift_number shifts.Left = 0
 shift_number shifts.Right = 1
 
-abbrev comparison_number : Comparison → ℕ
+abbrev pub comparison_number : Comparison → ℕ
 comparison_number comparisons.Less = 0
 comparison_number comparisons.Greater = 1
 comparison_number comparisons.AtMost = 2
@@ -54,14 +54,14 @@ comparison_number comparisons.AtLeast = 3
 comparison_number comparisons.Equal = 4
 comparison_number comparisons.Unequal = 5
 
-abbrev is_same_unary : TUnaryOp → TUnaryOp → Bool
+abbrev pub is_same_unary : TUnaryOp → TUnaryOp → Bool
 is_same_unary (unaries.Plus t) (unaries.Plus u) = is_same_type t u
 is_same_unary (unaries.Minus t) (unaries.Minus u) = is_same_type t u
 is_same_unary (unaries.Complement t) (unaries.Complement u) = is_same_type t u
 is_same_unary unaries.Not unaries.Not = true
 is_same_unary op other = false
 
-abbrev is_same_binary : TBinaryOp → TBinaryOp → Bool
+abbrev pub is_same_binary : TBinaryOp → TBinaryOp → Bool
 is_same_binary (binaries.Arithmetic op t) (binaries.Arithmetic other u) = arithmetic_number op == arithmetic_number other && is_same_type t u
 is_same_binary (binaries.Shift way t) (binaries.Shift other u) = shift_number way == shift_number other && is_same_type t u
 is_same_binary (binaries.CompareInts op t) (binaries.CompareInts other u) = comparison_number op == comparison_number other && is_same_type t u

@@ -1,6 +1,7 @@
 -- What is shown of checks by their kind, and which numbers are allowed.
-use Rattle.std.proofs.Common.{◌≡◌, ◌≤ℤ◌, ◌<ℤ◌, ◌⊎◌, inl, inr, ℤ, pos, arith, refl, sym, subst, ap, ◌∙◌, Bool, true, false, List}
-use Rattle.std.specs.Prelude.{◌||◌, int_lt}
+use Rattle.std.proofs.Common.{◌≡◌, ◌≤ℤ◌, ◌<ℤ◌, ◌⊎◌, inl, inr, ℤ, pos, negsuc, arith, refl, sym, subst, ap, ◌∙◌, Bool, true, false, List}
+use Rattle.std.specs.Prelude.{◌||◌, ◌&&◌, not, int_lt}
+use Rattle.std.specs.Int.RustNames.{int_le}
 use Rattle.std.proofs.lemmas.Int.{ints}
 use Rattle.c_syntax.specs.declared.alarm.Pointers.{Pointers}
 use Rattle.c_syntax.specs.declared.alarm.Shown.{Shown}
@@ -13,28 +14,50 @@ use Rattle.c_syntax.specs.Types.{ObjectTree}
 use Rattle.c_syntax.specs.Operand.{Operand, Number, Point, Points, Mark, End}
 use Rattle.c_syntax.specs.Admission.{IsInShown}
 use Rattle.c_syntax.specs.Failing.{is_outside}
-use Rattle.ext_int.proofs.Ends.{holds_number_from}
+use Rattle.ext_int.specs.declared.Ext.TheVariants.{Fin}
+use Rattle.ext_int.proofs.Ends.{holds_number_from, AtMost_trans}
 use Rattle.num_api.specs.declared.message.Range.{Range}
 use Rattle.num_api.specs.Ranges.{InRange, IsPoint, NoWider, holds_some}
-use Rattle.num_api.specs.Spans.{span, range_of}
+use Rattle.num_api.specs.Spans.{Span, span, range_of}
 use Rattle.env_eval.proofs.Parts.{still_point}
 use Rattle.machine_nums.proofs.Wrapped.{in_between, point_holds}
 use Rattle.mem_api.specs.Showing.{IsAlone}
-use Rattle.temp_ranges.specs.Shows.{truth_of, IsTruth, OperandIn, OperandAlone, IsSetOf, ShowsNumber, ShowsEnd, ShowsOne, ShowsTwo, IsAllowed}
+use Rattle.temp_ranges.specs.Shows.{truth_of, IsTruth, OperandIn, OperandAlone, IsSetOf, ShowsNumber, ShowsWithin, ShowsNonzero, ShowsEnd, ShowsOne, ShowsTwo, IsAllowed}
 use Rattle.temp_ranges.proofs.Checking.{truth_small}
+
+within : (r : Range) (w : Shown) → ShowsNumber r w → ShowsWithin r w
+within r w f = λ objects n low high s t under h. (f.least objects n low s under.low h, f.greatest objects n high t under.high h)
+
+-- a span without 0 lies on one side of it
+one_side : (s : Span) (a b : Bool) → int_le s.lo (pos 0) ≡ a → int_le (pos 0) s.hi ≡ b → not (a && b) ≡ true → (pos 1 ≤ℤ s.lo) ⊎ (s.hi ≤ℤ negsuc 0)
+one_side s false b e f h = inl (above s.lo e) where
+  above : (x : ℤ) → int_le x (pos 0) ≡ false → pos 1 ≤ℤ x
+  above x e = omega (arith, ints, e)
+one_side s true false e f h = inr (below s.hi f) where
+  below : (x : ℤ) → int_le (pos 0) x ≡ false → x ≤ℤ negsuc 0
+  below x e = omega (arith, ints, e)
+one_side s true true e f h = absurd (cc)
+
+nonzero : (r : Range) (w : Shown) → ShowsNumber r w → ShowsNonzero r w
+nonzero r w f objects n s under out h is = by (one_side s (int_le s.lo (pos 0)) (int_le (pos 0) s.hi) refl refl out) where
+  by : (pos 1 ≤ℤ s.lo) ⊎ (s.hi ≤ℤ negsuc 0) → ⊥
+  by (inl low) = let one = f.least objects n (pos 1) (omega (arith, ints), omega (arith, ints)) (AtMost_trans (Fin (pos 1)) (Fin s.lo) r.lo low under.low) h in
+      omega (arith, ints)
+  by (inr high) = let one = f.greatest objects n (negsuc 0) (omega (arith, ints), omega (arith, ints)) (AtMost_trans r.hi (Fin s.hi) (Fin (negsuc 0)) under.high high) h in
+      omega (arith, ints)
 
 module _ (value exact : Range) (w : Shown) where
   to_kind : (k kind : WrongKind) → kind ≡ k → ShowsOne k value exact w → ShowsOne kind value exact w
   to_kind k kind e h = subst (λ (x : WrongKind). ShowsOne x value exact w) (sym e) h
 
   pub shows_exact : (kind : WrongKind) → (kind ≡ kinds.Overflow) ⊎ ((kind ≡ kinds.Quotient) ⊎ (kind ≡ kinds.ShiftResult)) → ShowsNumber exact w → ShowsOne kind value exact w
-  shows_exact kind (inl e) f = to_kind kinds.Overflow kind e (record { holds = f.holds; alone = f.alone; form = λ o a. f.form; proper = f.proper; names = f.names })
-  shows_exact kind (inr (inl e)) f = to_kind kinds.Quotient kind e (record { holds = f.holds; alone = f.alone; form = λ o a. f.form; proper = f.proper; names = f.names })
-  shows_exact kind (inr (inr e)) f = to_kind kinds.ShiftResult kind e (record { holds = f.holds; alone = f.alone; form = λ o a. f.form; proper = f.proper; names = f.names })
+  shows_exact kind (inl e) f = to_kind kinds.Overflow kind e (record { holds = f.holds; alone = f.alone; form = λ o a. f.form; proper = f.proper; names = f.names; numbers = within exact w f })
+  shows_exact kind (inr (inl e)) f = to_kind kinds.Quotient kind e (record { holds = f.holds; alone = f.alone; form = λ o a. f.form; proper = f.proper; names = f.names; numbers = within exact w f })
+  shows_exact kind (inr (inr e)) f = to_kind kinds.ShiftResult kind e (record { holds = f.holds; alone = f.alone; form = λ o a. f.form; proper = f.proper; names = f.names; numbers = within exact w f })
 
   pub shows_value : (kind : WrongKind) → (kind ≡ kinds.DivideByZero) ⊎ (kind ≡ kinds.ShiftAmount) → ShowsNumber value w → ShowsOne kind value exact w
-  shows_value kind (inl e) f = to_kind kinds.DivideByZero kind e (record { holds = f.holds; alone = f.alone; form = λ o a. f.form; proper = f.proper; names = f.names })
-  shows_value kind (inr e) f = to_kind kinds.ShiftAmount kind e (record { holds = f.holds; alone = f.alone; form = λ o a. f.form; proper = f.proper; names = f.names })
+  shows_value kind (inl e) f = to_kind kinds.DivideByZero kind e (record { holds = f.holds; alone = f.alone; form = λ o a. f.form; proper = f.proper; names = f.names; numbers = nonzero value w f })
+  shows_value kind (inr e) f = to_kind kinds.ShiftAmount kind e (record { holds = f.holds; alone = f.alone; form = λ o a. f.form; proper = f.proper; names = f.names; numbers = within value w f })
 
   pub shows_truth : (kind : WrongKind) (r : Range) → kind ≡ kinds.AssertFailed → IsTruth value r → ShowsNumber r w → ShowsOne kind value exact w
   shows_truth kind r e t f = to_kind kinds.AssertFailed kind e (record {
@@ -43,6 +66,8 @@ module _ (value exact : Range) (w : Shown) where
     form = λ o a. f.form;
     proper = f.proper;
     names = f.names;
+    numbers = λ objects n s under out h is. let one = f.least objects n (pos 1) (omega (arith, ints), omega (arith, ints)) (t.plain s under out) h in
+        omega (arith, ints);
   })
 
   pub shows_end : (kind : WrongKind) → kind ≡ kinds.NoValue → ShowsEnd value w → ShowsOne kind value exact w
@@ -52,6 +77,7 @@ module _ (value exact : Range) (w : Shown) where
     form = λ o a. f.form;
     proper = f.proper;
     names = f.names;
+    numbers = tt;
   })
 
 -- ---- pointers
@@ -76,13 +102,13 @@ module _ (value exact : Range) (set : Pointers) (f : IsSetOf value set) where
 
   pub shows_set : (kind : WrongKind) → (kind ≡ kinds.NullUse) ⊎ ((kind ≡ kinds.Dangling) ⊎ ((kind ≡ kinds.Bounds) ⊎ ((kind ≡ kinds.Access) ⊎ ((kind ≡ kinds.Alignment) ⊎ ((kind ≡ kinds.ReadOnly) ⊎ (kind ≡ kinds.Unrelated))))))
       → ShowsOne kind value exact (shows.One set)
-  shows_set kind (inl e) = one_kind kinds.NullUse kind e (record { holds = set_holds; alone = set_alone; form = λ o a. tt; proper = f.proper; names = f.names })
-  shows_set kind (inr (inl e)) = one_kind kinds.Dangling kind e (record { holds = set_holds; alone = set_alone; form = λ o a. tt; proper = f.proper; names = f.names })
-  shows_set kind (inr (inr (inl e))) = one_kind kinds.Bounds kind e (record { holds = set_holds; alone = set_alone; form = λ o a. tt; proper = f.proper; names = f.names })
-  shows_set kind (inr (inr (inr (inl e)))) = one_kind kinds.Access kind e (record { holds = set_holds; alone = set_alone; form = λ o a. tt; proper = f.proper; names = f.names })
-  shows_set kind (inr (inr (inr (inr (inl e))))) = one_kind kinds.Alignment kind e (record { holds = set_holds; alone = set_alone; form = λ o a. tt; proper = f.proper; names = f.names })
-  shows_set kind (inr (inr (inr (inr (inr (inl e)))))) = one_kind kinds.ReadOnly kind e (record { holds = set_holds; alone = set_alone; form = λ o a. tt; proper = f.proper; names = f.names })
-  shows_set kind (inr (inr (inr (inr (inr (inr e)))))) = one_kind kinds.Unrelated kind e (record { holds = set_holds; alone = set_alone; form = λ o a. absurd o; proper = f.proper; names = f.names })
+  shows_set kind (inl e) = one_kind kinds.NullUse kind e (record { holds = set_holds; alone = set_alone; form = λ o a. tt; proper = f.proper; names = f.names; numbers = tt })
+  shows_set kind (inr (inl e)) = one_kind kinds.Dangling kind e (record { holds = set_holds; alone = set_alone; form = λ o a. tt; proper = f.proper; names = f.names; numbers = tt })
+  shows_set kind (inr (inr (inl e))) = one_kind kinds.Bounds kind e (record { holds = set_holds; alone = set_alone; form = λ o a. tt; proper = f.proper; names = f.names; numbers = tt })
+  shows_set kind (inr (inr (inr (inl e)))) = one_kind kinds.Access kind e (record { holds = set_holds; alone = set_alone; form = λ o a. tt; proper = f.proper; names = f.names; numbers = tt })
+  shows_set kind (inr (inr (inr (inr (inl e))))) = one_kind kinds.Alignment kind e (record { holds = set_holds; alone = set_alone; form = λ o a. tt; proper = f.proper; names = f.names; numbers = tt })
+  shows_set kind (inr (inr (inr (inr (inr (inl e)))))) = one_kind kinds.ReadOnly kind e (record { holds = set_holds; alone = set_alone; form = λ o a. tt; proper = f.proper; names = f.names; numbers = tt })
+  shows_set kind (inr (inr (inr (inr (inr (inr e)))))) = one_kind kinds.Unrelated kind e (record { holds = set_holds; alone = set_alone; form = λ o a. absurd o; proper = f.proper; names = f.names; numbers = tt })
 
 module _ (r s : Range) (left right : Pointers) (f : IsSetOf r left) (g : IsSetOf s right) where
   nulls_only : IsPoint r (pos 0) → IsPoint s (pos 0) → (objects : List ObjectTree) (y : Operand) → IsInShown objects y (shows.Pair left right) → y ≡ Points spots.Null spots.Null

@@ -1,6 +1,6 @@
 -- What checks look at, and what is shown of it.
-use Rattle.std.proofs.Common.{◌≡◌, ℤ, pos, arith, refl, sym, subst, Bool, true, false, List, [], ◌∷◌, length, Option, Some, None}
-use Rattle.std.specs.Prelude.{not, if◌then◌else◌, option_map, option_and_then}
+use Rattle.std.proofs.Common.{◌≡◌, ◌≤ℤ◌, ℤ, pos, arith, refl, sym, subst, ap, ◌∙◌, Bool, true, false, List, [], ◌∷◌, length, Option, Some, None}
+use Rattle.std.specs.Prelude.{IsTrue, not, if◌then◌else◌, option_map, option_and_then}
 use Rattle.std.specs.Ordering.{int_eq}
 use Rattle.std.proofs.lemmas.Int.{ints}
 use Rattle.c_written.specs.declared.int_type.IntType.{IntType}
@@ -22,9 +22,13 @@ use Rattle.c_values.specs.Places.{spot, point, spot_at, owner_of}
 use Rattle.c_values.specs.Operators.{number}
 use Rattle.c_values.specs.Accesses.{mark, test_operand}
 use Rattle.num_api.specs.declared.message.Range.{Range}
-use Rattle.num_api.specs.declared.expr.NOp.TheVariants as ops
-use Rattle.num_api.specs.Ranges.{InRange, IsPoint}
-use Rattle.num_api.specs.Value.{truth}
+use Rattle.ext_int.specs.declared.Ext.{Ext}
+use Rattle.ext_int.specs.declared.Ext.TheVariants.{Fin}
+use Rattle.ext_int.specs.Ext.{Below, Above, AtMost}
+use Rattle.num_api.specs.Ranges.{InRange, IsPoint, NoWider}
+use Rattle.num_api.specs.Spans.{Span, range_of}
+use Rattle.num_api.specs.Plain.{excludes}
+use Rattle.num_api.specs.Value.{truth, has_truth}
 use Rattle.machine_nums.proofs.Wrapped.{inside_has, point_holds}
 use Rattle.csharp.specs.Trees.{CsExprTree, CsProgramTree}
 use Rattle.csharp.specs.Formed.{AreOperandsTyped, IsNumber, HasType, result_check}
@@ -36,25 +40,47 @@ use Rattle.temp_ranges.specs.Ranges.{AreIn, AreAll, AreInside}
 use Rattle.temp_ranges.specs.Exprs.{IsRangeOf}
 use Rattle.temp_ranges.specs.Checks.{IsSmall, IsExactOf}
 use Rattle.temp_ranges.specs.Shows.{IsNumberIn, IsNumberAlone, IsSpotOf, end_by, truth_of, IsTruth, OperandIn, OperandAlone}
-use Rattle.temp_ranges.proofs.Bounds.{number_fits, size_of_number}
-use Rattle.temp_ranges.proofs.Results.{truth_has}
-use Rattle.temp_ranges.proofs.Valued.{IsOne}
+use Rattle.temp_ranges.proofs.Bounds.{size_of_number}
 use Rattle.temp_ranges.proofs.Ranged.{and_then_some}
 use Rattle.temp_ranges.proofs.Exacted.{small_from}
 
 -- ---- truths
 
-double : (b : Bool) → truth (int_eq (truth b) (pos 0)) ≡ truth (not b)
-double true = refl
-double false = refl
+module _ (r found : Range) (may_fail may_hold : Bool) (low : found.lo ≡ Fin (truth (not may_fail))) (high : found.hi ≡ Fin (truth may_hold))
+    (fails : (n : ℤ) → InRange r n → IsTrue (has_truth false n) → IsTrue may_fail) (holds : (n : ℤ) → InRange r n → IsTrue (has_truth true n) → IsTrue may_hold)
+    (never_fails : (n : ℤ) → IsPoint r n → has_truth false n ≡ false → may_fail ≡ false)
+    (never_holds : (n : ℤ) → IsPoint r n → has_truth true n ≡ false → may_hold ≡ false) where
+  ends_at : (m : ℤ) → truth (not may_fail) ≤ℤ m → m ≤ℤ truth may_hold → InRange found m
+  ends_at m h k = record { low = subst (λ (e : Ext). Below e m) (sym low) h; high = subst (λ (e : Ext). Above e m) (sym high) k }
 
-pub truths : (r mid found : Range) → IsOne ops.Not r mid → IsOne ops.Not mid found → IsTruth r found
-truths r mid found f g = record {
-  holds = λ n i. subst (InRange found) (double (int_eq n (pos 0))) (g.0 (truth (int_eq n (pos 0))) _ (f.0 n _ i refl) refl);
-  point = λ n p. subst (IsPoint found) (double (int_eq n (pos 0)))
-      (g.1 (truth (int_eq n (pos 0))) _ (f.1 n _ p refl (number_fits types.Int _ (truth_has (int_eq n (pos 0))))) refl
-      (number_fits types.Int _ (truth_has (int_eq (truth (int_eq n (pos 0))) (pos 0)))));
-}
+  bounds : (a b : Bool) → (truth (not a) ≤ℤ pos 1) × (pos 0 ≤ℤ truth b)
+  bounds true true = (omega (arith, ints), omega (arith, ints))
+  bounds true false = (omega (arith, ints), omega (arith, ints))
+  bounds false true = (omega (arith, ints), omega (arith, ints))
+  bounds false false = (omega (arith, ints), omega (arith, ints))
+
+  held : (n : ℤ) (zero : Bool) → int_eq n (pos 0) ≡ zero → InRange r n → InRange found (truth (not zero))
+  held n true e i =
+      let f = fails n i e in let lo : truth (not may_fail) ≡ pos 0 = ap (λ b. truth (not b)) f in let b = bounds may_fail may_hold in
+      ends_at (pos 0) (omega (arith, ints, lo)) b.1
+  held n false e i =
+      let h = holds n i (ap not e) in let hi : truth may_hold ≡ pos 1 = ap truth h in let b = bounds may_fail may_hold in
+      ends_at (pos 1) b.0 (omega (arith, ints, hi))
+
+  only : (n : ℤ) (zero : Bool) → int_eq n (pos 0) ≡ zero → IsPoint r n → IsPoint found (truth (not zero))
+  only n true e p =
+      let f = fails n (point_holds r n p) e in let h = never_holds n p (ap not e) in
+      record { low = low ∙ ap (λ b. Fin (truth (not b))) f; high = high ∙ ap (λ b. Fin (truth b)) h }
+  only n false e p =
+      let f = never_fails n p e in let h = holds n (point_holds r n p) (ap not e) in
+      record { low = low ∙ ap (λ b. Fin (truth (not b))) f; high = high ∙ ap (λ b. Fin (truth b)) h }
+
+  pub truths : ((s : Span) → NoWider r (range_of s) → IsTrue (excludes false s) → may_fail ≡ false) → IsTruth r found
+  truths plain = record {
+    holds = λ n i. held n (int_eq n (pos 0)) refl i;
+    point = λ n p. only n (int_eq n (pos 0)) refl p;
+    plain = λ s under out. subst (λ (e : Ext). AtMost (Fin (pos 1)) e) (sym (low ∙ ap (λ b. Fin (truth (not b))) (plain s under out))) (omega (arith, ints));
+  }
 
 pub truth_small : (b : Bool) → IsSmall (truth b)
 truth_small true = (omega (arith, ints), omega (arith, ints))

@@ -1,4 +1,5 @@
 pub mod Bounds
+pub mod Amounts
 pub mod Lists
 pub mod Results
 pub mod Valued

@@ -140,22 +140,25 @@ unary_fits (unaries.Minus t) r q e fit ins = typed_operand r q e t fit.0 fit.1 (
 unary_fits (unaries.Complement t) r q e fit ins = typed_operand r q e t fit.0 fit.1 (fit.2 (some_value fit.0) (some_is fit.0)).0 ins
 unary_fits unaries.Not r q e fit ins = tt
 
-int_of : (t : IntType) (ty : Scalar) → IsOf (scalars.Int t) (some_value ty) → ty ≡ scalars.Int t
-int_of t (scalars.Int u) h = ap scalars.Int h.0
-int_of t scalars.Pointer h = absurd h
+pub int_type : (t : IntType) (ty : Scalar) → IsOf (scalars.Int t) (some_value ty) → ty ≡ scalars.Int t
+int_type t (scalars.Int u) h = ap scalars.Int h.0
+int_type t scalars.Pointer h = absurd h
 
 -- both operands of an operator that takes two
 module _ (op : TBinaryOp) (q : CsProgramTree) (e f : CsExprTree) (fit : FitsOperand q e (λ ty v. FitsOperand q f (λ other u. TakesBoth op v u))) where
   both_some : (other : Scalar) × (HasType q other f) × TakesBoth op (some_value fit.0) (some_value other)
   both_some = let second = fit.2 (some_value fit.0) (some_is fit.0) in (second.0, second.1, second.2 (some_value second.0) (some_is second.0))
 
+  pub both_types : HasType q fit.0 e × (other : Scalar) × (HasType q other f) × TakesBoth op (some_value fit.0) (some_value other)
+  both_types = (fit.1, both_some.0, both_some.1, both_some.2)
+
 pub binary_fits : (op : TBinaryOp) (r s : Range) (q : CsProgramTree) (e f : CsExprTree) → FitsOperand q e (λ ty v. FitsOperand q f (λ other u. TakesBoth op v u))
     → ((t : IntType) → HasType q (scalars.Int t) e → LiesIn t r) → ((t : IntType) → HasType q (scalars.Int t) f → LiesIn t s) → BinaryFits op r s
 binary_fits (binaries.Arithmetic op t) r s q e f fit left right =
     let both = both_some (binaries.Arithmetic op t) q e f fit in
-    (typed_operand r q e t fit.0 fit.1 (int_of t fit.0 both.2.0) left, typed_operand s q f t both.0 both.1 (int_of t both.0 both.2.1) right)
+    (typed_operand r q e t fit.0 fit.1 (int_type t fit.0 both.2.0) left, typed_operand s q f t both.0 both.1 (int_type t both.0 both.2.1) right)
 binary_fits (binaries.Shift way t) r s q e f fit left right =
-    let both = both_some (binaries.Shift way t) q e f fit in typed_operand r q e t fit.0 fit.1 (int_of t fit.0 both.2.0) left
+    let both = both_some (binaries.Shift way t) q e f fit in typed_operand r q e t fit.0 fit.1 (int_type t fit.0 both.2.0) left
 binary_fits (binaries.CompareInts c t) r s q e f fit left right = tt
 binary_fits (binaries.ComparePointers c) r s q e f fit left right = tt
 binary_fits (binaries.PointerPlusInt n) r s q e f fit left right = tt

@@ -26,6 +26,7 @@ use Rattle.env_eval.proofs.Parts.{wider, as_wide, is_point}
 use Rattle.machine_nums.specs.Laws.{StandsForArithmetic, StandsForShift}
 use Rattle.machine_nums.specs.Rule.{type_span, converted, typed_span}
 use Rattle.machine_nums.specs.Wrapping.{IsWrapping}
+use Rattle.temp_ranges.specs.Found.{IsFound}
 use Rattle.temp_ranges.specs.Products.{HoldsLike, IsPointLike}
 use Rattle.machine_nums.specs.declared.wrapping.Way.{Way}
 use Rattle.machine_nums.proofs.OperatorValues.{quotients, remainders, ands, ors, xors}
@@ -39,14 +40,6 @@ use Rattle.temp_ranges.proofs.Wraps.{wrapped_under, like_holds, like_point}
 use Rattle.plain_runs.specs.Numbers.{number_op, shift_op}
 use Rattle.temp_ranges.specs.Operators.{LiesIn, MayDivide, IsArithmetic, IsAmount, IsShifted, IsComplement, IsTestRange}
 use Rattle.temp_ranges.proofs.Bounds.{number_fits, result_fits, shifted_fits}
-
--- what is told of a range of an operator's results
-abbrev pub IsFound : NOp → IntType → Range → Range → Range → Type 0
-IsFound op t r s found =
-    ((x y n : ℤ) → InRange r x → InRange s y → binary_value op x y ≡ Some n → InRange found n)
-    × ((x y n : ℤ) → IsPoint r x → IsPoint s y → binary_value op x y ≡ Some n → FitsSigned w128 n → IsPoint found n)
-    × ((p q u : Span) → NoWider r (range_of p) → FitsSpan p → NoWider s (range_of q) → FitsSpan q → typed_span op t p q ≡ Some u → FitsSpan u
-    → NoWider found (range_of u))
 
 some_of : (P : ℤ → Type 0) (o : Option ℤ) → IsSomeAnd o P → (n : ℤ) × (o ≡ Some n) × P n
 some_of P None h = absurd h

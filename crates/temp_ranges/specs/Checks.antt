@@ -14,8 +14,8 @@ use Rattle.c_values.specs.Places.{ObjectMemory}
 use Rattle.c_values.specs.Operators.{exact_binary, unary_operand}
 use Rattle.num_api.specs.declared.message.Range.{Range}
 use Rattle.num_api.specs.Ranges.{InRange, IsPoint, NoWider}
-use Rattle.num_api.specs.Spans.{Span, FitsSpan, range_of}
-use Rattle.machine_nums.specs.MExprs.{MExprTree}
+use Rattle.num_api.specs.Spans.{Span, range_of}
+use Rattle.machine_nums.specs.MExprs.{MExprTree, type_of}
 use Rattle.machine_nums.specs.Rule.{exact_span, value_span}
 use Rattle.csharp.specs.Trees.{CsExprTree, Unary, Binary, CsProgramTree}
 use Rattle.csharp.specs.Formed.{AreOperandsTyped, result_check}
@@ -40,6 +40,12 @@ abbrev pub asked : TBinaryOp → TBinaryOp
 asked (binaries.Arithmetic op t) = binaries.Arithmetic (quotiented op) t
 asked op = op
 
+-- the operands of the operator have its type
+abbrev pub AreOfType : TBinaryOp → MExprTree → MExprTree → Type 0
+AreOfType (binaries.Arithmetic op t) l k = (type_of l ≡ t) × (type_of k ≡ t)
+AreOfType (binaries.Shift way t) l k = type_of l ≡ t
+AreOfType op l k = Unit {0}
+
 -- the exact results of an operator whose operands are in the ranges; where it has a check of its result, that of points is a point, and they are no wider
 -- than the plain rule leaves
 pub record IsExact (op : TBinaryOp) (r s found : Range) : Type 0 where
@@ -47,15 +53,15 @@ pub record IsExact (op : TBinaryOp) (r s found : Range) : Type 0 where
   pub point : (a b : CsExprTree) (check : Check) → result_check (Binary op a b) ≡ Some check → BinaryFits op r s → (v u : Value) (n : ℤ)
       → IsPoint r (number_of v) → IsPoint s (number_of u) → if_taken op (exact_binary op) v u ≡ Some (Number n) → IsPoint found n × IsSmall n
   pub plain : (a b : CsExprTree) (check : Check) → result_check (Binary op a b) ≡ Some check → (given : ℕ → Range) (l k m : MExprTree)
-      → NoWider r (range_of (value_span given l)) → NoWider s (range_of (value_span given k)) → of_two (asked op) l k ≡ Some m → (z : Span)
-      → exact_span given m ≡ Some z → FitsSpan z → NoWider found (range_of z)
+      → AreOfType op l k → NoWider r (range_of (value_span given l)) → NoWider s (range_of (value_span given k)) → of_two (asked op) l k ≡ Some m → (z : Span)
+      → exact_span given m ≡ Some z → NoWider found (range_of z)
 
 pub record IsExactUnary (op : TUnaryOp) (r found : Range) : Type 0 where
   pub holds : (m : ObjectMemory) (v : Value) (n : ℤ) → InRange r (number_of v) → unary_operand m op v Overflow ≡ Some (Number n) → InRange found n
   pub point : (a : CsExprTree) (check : Check) → result_check (Unary op a) ≡ Some check → UnaryFits op r → (m : ObjectMemory) (v : Value) (n : ℤ)
       → IsPoint r (number_of v) → unary_operand m op v Overflow ≡ Some (Number n) → IsPoint found n × IsSmall n
   pub plain : (a : CsExprTree) (check : Check) → result_check (Unary op a) ≡ Some check → (given : ℕ → Range) (l : MExprTree)
-      → NoWider r (range_of (value_span given l)) → (z : Span) → exact_span given (of_one op l) ≡ Some z → FitsSpan z → NoWider found (range_of z)
+      → NoWider r (range_of (value_span given l)) → (z : Span) → exact_span given (of_one op l) ≡ Some z → NoWider found (range_of z)
 
 -- the same of an expression's outermost operator
 pub record IsExactOf (ranges : List Range) (e : CsExprTree) (found : Range) : Type 0 where
@@ -63,5 +69,5 @@ pub record IsExactOf (ranges : List Range) (e : CsExprTree) (found : Range) : Ty
   pub point : (q : CsProgramTree) (check : Check) (s : State) (n : ℤ) → AreOperandsTyped q e → result_check e ≡ Some check → AreInside q.temps ranges
       → AreAll ranges s → exact_of e s ≡ Some (Number n) → IsPoint found n × IsSmall n
   pub plain : (q : CsProgramTree) (check : Check) (p : Plain) (m : MExprTree) (z : Span) → AreOperandsTyped q e → result_check e ≡ Some check
-      → AreInside q.temps ranges → AreUnder q.temps ranges p → number_expr q.temps (quotient_of e) ≡ Some m → exact_span (given p) m ≡ Some z → FitsSpan z
+      → AreInside q.temps ranges → AreUnder q.temps ranges p → number_expr q.temps (quotient_of e) ≡ Some m → exact_span (given p) m ≡ Some z
       → NoWider found (range_of z)

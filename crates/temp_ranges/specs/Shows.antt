@@ -1,5 +1,5 @@
 -- What is asked of what is shown of ranges.
-use Rattle.std.specs.Prelude.{◌≡◌, ℕ, ℤ, pos, ◌<◌, Bool, true, false, not, IsTrue, List, [], ◌∷◌, length, if◌then◌else◌}
+use Rattle.std.specs.Prelude.{◌≡◌, ◌≤ℤ◌, ℕ, ℤ, pos, ◌<◌, Bool, true, false, not, IsTrue, List, [], ◌∷◌, length, if◌then◌else◌}
 use Rattle.std.specs.Ordering.{int_eq}
 use Rattle.c_syntax.specs.declared.alarm.Check.{Check}
 use Rattle.c_syntax.specs.declared.alarm.WrongKind.{WrongKind}
@@ -15,7 +15,11 @@ use Rattle.c_syntax.specs.Admission.{IsInShown, IsSpotIn, IsProper, IsProperSet}
 use Rattle.c_syntax.specs.Failing.{is_outside, fails_kind}
 use Rattle.decide.specs.Decisions.{NamesObjects, NamesBelow}
 use Rattle.num_api.specs.declared.message.Range.{Range}
-use Rattle.num_api.specs.Ranges.{InRange, IsPoint}
+use Rattle.ext_int.specs.declared.Ext.TheVariants.{Fin}
+use Rattle.ext_int.specs.Ext.{AtMost}
+use Rattle.num_api.specs.Ranges.{InRange, IsPoint, NoWider}
+use Rattle.num_api.specs.Spans.{Span, span, range_of}
+use Rattle.num_api.specs.Plain.{excludes}
 use Rattle.num_api.specs.Value.{truth}
 use Rattle.csharp.specs.Trees.{CsExprTree}
 use Rattle.mem_api.specs.Showing.{IsRange, AreEnds, HasForm, IsPair, IsAlone}
@@ -47,6 +51,8 @@ pub record ShowsNumber (r : Range) (w : Shown) : Type 0 where
   pub form : IsRange w
   pub proper : IsProper w
   pub names : (count : ℕ) → NamesObjects count w
+  pub least : (objects : List ObjectTree) (n low : ℤ) → IsSmall low → AtMost (Fin low) r.lo → IsInShown objects (Number n) w → low ≤ℤ n
+  pub greatest : (objects : List ObjectTree) (n high : ℤ) → IsSmall high → AtMost r.hi (Fin high) → IsInShown objects (Number n) w → n ≤ℤ high
 
 pub record ShowsEnd (r : Range) (w : Shown) : Type 0 where
   pub holds : (objects : List ObjectTree) (n : ℤ) → InRange r n → IsInShown objects (end_by n) w
@@ -70,6 +76,7 @@ truth_of n = truth (not (int_eq n (pos 0)))
 pub record IsTruth (r found : Range) : Type 0 where
   pub holds : (n : ℤ) → InRange r n → InRange found (truth_of n)
   pub point : (n : ℤ) → IsPoint r n → IsPoint found (truth_of n)
+  pub plain : (s : Span) → NoWider r (range_of s) → IsTrue (excludes false s) → AtMost (Fin (pos 1)) found.lo
 
 -- a check of one expression looks at such an operand, where its value and its exact result are in these ranges
 abbrev pub OperandIn : WrongKind → List ObjectTree → Range → Range → Operand → Type 0
@@ -109,12 +116,32 @@ IsOfTwo kinds.Dangling = Unit {0}
 IsOfTwo kinds.Unrelated = Unit {0}
 IsOfTwo kind = ⊥
 
+-- no number outside of a span is shown, where the range lies in it
+abbrev pub ShowsWithin : Range → Shown → Type 0
+ShowsWithin r w = (objects : List ObjectTree) (n low high : ℤ) → IsSmall low → IsSmall high → NoWider r (range_of (span low high)) → IsInShown objects (Number n) w
+    → (low ≤ℤ n) × (n ≤ℤ high)
+
+-- 0 is not shown, where the range lies in a span without it
+abbrev pub ShowsNonzero : Range → Shown → Type 0
+ShowsNonzero r w = (objects : List ObjectTree) (n : ℤ) (s : Span) → NoWider r (range_of s) → IsTrue (excludes false s) → IsInShown objects (Number n) w → n ≡ pos 0 → ⊥
+
+-- what is shown of a check that looks at a number
+abbrev pub ShowsNumbers : WrongKind → Range → Range → Shown → Type 0
+ShowsNumbers kinds.Overflow value exact w = ShowsWithin exact w
+ShowsNumbers kinds.Quotient value exact w = ShowsWithin exact w
+ShowsNumbers kinds.ShiftResult value exact w = ShowsWithin exact w
+ShowsNumbers kinds.ShiftAmount value exact w = ShowsWithin value w
+ShowsNumbers kinds.DivideByZero value exact w = ShowsNonzero value w
+ShowsNumbers kinds.AssertFailed value exact w = ShowsNonzero value w
+ShowsNumbers kind value exact w = Unit {0}
+
 pub record ShowsOne (kind : WrongKind) (value exact : Range) (w : Shown) : Type 0 where
   pub holds : (objects : List ObjectTree) (x : Operand) → OperandIn kind objects value exact x → IsInShown objects x w
   pub alone : (objects : List ObjectTree) (x : Operand) → OperandAlone kind value exact x → IsAlone objects x w
   pub form : IsOfOne kind → (e : CsExprTree) → HasForm kind (e ∷ []) w
   pub proper : IsProper w
   pub names : (count : ℕ) → NamesObjects count w
+  pub numbers : ShowsNumbers kind value exact w
 
 -- a number of the range lies between two ends
 pub record IsAllowed (r : Range) (lo hi : ℤ) (some : Bool) : Type 0 where

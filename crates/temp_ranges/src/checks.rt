@@ -1,5 +1,8 @@
 // What is shown of checks, and which checks pass.
 
+ghost use Rattle.std.specs.Prelude.{◌≡◌};
+ghost use Rattle.ext_int.specs.declared.Ext.TheVariants.{Fin};
+ghost use Rattle.num_api.specs.Value.{truth};
 ghost use Rattle.temp_ranges.specs.Shows.{IsTruth, IsAllowed, ShowsOne, ShowsTwo, PassesOne, PassesTwo};
 
 use crate::operators::is_zero;
@@ -7,16 +10,25 @@ use crate::shows::{shown_ends, shown_number, shown_set};
 use c_syntax::{Check, Shown, WrongKind};
 use env_eval::may_be;
 use ext_int::Ext;
-use machine_nums::{meet, unary_range};
-use num_api::{NOp, Range};
+use machine_nums::meet;
+use num_api::Range;
 use std::alloc::Global;
 
 // The truths of the numbers of a range: 0, 1 or both.
 fn truth_range(r: Range) -> Range
     ensures { IsTruth r result }
 {
-    let fails = unary_range(NOp::Not, r);
-    unary_range(NOp::Not, fails)
+    Range {
+        lo: bit(!may_be(r, false)),
+        hi: bit(may_be(r, true)),
+    }
+}
+
+// 1 for true, and 0 for false.
+fn bit(b: bool) -> Ext
+    ensures { result ≡ Fin (truth b) }
+{
+    if b { Ext::Fin(1) } else { Ext::Fin(0) }
 }
 
 /// What is shown of a check of one expression, whose value and exact result are in these ranges.

@@ -1,15 +1,21 @@
 // Exact results, before they are wrapped.
 #![tactic(auto, using(csharp::proofs::CodeTrees::the_code_trees))]
 
+ghost use Rattle.std.specs.Prelude.{◌≡◌, false, IsTrue};
+ghost use Rattle.num_api.specs.declared.expr.NOp.TheVariants.{Shl};
+ghost use Rattle.num_api.specs.Ranges.{NoWider, holds_some};
 ghost use Rattle.c_syntax.specs.declared.operator.TBinaryOp.TheVariants.{Arithmetic as ArithmeticOp, Shift as ShiftOp};
 ghost use Rattle.csharp.specs.Trees.{csexpr_tree};
 ghost use Rattle.temp_ranges.specs.Checks.{IsExactUnary, IsExact, IsExactOf};
+ghost use Rattle.temp_ranges.specs.Found.{IsFound};
 
 use crate::Ranges;
 use crate::expressions::value_range;
+use crate::operators::amounts;
 use c_syntax::{Arithmetic, IntType, Shift, TBinaryOp, TUnaryOp};
 use csharp::CsExpr;
-use machine_nums::{typed_range, unary_range};
+use env_eval::no_numbers;
+use machine_nums::{meet, typed_range, unary_range};
 use num_api::{NOp, Range};
 
 // The exact results of an operator of one operand.
@@ -36,13 +42,25 @@ fn exact_arithmetic(op: Arithmetic, t: IntType, r: Range, s: Range) -> Range
     }
 }
 
-// The exact results of a shift.
+// The exact results of a shift by amounts from 0 to below the width. Where there is no such amount there is none.
 fn exact_shift(way: Shift, t: IntType, r: Range, s: Range) -> Range
     ensures { IsExact (ShiftOp way t) r s result }
 {
     match way {
-        Shift::Left => typed_range(NOp::Shl, t, r, s),
+        Shift::Left => shifted_left(t, r, meet(s, amounts(t))),
         Shift::Right => Range::all(),
+    }
+}
+
+// The exact results of a shift to the left.
+fn shifted_left(t: IntType, r: Range, s: Range) -> Range
+    ensures some { IsTrue (holds_some s) → IsFound Shl t r s result }
+    ensures none { holds_some s ≡ false → (x : Range) → NoWider result x }
+{
+    if s.holds_some() {
+        typed_range(NOp::Shl, t, r, s)
+    } else {
+        no_numbers()
     }
 }
 

@@ -19,6 +19,6 @@ pub use operators::{
     arithmetic_range, binary_value, comparison_range, complement_range, is_zero, shift_range,
     unary_value,
 };
-pub use ranges::Ranges;
+pub use ranges::{Ranges, holds_all};
 pub use shows::{shown_ends, shown_number, shown_set};
 pub use types::Types;

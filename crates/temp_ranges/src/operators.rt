@@ -90,7 +90,7 @@ pub fn arithmetic_range(op: Arithmetic, t: IntType, r: Range, s: Range) -> Range
 }
 
 // The numbers that a shift at the type takes for its amount.
-fn amounts(t: IntType) -> Range
+pub fn amounts(t: IntType) -> Range
     ensures { result ≡ range_of (span (pos 0) (pos (width t) -ℤ pos 1)) }
 {
     let greatest = match t {

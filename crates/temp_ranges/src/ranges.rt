@@ -24,8 +24,8 @@ impl Model for Ranges {
     ghost view = { λ l. l.items.items };
 }
 
-// Whether each number of the second range is one of the first.
-fn holds_all(r: Range, s: Range) -> bool
+/// Whether each number of the second range is one of the first.
+pub fn holds_all(r: Range, s: Range) -> bool
     ensures yes { IsTrue result → (n : ℤ) → InRange s n → InRange r n }
     ensures no { result ≡ false → is_all r ≡ false }
 {

@@ -1,8 +1,8 @@
 // What is shown of ranges.
 
-ghost use Rattle.std.specs.Prelude.{◌≡◌, ℤ, Some, IfSome, ◌≤ℤ◌};
+ghost use Rattle.std.specs.Prelude.{◌≡◌, ℤ, Some, IfSome, IsSomeAnd, ◌≤ℤ◌};
 ghost use Rattle.c_syntax.specs.Admission.{IsModerate};
-ghost use Rattle.ext_int.specs.Ext.{Below, Above};
+ghost use Rattle.ext_int.specs.Ext.{Below, Above, AtMost};
 ghost use Rattle.ext_int.specs.declared.Ext.TheVariants.{Fin};
 ghost use Rattle.temp_ranges.specs.Checks.{IsSmall};
 ghost use Rattle.temp_ranges.specs.Shows.{ShowsNumber, ShowsEnd, IsSetOf};
@@ -18,22 +18,47 @@ use std::alloc::Global;
 // The greatest size of an end that may be shown.
 const GREATEST: i128 = 0x4000_0000_0000_0000_0000_0000_0000_0000;
 
-// An end, where it may be shown.
-fn shown_end(end: Ext) -> Option<i128>
+// A lower end that may be shown: the greatest such number that is not above the end.
+fn lower_end(end: Ext) -> Option<i128>
     ensures moderate { IsModerate result }
     ensures kept { (n : ℤ) → end ≡ Fin n → IsSmall n → result ≡ Some n }
     ensures below { (n : ℤ) → Below end n → IfSome result (λ low. low ≤ℤ n) }
-    ensures above { (n : ℤ) → Above end n → IfSome result (λ high. n ≤ℤ high) }
+    ensures least { (n : ℤ) → IsSmall n → AtMost (Fin n) end → IsSomeAnd result (λ low. n ≤ℤ low) }
 {
     match end {
+        Ext::Low => None,
         Ext::Fin(n) => {
-            if -GREATEST <= n && n <= GREATEST {
-                Some(n)
-            } else {
+            if n < -GREATEST {
                 None
+            } else if n > GREATEST {
+                Some(GREATEST)
+            } else {
+                Some(n)
             }
         }
-        Ext::Low | Ext::High => None,
+        Ext::High => Some(GREATEST),
+    }
+}
+
+// An upper end that may be shown: the least such number that is not below the end.
+fn upper_end(end: Ext) -> Option<i128>
+    ensures moderate { IsModerate result }
+    ensures kept { (n : ℤ) → end ≡ Fin n → IsSmall n → result ≡ Some n }
+    ensures above { (n : ℤ) → Above end n → IfSome result (λ high. n ≤ℤ high) }
+    ensures greatest { (n : ℤ) → IsSmall n → AtMost end (Fin n) → IsSomeAnd result (λ high. high ≤ℤ n) }
+{
+    match end {
+        Ext::Low => Some(-GREATEST),
+        Ext::Fin(n) => {
+            if n > GREATEST {
+                None
+            } else if n < -GREATEST {
+                Some(-GREATEST)
+            } else {
+                Some(n)
+            }
+        }
+        Ext::High => None,
     }
 }
 
@@ -42,8 +67,8 @@ pub fn shown_number(r: Range) -> Shown
     ensures { ShowsNumber r result }
 {
     Shown::Number {
-        lo: shown_end(r.lo),
-        hi: shown_end(r.hi),
+        lo: lower_end(r.lo),
+        hi: upper_end(r.hi),
         modulus: 1,
         rem: 0,
     }

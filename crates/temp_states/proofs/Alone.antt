@@ -43,7 +43,8 @@ use Rattle.csharp.specs.Actions.{put, loaded_at}
 use Rattle.temp_ranges.specs.Values.{number_of, IsNoObject, HasKind}
 use Rattle.temp_ranges.specs.Operators.{LiesIn}
 use Rattle.temp_ranges.specs.Ranges.{range_at, AreAll}
-use Rattle.temp_ranges.specs.Exprs.{IsRangeOf}
+use Rattle.temp_states.specs.Passed.{Remembered, IsPassed}
+use Rattle.temp_states.specs.Known.{IsKnownRange}
 use Rattle.temp_ranges.specs.Sets.{IsSharp}
 use Rattle.temp_ranges.specs.Shows.{IsOfOne, IsOfTwo}
 use Rattle.temp_ranges.proofs.Lists.{set_here, set_elsewhere}
@@ -159,14 +160,14 @@ module _ (types : List Scalar) (objects : ℕ) (rs : List Range) (s : State) (h 
       let b = map_some _ (place_of s.memory x) m.0 m.1 in let none = h.all.places x in let there = b.1 in absurd (cc)
 
 module _ (q : CsProgramTree) (objects : ℕ) (rs : List Range) (s : State) (h : IsSharp objects q.temps rs s) where
-  pub set_sharp : (d : ℕ) (e : CsExprTree) (found : Range) (ty : Scalar) (t : State) → AreOperandsTyped q e → HasType q ty e → HoldsType q ty d → IsRangeOf rs e found
-      → acts.set d e s ≡ Some t → IsSharp objects q.temps (slice_set rs d found) t
-  set_sharp d e found ty t typed is here f g =
+  pub set_sharp : (passed : Option Remembered) → IsPassed passed s → (d : ℕ) (e : CsExprTree) (found : Range) (ty : Scalar) (t : State) → AreOperandsTyped q e
+      → HasType q ty e → HoldsType q ty d → IsKnownRange rs passed e found → acts.set d e s ≡ Some t → IsSharp objects q.temps (slice_set rs d found) t
+  set_sharp passed k d e found ty t typed is here f g =
       let v = map_some (put s d) (value_of e s) t g in
       let below = temp_below q.temps objects rs s d ty h here in
-      let p = f.point q s v.0 typed h.inside h.all v.1 in
+      let p = f.point q s v.0 typed h.inside h.all h.stands.temps k v.1 in
       subst (IsSharp objects q.temps (slice_set rs d found)) v.2 (record {
-        stands = put_stands objects q.temps rs s d ty v.0 found h.stands here (value_kind q s h.stands.kinds e ty v.0 is v.1) (f.holds s v.0 h.stands.temps v.1);
+        stands = put_stands objects q.temps rs s d ty v.0 found h.stands here (value_kind q s h.stands.kinds e ty v.0 is v.1) (f.holds s v.0 h.stands.temps k v.1);
         none = h.none;
         all = record {
           temps = λ k u w. ⊎_elim (λ same. at_d v.0 below p k u w same)
@@ -196,10 +197,10 @@ module _ (q : CsProgramTree) (objects : ℕ) (rs : List Range) (s : State) (h : 
 
 -- ---- the start
 
-abbrev zeros : List Scalar → List Range
+abbrev pub zeros : List Scalar → List Range
 zeros types = replicate (length types) (range_of (point (pos 0)))
 
-zero_at : (types : List Scalar) (d : ℕ) (t : Scalar) → slice_get types d ≡ Some t → range_at (zeros types) d ≡ range_of (point (pos 0))
+pub zero_at : (types : List Scalar) (d : ℕ) (t : Scalar) → slice_get types d ≡ Some t → range_at (zeros types) d ≡ range_of (point (pos 0))
 zero_at types d t f = get_or-replicate (length types) d (range_of (point (pos 0))) all_numbers (slice_get_within types d t f)
 
 at_zero : (n : ℤ) → n ≡ pos 0 → IsPoint (range_of (point (pos 0))) n

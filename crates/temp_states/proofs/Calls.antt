@@ -1,5 +1,5 @@
 -- What the calls that change a set leave of its states, and of the one state of a sharp set.
-use Rattle.std.proofs.Common.{◌≡◌, ◌≢◌, ℕ, ℤ, ◌<◌, refl, sym, subst, Bool, false, List, [], ◌∷◌, Some}
+use Rattle.std.proofs.Common.{◌≡◌, ◌≢◌, ℕ, ℤ, ◌<◌, refl, sym, subst, Bool, false, List, [], ◌∷◌, Option, Some}
 use Rattle.std.specs.Prelude.{All, IsTrue, option_and_then, slice_get, slice_set}
 use Rattle.std.proofs.lemmas.List.Elements.{All-head}
 use Rattle.c_written.specs.declared.int_type.IntType.{IntType}
@@ -30,6 +30,8 @@ use Rattle.mem_api.proofs.Owning.{owned_open_all, owned_shut_all}
 use Rattle.temp_ranges.specs.Values.{number_of}
 use Rattle.temp_ranges.specs.Ranges.{AreInside}
 use Rattle.temp_ranges.specs.Exprs.{IsRangeOf}
+use Rattle.temp_states.specs.Passed.{Remembered, IsPassed}
+use Rattle.temp_states.specs.Known.{IsKnownRange}
 use Rattle.temp_ranges.specs.Sets.{IsSharp, Stands}
 use Rattle.temp_ranges.proofs.Ranged.{and_then_some, map_some}
 use Rattle.temp_states.proofs.ValueKinds.{value_kind, loaded_kind}
@@ -38,25 +40,28 @@ use Rattle.temp_states.proofs.Alone.{set_sharp, no_names, truths_agree, truths_d
 
 -- ---- temporaries
 
-set_own : (q : CsProgramTree) (objects : ℕ) (rs : List Range) (d : ℕ) (e : CsExprTree) (found : Range) → IsOf q (code.Set d e) → IsRangeOf rs e found → (s t : State)
-    → Stands objects q.temps rs s → acts.set d e s ≡ Some t → Stands objects q.temps (slice_set rs d found) t
-set_own q objects rs d e found given f s t h g =
+set_own : (q : CsProgramTree) (objects : ℕ) (rs : List Range) (passed : Option Remembered) (d : ℕ) (e : CsExprTree) (found : Range) → IsOf q (code.Set d e)
+    → IsKnownRange rs passed e found → (s t : State) → Stands objects q.temps rs s → IsPassed passed s → acts.set d e s ≡ Some t
+    → Stands objects q.temps (slice_set rs d found) t
+set_own q objects rs passed d e found given f s t h k g =
     let v = map_some (put s d) (value_of e s) t g in let row = given.typed.1 in
     subst (Stands objects q.temps (slice_set rs d found)) v.2
-    (put_stands objects q.temps rs s d row.0 v.0 found h row.2 (value_kind q s h.kinds e row.0 v.0 row.1 v.1) (f.holds s v.0 h.temps v.1))
+    (put_stands objects q.temps rs s d row.0 v.0 found h row.2 (value_kind q s h.kinds e row.0 v.0 row.1 v.1) (f.holds s v.0 h.temps k v.1))
 
 module _ (q : CsProgramTree) (objects : ℕ) (types : List Scalar) (same : q.temps ≡ types) (rs new : List Range) where
-  pub set_keeps : (d : ℕ) (e : CsExprTree) (found : Range) → new ≡ slice_set rs d found → IsOf q (code.Set d e) → IsRangeOf rs e found → (s t : State)
-      → Stands objects types rs s → acts.set d e s ≡ Some t → Stands objects types new t
-  set_keeps d e found is given f = subst (λ (ts : List Scalar). (s t : State) → Stands objects ts rs s → acts.set d e s ≡ Some t → Stands objects ts new t) same
-      (subst (λ (xs : List Range). (s t : State) → Stands objects q.temps rs s → acts.set d e s ≡ Some t → Stands objects q.temps xs t) (sym is)
-      (set_own q objects rs d e found given f))
+  pub set_keeps : (passed : Option Remembered) (d : ℕ) (e : CsExprTree) (found : Range) → new ≡ slice_set rs d found → IsOf q (code.Set d e)
+      → IsKnownRange rs passed e found → (s t : State) → Stands objects types rs s → IsPassed passed s → acts.set d e s ≡ Some t → Stands objects types new t
+  set_keeps passed d e found is given f =
+      subst (λ (ts : List Scalar). (s t : State) → Stands objects ts rs s → IsPassed passed s → acts.set d e s ≡ Some t → Stands objects ts new t) same
+      (subst (λ (xs : List Range). (s t : State) → Stands objects q.temps rs s → IsPassed passed s → acts.set d e s ≡ Some t → Stands objects q.temps xs t) (sym is)
+      (set_own q objects rs passed d e found given f))
 
-  pub set_alone : (d : ℕ) (e : CsExprTree) (found : Range) → new ≡ slice_set rs d found → IsOf q (code.Set d e) → IsRangeOf rs e found → (s t : State)
-      → IsSharp objects types rs s → acts.set d e s ≡ Some t → IsSharp objects types new t
-  set_alone d e found is given f = subst (λ (ts : List Scalar). (s t : State) → IsSharp objects ts rs s → acts.set d e s ≡ Some t → IsSharp objects ts new t) same
-      (subst (λ (xs : List Range). (s t : State) → IsSharp objects q.temps rs s → acts.set d e s ≡ Some t → IsSharp objects q.temps xs t) (sym is)
-      (λ s t h g. set_sharp q objects rs s h d e found given.typed.1.0 t (All-head (AreOperandsTyped q) e [] given.typed.0) given.typed.1.1 given.typed.1.2 f g))
+  pub set_alone : (passed : Option Remembered) (d : ℕ) (e : CsExprTree) (found : Range) → new ≡ slice_set rs d found → IsOf q (code.Set d e)
+      → IsKnownRange rs passed e found → (s t : State) → IsSharp objects types rs s → IsPassed passed s → acts.set d e s ≡ Some t → IsSharp objects types new t
+  set_alone passed d e found is given f =
+      subst (λ (ts : List Scalar). (s t : State) → IsSharp objects ts rs s → IsPassed passed s → acts.set d e s ≡ Some t → IsSharp objects ts new t) same
+      (subst (λ (xs : List Range). (s t : State) → IsSharp objects q.temps rs s → IsPassed passed s → acts.set d e s ≡ Some t → IsSharp objects q.temps xs t) (sym is)
+      (λ s t h k g. set_sharp q objects rs s h passed k d e found given.typed.1.0 t (All-head (AreOperandsTyped q) e [] given.typed.0) given.typed.1.1 given.typed.1.2 f g))
 
   pub load_keeps : (d : ℕ) (ty : Scalar) (e : CsExprTree) → new ≡ slice_set rs d all_numbers → IsOf q (code.Load d ty e) → (s t : State)
       → Stands objects types rs s → acts.load d ty e s ≡ Some t → Stands objects types new t

@@ -1,6 +1,6 @@
 -- What a join has, and how far widening goes.
-use Rattle.std.proofs.Common.{◌≡◌, ℕ, ℤ, ◌<◌, ◌≤◌, sym, subst, ◌∙◌, ⊎_elim, Bool, true, false, arith, List, length, replicate}
-use Rattle.std.specs.Prelude.{IsTrue, if◌then◌else◌}
+use Rattle.std.proofs.Common.{◌≡◌, ℕ, ℤ, ◌<◌, ◌≤◌, sym, subst, ◌∙◌, ⊎_elim, ap, Bool, true, false, arith, List, length, replicate, Option, None, refl}
+use Rattle.std.specs.Prelude.{IsTrue, ◌||◌, if◌then◌else◌}
 use Rattle.std.proofs.lemmas.Bool.{cases_lt}
 use Rattle.std.proofs.lemmas.List.{get_or_past}
 use Rattle.block_mem.specs.declared.types.Scalar.{Scalar}
@@ -13,18 +13,19 @@ use Rattle.temp_ranges.specs.Values.{number_of}
 use Rattle.temp_ranges.specs.Ranges.{range_at, knows}
 use Rattle.temp_ranges.specs.Sets.{Stands}
 use Rattle.temp_ranges.proofs.Lists.{unknown_knows}
+use Rattle.temp_states.specs.Passed.{Remembered, is_remembered}
 use Rattle.temp_states.proofs.Steps.{in_all}
 
-in_wider : (r s : Range) (n : ℤ) → NoWider r s → InRange r n → InRange s n
+pub in_wider : (r s : Range) (n : ℤ) → NoWider r s → InRange r n → InRange s n
 in_wider r s n w i = record {
   low = Below-from_at_most s.lo n (AtMost_trans s.lo r.lo (Fin n) w.low (AtMost-from_below r.lo n i.low));
   high = Above-from_at_most s.hi n (AtMost_trans (Fin n) r.hi s.hi (AtMost-from_above r.hi n i.high) w.high);
 }
 
-hull_first : (r s : Range) → NoWider r (hull r s)
+pub hull_first : (r s : Range) → NoWider r (hull r s)
 hull_first r s = record { low = lesser_first r.lo s.lo; high = greater_first r.hi s.hi }
 
-hull_second : (r s : Range) → NoWider s (hull r s)
+pub hull_second : (r s : Range) → NoWider s (hull r s)
 hull_second r s = record { low = lesser_second r.lo s.lo; high = greater_second r.hi s.hi }
 
 module _ (objects : ℕ) (types : List Scalar) (old other new : List Range) (size : length new ≡ length old)
@@ -56,11 +57,23 @@ pub for_one : (P : ℕ → List Scalar → Type 0) (count objects others : ℕ) 
     → temps ≡ kinds → P others kinds → P objects types
 for_one P count objects others temps types kinds n t m k h = subst (λ (x : ℕ). P x types) (sym m ∙ n) (subst (P others) (sym k ∙ t) h)
 
-pub falls : (old new : List Range) (len : ℕ) (all : Range) → new ≡ replicate len all → all ≡ all_numbers → IsTrue (knows old)
-    → (if knows new then 1 else 0) < (if knows old then 1 else 0)
-falls old new len all e f k = less (knows new) (knows old) (subst (λ (xs : List Range). knows xs ≡ false) (sym e) (subst (λ (r : Range). knows (replicate len r) ≡ false) (sym f) (unknown_knows len))) k
+pub falls : (old new : List Range) (passed left : Option Remembered) (len : ℕ) (all : Range) → new ≡ replicate len all → all ≡ all_numbers → left ≡ None
+    → IsTrue (knows old || is_remembered passed) → (if knows new || is_remembered left then 1 else 0) < (if knows old || is_remembered passed then 1 else 0)
+falls old new passed left len all e f g k = less (knows new || is_remembered left) (knows old || is_remembered passed)
+    (subst (λ (xs : List Range). (knows xs || is_remembered left) ≡ false) (sym e)
+    (subst (λ (r : Range). (knows (replicate len r) || is_remembered left) ≡ false) (sym f)
+    (subst (λ o. (knows (replicate len all_numbers) || is_remembered o) ≡ false) (sym g) (ap (λ b. b || false) (unknown_knows len))))) k
   where
     less : (a b : Bool) → a ≡ false → b ≡ true → (if a then 1 else 0) < (if b then 1 else 0)
     less false true g h = omega arith
     less true b g h = absurd (cc)
     less false false g h = absurd (cc)
+
+-- where one of the two is not covered, something is known
+pub some_known : (a b : Bool) → IsTrue a → IsTrue (a || b)
+some_known true b h = refl
+some_known false b h = absurd (cc)
+
+pub some_remembered : (a b : Bool) → IsTrue b → IsTrue (a || b)
+some_remembered true b h = refl
+some_remembered false b h = h

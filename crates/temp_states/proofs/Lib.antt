@@ -5,3 +5,12 @@ pub mod Alone
 pub mod Calls
 pub mod Looks
 pub mod Joins
+pub mod Knowing
+pub mod Beneath
+pub mod Outcomes
+pub mod Surviving
+pub mod Suspects
+pub mod Merging
+pub mod Placing
+pub mod Letting
+pub mod Examples

@@ -1,4 +1,4 @@
-use Rattle.std.proofs.Common.{◌≡◌, ap, ◌∙◌, [], ◌∷◌, map, arith}
+use Rattle.std.proofs.Common.{◌≡◌, ap, ◌∙◌, [], map, arith}
 use Rattle.std.specs.Prelude.{reverse}
 use Rattle.std.proofs.lemmas.Grind.{common_steps}
 use Rattle.c_syntax.specs.Program.{tfunction_tree}
@@ -10,13 +10,13 @@ use Rattle.c_type_programs.proofs.programs.last_functions.Goals as goal
 pub each-init : goal.each-init
 each-init c =
     let settle = settled_function (map object_tree c.args.objects.now) in
-    ap (λ xs. onto tfunction_tree ◌∷◌ xs (map settle (map tfunction_tree (reverse c.reverse.new.self.items)))) c.new-done.ensures.items
+    ap (λ xs. onto tfunction_tree xs (map settle (map tfunction_tree (reverse c.reverse.new.self.items)))) c.new-done.ensures.items
     ∙ list_begun tfunction_tree settle c.args.functions.items c.reverse.new.self.items c.reverse.ensures.items
 
 pub each-preserved : goal.each-preserved
 each-preserved c =
     let settle = settled_function (map object_tree c.args.objects.now) in
-    ap (λ xs. onto tfunction_tree ◌∷◌ xs (map settle (map tfunction_tree (reverse c.pop.new.self.items)))) c.in_ok-push.ensures.items
+    ap (λ xs. onto tfunction_tree xs (map settle (map tfunction_tree (reverse c.pop.new.self.items)))) c.in_ok-push.ensures.items
     ∙ list_one_more tfunction_tree settle c.each.done.items c.each.left.items c.pop.new.self.items c.in-Some.function c.in_ok-last.last
     (map settle (map tfunction_tree c.args.functions.items)) c.in-Some.ensures.items c.in_ok-last.ensures c.each.invariant
 

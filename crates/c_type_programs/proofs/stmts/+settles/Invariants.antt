@@ -1,39 +1,39 @@
-use Rattle.std.proofs.Common.{◌≡◌, ◌+◌, ◌*◌, ◌≤◌, map, vec_len}
-use Rattle.std.specs.Prelude.{reverse}
+use Rattle.std.proofs.Common.{◌≡◌, ◌+◌, ◌*◌, map, take}
 use Rattle.c_syntax.specs.Types.{object_tree}
 use Rattle.c_syntax.specs.TypedStmt.{tstmt_tree, tstmts_from, tstmts_tree}
 use Rattle.c_syntax.specs.Sizes.{tstmt_size, tstmts_size}
 use Rattle.c_typing.specs.Settled.{settled_stmts}
-use Rattle.c_type_programs.proofs.Lists.{stmts_onto}
 use Rattle.c_type_programs.proofs.stmts.+settles.Given as goal
 
--- what is done, and what is left settled, are all; and what is left is no larger than the list
-abbrev pub invariant-settled_stmts-each : goal.invariant-settled_stmts-each
-invariant-settled_stmts-each l =
-    (stmts_onto l.done.items (settled_stmts (map object_tree l.objects) (tstmts_from (reverse l.left.items)))
-    ≡ settled_stmts (map object_tree l.objects) (tstmts_tree l.fn.list))
-    × (tstmts_size (tstmts_from (reverse l.left.items)) ≤ tstmts_size (tstmts_tree l.fn.list))
-
-abbrev pub decreases-settled_stmts-each : goal.decreases-settled_stmts-each
-decreases-settled_stmts-each l = vec_len l.left
+abbrev pub invariant-settled_stmts-loop-item : goal.invariant-settled_stmts-loop-item
+invariant-settled_stmts-loop-item l = tstmts_from l.items.items ≡ settled_stmts (map object_tree l.objects) (tstmts_from (take l.item-index l.item-items))
 
 abbrev pub decreases-settled_stmt : goal.decreases-settled_stmt
-decreases-settled_stmt l = 4 * tstmt_size (tstmt_tree l.stmt) + 1
+decreases-settled_stmt l = 4 * tstmt_size (tstmt_tree l.stmt.now) + 1
 
 abbrev pub decreases-settled_guarded : goal.decreases-settled_guarded
-decreases-settled_guarded l = 4 * tstmt_size (tstmt_tree l.stmt)
-
-abbrev pub decreases-settled_block : goal.decreases-settled_block
-decreases-settled_block l = 4 * tstmts_size (tstmts_tree l.items) + 3
-
-abbrev pub decreases-settled_switch : goal.decreases-settled_switch
-decreases-settled_switch l = 4 * tstmts_size (tstmts_tree l.items) + 3
-
-abbrev pub decreases-settled_for : goal.decreases-settled_for
-decreases-settled_for l = 4 * (tstmts_size (tstmts_tree l.head) + tstmt_size (tstmt_tree l.body.value)) + 3
+decreases-settled_guarded l = 4 * tstmt_size (tstmt_tree l.stmt.now)
 
 abbrev pub decreases-settled_stmts : goal.decreases-settled_stmts
-decreases-settled_stmts l = 4 * tstmts_size (tstmts_tree l.list)
+decreases-settled_stmts l = 4 * tstmts_size (tstmts_tree l.list.now)
 
 abbrev pub decreases-boxed_stmt : goal.decreases-boxed_stmt
-decreases-boxed_stmt l = 4 * tstmt_size (tstmt_tree l.stmt.value) + 2
+decreases-boxed_stmt l = 4 * tstmt_size (tstmt_tree l.stmt.now) + 2
+
+abbrev pub decreases-settled_block : goal.decreases-settled_block
+decreases-settled_block l = 4 * tstmts_size (tstmts_tree l.items.now) + 3
+
+abbrev pub decreases-settled_if : goal.decreases-settled_if
+decreases-settled_if l = 4 * (tstmt_size (tstmt_tree l.then.now) + tstmt_size (tstmt_tree l.otherwise.now)) + 3
+
+abbrev pub decreases-settled_while : goal.decreases-settled_while
+decreases-settled_while l = 4 * tstmt_size (tstmt_tree l.body.now) + 3
+
+abbrev pub decreases-settled_do_while : goal.decreases-settled_do_while
+decreases-settled_do_while l = 4 * tstmt_size (tstmt_tree l.body.now) + 3
+
+abbrev pub decreases-settled_for : goal.decreases-settled_for
+decreases-settled_for l = 4 * (tstmts_size (tstmts_tree l.head.now) + tstmt_size (tstmt_tree l.body.now)) + 3
+
+abbrev pub decreases-settled_switch : goal.decreases-settled_switch
+decreases-settled_switch l = 4 * tstmts_size (tstmts_tree l.items.now) + 3

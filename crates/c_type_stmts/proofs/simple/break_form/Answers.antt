@@ -1,6 +1,6 @@
-use Rattle.std.proofs.Common.{◌≡◌, ap, ◌∙◌}
+use Rattle.std.proofs.Common.{◌≡◌}
 use Rattle.c_written.specs.WrittenFile as files
-use Rattle.c_syntax.specs.TypedStmt.{tstmt_tree}
+use Rattle.c_syntax.specs.TypedStmt.{tstmt_tree, Break}
 use Rattle.c_typing.specs.Stmts.{TypesStmt, allowed, one}
 use Rattle.c_type_jumps.specs.ContextViews.{context_tree}
 use Rattle.c_type_stmts.proofs.Lines.{break_line}
@@ -11,5 +11,5 @@ pub returns : goal.returns
 returns c w =
     let around = context_tree c.args.around in
     let at = c.args.at in
-    by (λ out. out ≡ allowed w at around.breaks (tstmt_tree c.break_node.result)) (TypesStmt w around (files.Break at)) (λ s. one (tstmt_tree s)) w
-    c.allowed.result (c.allowed.ensures w) (λ o p. break_line w around at o (p ∙ ap (allowed w at around.breaks) c.break_node.ensures))
+    by (λ out. out ≡ allowed w at around.breaks (Break at)) (TypesStmt w around (files.Break at)) (λ s. one (tstmt_tree s)) w
+    c.break_of.result (c.break_of.ensures w) (λ o p. break_line w around at o p)

@@ -1,6 +1,6 @@
-use Rattle.std.proofs.Common.{◌≡◌, ap, ◌∙◌}
+use Rattle.std.proofs.Common.{◌≡◌}
 use Rattle.c_written.specs.WrittenFile as files
-use Rattle.c_syntax.specs.TypedStmt.{tstmt_tree}
+use Rattle.c_syntax.specs.TypedStmt.{tstmt_tree, Continue}
 use Rattle.c_typing.specs.Stmts.{TypesStmt, allowed, one}
 use Rattle.c_type_jumps.specs.ContextViews.{context_tree}
 use Rattle.c_type_stmts.proofs.Lines.{continue_line}
@@ -11,5 +11,5 @@ pub returns : goal.returns
 returns c w =
     let around = context_tree c.args.around in
     let at = c.args.at in
-    by (λ out. out ≡ allowed w at around.continues (tstmt_tree c.continue_node.result)) (TypesStmt w around (files.Continue at)) (λ s. one (tstmt_tree s)) w
-    c.allowed.result (c.allowed.ensures w) (λ o p. continue_line w around at o (p ∙ ap (allowed w at around.continues) c.continue_node.ensures))
+    by (λ out. out ≡ allowed w at around.continues (Continue at)) (TypesStmt w around (files.Continue at)) (λ s. one (tstmt_tree s)) w
+    c.continue_of.result (c.continue_of.ensures w) (λ o p. continue_line w around at o p)

@@ -1,6 +1,7 @@
 use Rattle.std.proofs.Common.{subst}
 use Rattle.num_api.specs.declared.expr.NOp.{NOp}
-use Rattle.temp_ranges.proofs.Results.{IsFound, wrapped_result}
+use Rattle.temp_ranges.specs.Found.{IsFound}
+use Rattle.temp_ranges.proofs.Results.{wrapped_result}
 use Rattle.temp_ranges.proofs.operators.result_range.Goals as goal
 
 pub returns : goal.returns

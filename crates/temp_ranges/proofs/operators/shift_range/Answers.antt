@@ -1,19 +1,11 @@
-use Rattle.std.proofs.Common.{◌-ℤ◌, ◌≤ℤ◌, ◌<ℤ◌, ℤ, pos, arith, sym, subst}
-use Rattle.std.proofs.lemmas.Int.{ints}
-use Rattle.c_written.specs.declared.int_type.IntType.{IntType}
-use Rattle.c_written.specs.Integer.{width}
+use Rattle.std.proofs.Common.{sym, subst}
 use Rattle.num_api.specs.declared.expr.NOp.{NOp}
 use Rattle.num_api.specs.declared.message.Range.{Range}
 use Rattle.num_api.specs.Ranges.{InRange}
-use Rattle.num_api.specs.Spans.{span, range_of}
-use Rattle.temp_ranges.specs.Operators.{IsAmount}
-use Rattle.temp_ranges.proofs.Results.{IsFound, wrapped_shift, any_shift}
+use Rattle.temp_ranges.proofs.Amounts.{amount_in}
+use Rattle.temp_ranges.specs.Found.{IsFound}
+use Rattle.temp_ranges.proofs.Results.{wrapped_shift, any_shift}
 use Rattle.temp_ranges.proofs.operators.shift_range.Goals as goal
-
-amount_in : (t : IntType) (k : ℤ) → IsAmount t k → InRange (range_of (span (pos 0) (pos (width t) -ℤ pos 1))) k
-amount_in t k h = record { low = h.0; high = below k (pos (width t)) h.1 } where
-  below : (x y : ℤ) → x <ℤ y → x ≤ℤ (y -ℤ pos 1)
-  below x y h = omega (arith, ints)
 
 pub returns-then-not-lies_in : goal.returns-then-not-lies_in
 returns-then-not-lies_in c =

@@ -2,5 +2,5 @@ use Rattle.temp_ranges.proofs.Showed.{shows_number}
 use Rattle.temp_ranges.proofs.shows.shown_number.Goals as goal
 
 pub returns : goal.returns
-returns c = shows_number c.args.r c.shown_end.result c.shown_end-2.result c.shown_end.ensures.moderate c.shown_end-2.ensures.moderate c.shown_end.ensures.kept
-    c.shown_end-2.ensures.kept c.shown_end.ensures.below c.shown_end-2.ensures.above
+returns c = shows_number c.args.r c.lower_end.result c.upper_end.result c.lower_end.ensures.moderate c.upper_end.ensures.moderate c.lower_end.ensures.kept
+    c.upper_end.ensures.kept c.lower_end.ensures.below c.upper_end.ensures.above c.lower_end.ensures.least c.upper_end.ensures.greatest

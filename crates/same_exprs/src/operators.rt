@@ -1,0 +1,216 @@
+// Types and operators that are one.
+
+ghost use Rattle.std.specs.Prelude.{◌≡◌};
+ghost use Rattle.std.specs.Ordering.{int_eq};
+ghost use Rattle.plain_runs.specs.SameExprs.{type_number as number_of_type, arithmetic_number as number_of_arithmetic, shift_number as number_of_shift};
+ghost use Rattle.plain_runs.specs.SameExprs.{comparison_number as number_of_comparison, is_same_type, is_same_unary, is_same_binary};
+ghost use Rattle.c_syntax.specs.declared.operator.TBinaryOp.TheVariants.{Arithmetic as ArithmeticOp, Shift as ShiftOp, CompareInts, ComparePointers};
+
+use c_syntax::{Arithmetic, Comparison, IntType, Shift, TBinaryOp, TUnaryOp};
+
+fn type_number(t: IntType) -> u64
+    ensures { result ≡ number_of_type t }
+{
+    match t {
+        IntType::Char => 0,
+        IntType::SChar => 1,
+        IntType::UChar => 2,
+        IntType::Short => 3,
+        IntType::UShort => 4,
+        IntType::Int => 5,
+        IntType::UInt => 6,
+        IntType::Long => 7,
+        IntType::ULong => 8,
+        IntType::LLong => 9,
+        IntType::ULLong => 10,
+    }
+}
+
+fn arithmetic_number(op: Arithmetic) -> u64
+    ensures { result ≡ number_of_arithmetic op }
+{
+    match op {
+        Arithmetic::Multiply => 0,
+        Arithmetic::Divide => 1,
+        Arithmetic::Remainder => 2,
+        Arithmetic::Add => 3,
+        Arithmetic::Subtract => 4,
+        Arithmetic::BitAnd => 5,
+        Arithmetic::BitXor => 6,
+        Arithmetic::BitOr => 7,
+    }
+}
+
+fn shift_number(way: Shift) -> u64
+    ensures { result ≡ number_of_shift way }
+{
+    match way {
+        Shift::Left => 0,
+        Shift::Right => 1,
+    }
+}
+
+fn comparison_number(op: Comparison) -> u64
+    ensures { result ≡ number_of_comparison op }
+{
+    match op {
+        Comparison::Less => 0,
+        Comparison::Greater => 1,
+        Comparison::AtMost => 2,
+        Comparison::AtLeast => 3,
+        Comparison::Equal => 4,
+        Comparison::Unequal => 5,
+    }
+}
+
+// Whether two types are one.
+pub fn same_type(a: IntType, b: IntType) -> bool
+    ensures { result ≡ is_same_type a b }
+{
+    type_number(a) == type_number(b)
+}
+
+// Whether two operators of one operand are one.
+pub fn same_unary(a: TUnaryOp, b: TUnaryOp) -> bool
+    ensures { result ≡ is_same_unary a b }
+{
+    match (a, b) {
+        (TUnaryOp::Plus(t), TUnaryOp::Plus(u)) => same_type(t, u),
+        (TUnaryOp::Minus(t), TUnaryOp::Minus(u)) => same_type(t, u),
+        (TUnaryOp::Complement(t), TUnaryOp::Complement(u)) => same_type(t, u),
+        (TUnaryOp::Not, TUnaryOp::Not) => true,
+        (TUnaryOp::Plus(_), TUnaryOp::Minus(_) | TUnaryOp::Complement(_) | TUnaryOp::Not) => false,
+        (TUnaryOp::Minus(_), TUnaryOp::Plus(_) | TUnaryOp::Complement(_) | TUnaryOp::Not) => false,
+        (TUnaryOp::Complement(_), TUnaryOp::Plus(_) | TUnaryOp::Minus(_) | TUnaryOp::Not) => false,
+        (TUnaryOp::Not, TUnaryOp::Plus(_) | TUnaryOp::Minus(_) | TUnaryOp::Complement(_)) => false,
+    }
+}
+
+// Whether two operators of two operands are one.
+pub fn same_binary(a: TBinaryOp, b: TBinaryOp) -> bool
+    ensures { result ≡ is_same_binary a b }
+{
+    match a {
+        TBinaryOp::Arithmetic(op, t) => is_arithmetic(b, op, t),
+        TBinaryOp::Shift(way, t) => is_shift(b, way, t),
+        TBinaryOp::CompareInts(op, t) => compares_ints(b, op, t),
+        TBinaryOp::ComparePointers(op) => compares_pointers(b, op),
+        TBinaryOp::PointerPlusInt { element } => match b {
+            TBinaryOp::PointerPlusInt { element: other } => element == other,
+            TBinaryOp::Arithmetic(_, _)
+            | TBinaryOp::Shift(_, _)
+            | TBinaryOp::CompareInts(_, _)
+            | TBinaryOp::ComparePointers(_)
+            | TBinaryOp::IntPlusPointer { .. }
+            | TBinaryOp::PointerMinusInt { .. }
+            | TBinaryOp::PointerMinusPointer { .. } => false,
+        },
+        TBinaryOp::IntPlusPointer { element } => match b {
+            TBinaryOp::IntPlusPointer { element: other } => element == other,
+            TBinaryOp::Arithmetic(_, _)
+            | TBinaryOp::Shift(_, _)
+            | TBinaryOp::CompareInts(_, _)
+            | TBinaryOp::ComparePointers(_)
+            | TBinaryOp::PointerPlusInt { .. }
+            | TBinaryOp::PointerMinusInt { .. }
+            | TBinaryOp::PointerMinusPointer { .. } => false,
+        },
+        TBinaryOp::PointerMinusInt { element } => match b {
+            TBinaryOp::PointerMinusInt { element: other } => element == other,
+            TBinaryOp::Arithmetic(_, _)
+            | TBinaryOp::Shift(_, _)
+            | TBinaryOp::CompareInts(_, _)
+            | TBinaryOp::ComparePointers(_)
+            | TBinaryOp::PointerPlusInt { .. }
+            | TBinaryOp::IntPlusPointer { .. }
+            | TBinaryOp::PointerMinusPointer { .. } => false,
+        },
+        TBinaryOp::PointerMinusPointer { element } => match b {
+            TBinaryOp::PointerMinusPointer { element: other } => element == other,
+            TBinaryOp::Arithmetic(_, _)
+            | TBinaryOp::Shift(_, _)
+            | TBinaryOp::CompareInts(_, _)
+            | TBinaryOp::ComparePointers(_)
+            | TBinaryOp::PointerPlusInt { .. }
+            | TBinaryOp::IntPlusPointer { .. }
+            | TBinaryOp::PointerMinusInt { .. } => false,
+        },
+    }
+}
+
+// Whether the operator is this one at this type.
+fn is_arithmetic(b: TBinaryOp, op: Arithmetic, t: IntType) -> bool
+    ensures { result ≡ is_same_binary (ArithmeticOp op t) b }
+{
+    match b {
+        TBinaryOp::Arithmetic(other, u) => {
+            arithmetic_number(op) == arithmetic_number(other) && same_type(t, u)
+        }
+        TBinaryOp::Shift(_, _)
+        | TBinaryOp::CompareInts(_, _)
+        | TBinaryOp::ComparePointers(_)
+        | TBinaryOp::PointerPlusInt { .. }
+        | TBinaryOp::IntPlusPointer { .. }
+        | TBinaryOp::PointerMinusInt { .. }
+        | TBinaryOp::PointerMinusPointer { .. } => false,
+    }
+}
+
+// Whether the operator is this shift at this type.
+fn is_shift(b: TBinaryOp, way: Shift, t: IntType) -> bool
+    ensures { result ≡ is_same_binary (ShiftOp way t) b }
+{
+    match b {
+        TBinaryOp::Shift(other, u) => {
+            shift_number(way) == shift_number(other) && same_type(t, u)
+        }
+        TBinaryOp::Arithmetic(_, _)
+        | TBinaryOp::CompareInts(_, _)
+        | TBinaryOp::ComparePointers(_)
+        | TBinaryOp::PointerPlusInt { .. }
+        | TBinaryOp::IntPlusPointer { .. }
+        | TBinaryOp::PointerMinusInt { .. }
+        | TBinaryOp::PointerMinusPointer { .. } => false,
+    }
+}
+
+// Whether the operator is this comparison of integers of this type.
+fn compares_ints(b: TBinaryOp, op: Comparison, t: IntType) -> bool
+    ensures { result ≡ is_same_binary (CompareInts op t) b }
+{
+    match b {
+        TBinaryOp::CompareInts(other, u) => {
+            comparison_number(op) == comparison_number(other) && same_type(t, u)
+        }
+        TBinaryOp::Arithmetic(_, _)
+        | TBinaryOp::Shift(_, _)
+        | TBinaryOp::ComparePointers(_)
+        | TBinaryOp::PointerPlusInt { .. }
+        | TBinaryOp::IntPlusPointer { .. }
+        | TBinaryOp::PointerMinusInt { .. }
+        | TBinaryOp::PointerMinusPointer { .. } => false,
+    }
+}
+
+// Whether the operator is this comparison of pointers.
+fn compares_pointers(b: TBinaryOp, op: Comparison) -> bool
+    ensures { result ≡ is_same_binary (ComparePointers op) b }
+{
+    match b {
+        TBinaryOp::ComparePointers(other) => comparison_number(op) == comparison_number(other),
+        TBinaryOp::Arithmetic(_, _)
+        | TBinaryOp::Shift(_, _)
+        | TBinaryOp::CompareInts(_, _)
+        | TBinaryOp::PointerPlusInt { .. }
+        | TBinaryOp::IntPlusPointer { .. }
+        | TBinaryOp::PointerMinusInt { .. }
+        | TBinaryOp::PointerMinusPointer { .. } => false,
+    }
+}
+
+// Whether two numbers are one.
+pub fn same_number(a: &i128, b: &i128) -> bool
+    ensures { result ≡ int_eq a.now b.now }
+{
+    *a == *b
+}
