@@ -2,7 +2,7 @@
 //! prints a line with the outcome of its run. Its stored input and output are worked by hand.
 //!
 //! The words of a row are read one by one, operands before operators, as on a stack. A function is what stands on the stack
-//! of statements where its word `fn` comes; the first is main. All objects and temporaries are the same in each row:
+//! of statements where its word `fn` comes, and what is run is a copy of it; the first is main. All objects and temporaries are the same in each row:
 //!
 //! | | |
 //! |---|---|

@@ -6,6 +6,7 @@ use crate::{exprs, stmts};
 use c_syntax::Numbers;
 use csharp::{CsExpr, CsExprs, CsFunction, CsFunctions, CsStmt, CsStmts};
 use csharp_acts::{State, Unanswered};
+use csharp_copies::copy_stmt;
 use csharp_runs::{Limits, Outcome, run};
 use std::alloc::{AllocError, AllocFailed, Global};
 
@@ -84,9 +85,10 @@ impl Stacks {
     fn setting(&mut self, head: &str, rest: &str) -> Result<(), Fault> {
         match head {
             "fn" => {
+                let body = self.stmt()?;
                 let function = CsFunction {
                     params: self.numbers(rest)?,
-                    body: self.stmt()?,
+                    body: copy_stmt(self.alloc, &body)?,
                 };
                 self.functions.push(function)?;
             }

@@ -3,6 +3,8 @@
 ghost use Rattle.std.specs.Prelude.{◌≡◌, ℤ, pos, ◌≤ℤ◌, ◌<ℤ◌, ◌<◌, ◌^◌, All, IsTrue, Some};
 ghost use Rattle.c_syntax.specs.Admission.{IsModerate, IsProperRange, IsProperSet, IsProper};
 ghost use Rattle.decide.specs.Decisions.{HasFields, NamesBelow, NamesObjects};
+ghost use Rattle.shown_sets.specs.Hulls.{AreOfOneForm};
+ghost use Rattle.shown_sets.specs.Sets.{IsModerate as MayBeShown};
 
 use c_syntax::{Check, Pointers, Shown, WrongKind};
 
@@ -35,6 +37,27 @@ pub fn is_shown(shown: &Shown, count: usize) -> bool
         Shown::Pair(left, right) => is_set(left, count) && is_set(right, count),
         Shown::Marks { .. } | Shown::Ends { .. } => true,
     }
+}
+
+/// Whether both are numbers, a set, two sets, marks or ends.
+pub fn are_of_one_form(a: &Shown, b: &Shown) -> bool
+    ensures { IsTrue result → AreOfOneForm a.now b.now }
+{
+    match (a, b) {
+        (Shown::Number { .. }, Shown::Number { .. }) => true,
+        (Shown::One(_), Shown::One(_)) => true,
+        (Shown::Pair(_, _), Shown::Pair(_, _)) => true,
+        (Shown::Marks { .. }, Shown::Marks { .. }) => true,
+        (Shown::Ends { .. }, Shown::Ends { .. }) => true,
+        _ => false,
+    }
+}
+
+/// Whether an offset may be that of a pointer that is shown alone.
+pub fn is_moderate_offset(offset: i128) -> bool
+    ensures { IsTrue result → MayBeShown offset }
+{
+    -MODERATE <= offset && offset <= MODERATE
 }
 
 fn is_set(set: &Pointers, count: usize) -> bool

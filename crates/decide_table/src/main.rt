@@ -13,6 +13,8 @@
 //! | `number -5 * 1 2` | numbers from -5 up that are 1 modulo 2; `*` is a missing end |
 //! | `set 0,1,null 0 8 0 4` | pointers to these objects, or null, with offsets from 0 to 8 that are 0 modulo 4 |
 //! | `marks undef,value`, `ends value,none` | marks of a load, ends of a call |
+//! | `no-pointer`, `any-pointer`, `null-pointer`, `dead-pointer`, `pointer 0 4` | the set of none, of all, or of one pointer alone |
+//! | `or` | between two parts of one form: what is shown is the hull of both |
 //!
 //! Two sets are a pair. In a list `-` stands for nothing, and `any` for any pointer. Where no operand is shown the
 //! line says so.
@@ -20,6 +22,7 @@
 
 mod conditions;
 mod row;
+mod sets;
 mod words;
 
 use c_syntax::{Example, Spot};

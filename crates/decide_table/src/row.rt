@@ -1,9 +1,11 @@
 // What is answered of a row.
 
-use crate::conditions::{has_fields, is_shown};
+use crate::conditions::{are_of_one_form, has_fields, is_shown};
+use crate::sets::made_set;
 use crate::words::{check, marks, numbers, object, pointers};
 use c_syntax::{Check, Object, Pointers, Shown};
 use decide::{Decision, decide, shows_some};
+use shown_sets::shown_hull;
 use std::alloc::{AllocError as NoMemory, Global};
 
 /// What is answered of a row: the decision, and whether some operand is shown.
@@ -20,10 +22,37 @@ struct Row {
     check: Option<Check>,
     shown: Option<Shown>,
     set: Option<Pointers>,
+    other: Option<Shown>,
+}
+
+impl Row {
+    // Takes a set; a second one makes a pair.
+    fn put_set(&mut self, set: Option<Pointers>) {
+        match self.set.take() {
+            None => self.set = set,
+            Some(left) => {
+                if let Some(right) = set {
+                    self.shown = Some(Shown::Pair(left, right));
+                }
+            }
+        }
+    }
+
+    // What is shown so far, which the row then has no more.
+    fn take_shown(&mut self) -> Option<Shown> {
+        match self.set.take() {
+            Some(set) => Some(Shown::One(set)),
+            None => self.shown.take(),
+        }
+    }
 }
 
 // Takes one part of the row. Answers whether it is one.
 fn take(alloc: Global, row: &mut Row, words: &[&str]) -> Result<bool, NoMemory> {
+    if let Some(set) = made_set(alloc, words)? {
+        row.put_set(Some(set));
+        return Ok(true);
+    }
     match words {
         ["objects", sizes @ ..] => {
             for size in sizes {
@@ -36,38 +65,37 @@ fn take(alloc: Global, row: &mut Row, words: &[&str]) -> Result<bool, NoMemory> 
         ["number", rest @ ..] => row.shown = numbers(rest),
         ["set", rest @ ..] => {
             let set = pointers(alloc, rest)?;
-            match row.set.take() {
-                None => row.set = set,
-                Some(left) => {
-                    if let Some(right) = set {
-                        row.shown = Some(Shown::Pair(left, right));
-                    }
-                }
-            }
+            row.put_set(set);
         }
+        ["or"] => row.other = row.take_shown(),
         [word, list] if row.check.is_some() => row.shown = marks(word, list),
         _ => row.check = check(words),
     }
     Ok(true)
 }
 
-// What is decided of the parts, where they meet the conditions.
-fn decided(row: Row) -> Option<Told> {
-    let Row {
-        objects,
-        check,
-        shown,
-        set,
-    } = row;
-    let check = check?;
-    let shown = match set {
-        Some(set) => Shown::One(set),
-        None => shown?,
+// What the row shows: that of its last part, or the hull of this and of what stands before `or`.
+fn shown_of(row: &mut Row) -> Result<Option<Shown>, NoMemory> {
+    let Some(shown) = row.take_shown() else {
+        return Ok(None);
     };
-    if has_fields(&check) && is_shown(&shown, objects.len()) {
+    let Some(other) = row.other.take() else {
+        return Ok(Some(shown));
+    };
+    let count = row.objects.len();
+    if are_of_one_form(&other, &shown) && is_shown(&other, count) && is_shown(&shown, count) {
+        Ok(Some(shown_hull(&other, &shown)?))
+    } else {
+        Ok(None)
+    }
+}
+
+// What is decided of the check and what is shown, where they meet the conditions.
+fn decided(check: &Check, shown: &Shown, objects: &[Object]) -> Option<Told> {
+    if has_fields(check) && is_shown(shown, objects.len()) {
         Some(Told {
-            decision: decide(&check, &shown, &objects),
-            shows_some: shows_some(&shown, &objects),
+            decision: decide(check, shown, objects),
+            shows_some: shows_some(shown, objects),
         })
     } else {
         None
@@ -81,6 +109,7 @@ pub fn answer(alloc: Global, line: &str) -> Result<Option<Told>, NoMemory> {
         check: None,
         shown: None,
         set: None,
+        other: None,
     };
     for part in line.split(';') {
         let mut words = Vec::new(alloc);
@@ -91,5 +120,9 @@ pub fn answer(alloc: Global, line: &str) -> Result<Option<Told>, NoMemory> {
             return Ok(None);
         }
     }
-    Ok(decided(row))
+    let shown = shown_of(&mut row)?;
+    match (row.check, shown) {
+        (Some(check), Some(shown)) => Ok(decided(&check, &shown, &row.objects)),
+        _ => Ok(None),
+    }
 }
