@@ -1,31 +1,15 @@
 //! Verac: what may go wrong in a C file, from its bytes to the report.
 //!
-//! `run` reads the words of the command, reads the file, has it cut, parsed, typed, asked for the rules and read as a
-//! program, finds the alarms, and writes the report or the line of the refusal, whole. For example, `verac analyze a.c` on
-//! `int main(void) { return 1 / 0; }` writes one alarm, `DivideByZero`, and ends with status 1.
-//!
-//! | What | Stated in `specs/` | Promised by |
-//! |---|---|---|
-//! | what an answer is | `Headline` | `run` |
-//! | which words are a command | `Command` | `command` |
-//! | which program bytes are, and for what they are refused | `Program`, `Refusal`, `Verdict` | `program_of`, `one_program`, `one_verdict` |
-//! | the text of a report, and the line of a refusal | `Report`, `RefusalText` | `report_text`, `refusal_line` |
-//! | exit statuses | `Status` | `code` |
+//! The program gives the words of its command line, the files of the system and standard output to `run` of `headline`,
+//! whose contract is the theorem, tells on standard error what has no text, and ends with the status. For example,
+//! `verac analyze a.c` on `int main(void) { return 1 / 0; }` writes one alarm, `DivideByZero`, and ends with status 1.
 #![tactic(auto)]
 
-mod command;
-mod program;
-mod refusal;
-mod report;
-mod runs;
-mod status;
 #[cfg(test)]
 mod tests;
-mod verdict;
 
+use headline::{Status, run};
 use outside_io::{HostFiles, HostOut};
-use runs::run;
-use status::Status;
 use std::process::ExitCode;
 use std::{env, io};
 

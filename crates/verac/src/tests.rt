@@ -1,9 +1,8 @@
 // Whole runs over files and a sink in memory. The texts are worked by hand. What is found in files of
 // many forms stands as rows of the program `front_table`.
 
-use crate::runs::run;
-use crate::status::Status;
 use c_syntax::Numbers;
+use headline::{Status, run};
 use outside_io::{MemFiles, MemSink};
 use std::alloc::{AllocError, Global};
 use std::process::Abort;

@@ -1,0 +1,59 @@
+-- What a run may answer: every execution that goes wrong is listed, and what is listed is admitted and shown.
+use Rattle.std.specs.Prelude.{◌≡◌, ◌≢◌, ℕ, List, [], All, AllPairs}
+use Rattle.c_syntax.specs.declared.alarm.Alarm.{Alarm}
+use Rattle.headline.specs.declared.status.Status.{Status}
+use Rattle.headline.specs.declared.status.Status.TheVariants.{NoAlarm, Alarms, Refused, Usage, ReadFault, NoMemory}
+use Rattle.c_syntax.specs.Program.{TProgramTree}
+use Rattle.headline.specs.Program.{IsProgram}
+use Rattle.constant_form.specs.Sound.{IsSound}
+use Rattle.constant_form.specs.Admission.{IsAdmitted}
+use Rattle.constant_form.specs.Order.{Precedes, IsPrintable}
+use Rattle.headline.specs.Report.{text_of}
+use Rattle.headline.specs.Refusal.{RefusalTree}
+use Rattle.headline.specs.RefusalText.{line_of}
+use Rattle.headline.specs.Verdict.{IsRefusedFor}
+
+-- the text is the report of these alarms on the one program of the bytes, which are not refused
+pub record IsReport (name bytes : List ℕ) (alarms : List Alarm) (text : List ℕ) : Type 0 where
+  pub program : TProgramTree
+  pub read : IsProgram bytes program
+  pub only : (other : TProgramTree) → IsProgram bytes other → other ≡ program
+  pub accepted : (r : RefusalTree) → IsRefusedFor bytes r → ⊥
+  pub sound : IsSound program alarms
+  pub admitted : All (IsAdmitted program) alarms
+  pub ordered : AllPairs Precedes alarms
+  pub printable : All IsPrintable alarms
+  pub text_is : text ≡ text_of name alarms
+
+-- the answer and its text, for a file of this name with these bytes
+abbrev pub IsAnswer : List ℕ → List ℕ → Status → List ℕ → Type 0
+IsAnswer name bytes NoAlarm text = IsReport name bytes [] text
+IsAnswer name bytes Alarms text = (alarms : List Alarm) × (alarms ≢ []) × IsReport name bytes alarms text
+IsAnswer name bytes Refused text = (r : RefusalTree) × IsRefusedFor bytes r × (text ≡ line_of name r)
+IsAnswer name bytes status text = ⊥
+
+-- the answer comes with a text, and of that this holds
+abbrev pub OnWhole : Status → Type 0 → Type 0
+OnWhole NoAlarm p = p
+OnWhole Alarms p = p
+OnWhole Refused p = p
+OnWhole status p = Unit {0}
+
+-- the answer comes with a text
+abbrev pub IsWhole : Status → Type 0
+IsWhole NoAlarm = Unit {0}
+IsWhole Alarms = Unit {0}
+IsWhole Refused = Unit {0}
+IsWhole status = ⊥
+
+-- the answer comes with a text, or is want of memory
+abbrev pub Completes : Status → Type 0
+Completes NoMemory = Unit {0}
+Completes status = IsWhole status
+
+-- the answer is one at which nothing is written, and of that this holds
+abbrev pub OnNothing : Status → Type 0 → Type 0
+OnNothing Usage p = p
+OnNothing ReadFault p = p
+OnNothing NoMemory p = p
+OnNothing status p = Unit {0}

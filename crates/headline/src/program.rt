@@ -1,0 +1,102 @@
+// The program that a file's bytes are.
+ghost use Rattle.std.specs.Prelude.{◌≤◌, List, ℕ, length, IfOk};
+ghost use Rattle.c_written.specs.WrittenFile.{file_tree};
+ghost use Rattle.c_syntax.specs.Program.{tprogram_tree};
+ghost use Rattle.c_lexer.specs.Cut.{IsCut};
+ghost use Rattle.headline.specs.Program.{IsSource, IsTypedAs, IsAdmittedAs};
+ghost use Rattle.headline.specs.Read.{Tells};
+
+use crate::refusal::Refusal;
+use crate::verdict::{one_program, program_nor_refused};
+use c_check::check;
+use c_lexer::{LexError, Reason, lex};
+use c_parser::{ParseError, parse};
+use c_rules::{RuleError, admit};
+use c_syntax::{File, TProgram, Tokens};
+use c_type_names::TypeError;
+use constant_form::{Expr, form_of};
+use rule_text::names_of;
+use std::alloc::{AllocError, Global};
+
+/// What a file's bytes are.
+#[derive(Debug, Drop)]
+pub enum Read {
+    /// The program that returns this expression.
+    Program(Expr),
+    /// No program, for this.
+    Refused(Refusal),
+}
+
+/// Reads the program of the bytes.
+pub fn program_of(alloc: Global, bytes: &[u8]) -> Result<Read, AllocError>
+    requires { length bytes.now ≤ 4194304 }
+    ensures { IfOk result (λ read. Tells bytes.now read) }
+{
+    match lex(alloc, 0, bytes) {
+        Ok(tokens) => parsed(alloc, &tokens),
+        Err(LexError::NoMemory) => Err(AllocError),
+        Err(LexError::BadByte(at)) => Ok(Read::Refused(Refusal::Lexing(Reason::BadByte, at))),
+        Err(LexError::Unterminated(at)) => {
+            Ok(Read::Refused(Refusal::Lexing(Reason::Unterminated, at)))
+        }
+        Err(LexError::BadNumber(at)) => Ok(Read::Refused(Refusal::Lexing(Reason::BadNumber, at))),
+        Err(LexError::TooWide(at)) => Ok(Read::Refused(Refusal::Lexing(Reason::TooWide, at))),
+        Err(LexError::BadEscape(at)) => Ok(Read::Refused(Refusal::Lexing(Reason::BadEscape, at))),
+        Err(LexError::Directive(at)) => Ok(Read::Refused(Refusal::Lexing(Reason::Directive, at))),
+    }
+}
+
+// The program of bytes that are cut into these tokens.
+fn parsed(alloc: Global, tokens: &Tokens) -> Result<Read, AllocError>
+    ensures { IfOk result (λ read. (bytes : List ℕ) → length bytes ≤ 4194304 → IsCut 0 bytes tokens.now → Tells bytes read) }
+{
+    match parse(alloc, tokens) {
+        Ok(file) => typed(alloc, file),
+        Err(ParseError::NoMemory) => Err(AllocError),
+        Err(ParseError::Syntax(at)) => Ok(Read::Refused(Refusal::Syntax(at))),
+        Err(ParseError::Unsupported(at, construct)) => {
+            Ok(Read::Refused(Refusal::Unsupported(construct, at)))
+        }
+        Err(ParseError::TooDeep(at)) => Ok(Read::Refused(Refusal::TooDeep(at))),
+    }
+}
+
+// The program of bytes that are this file.
+fn typed(alloc: Global, file: File) -> Result<Read, AllocError>
+    ensures { IfOk result (λ read. (bytes : List ℕ) → length bytes ≤ 4194304 → IsSource bytes (file_tree file) → Tells bytes read) }
+{
+    match check(alloc, file) {
+        Ok(program) => ruled(alloc, &program),
+        Err(TypeError::NoMemory) => Err(AllocError),
+        Err(error) => Ok(Read::Refused(Refusal::Typing(error))),
+    }
+}
+
+// The program of bytes that have this typed program.
+fn ruled(alloc: Global, program: &TProgram) -> Result<Read, AllocError>
+    ensures { IfOk result
+        (λ read. (bytes : List ℕ) → length bytes ≤ 4194304 → IsTypedAs bytes (tprogram_tree program.now) → Tells bytes read) }
+{
+    match admit(alloc, program) {
+        Ok(_plan) => built(alloc, program),
+        Err(RuleError::NoMemory) => Err(AllocError),
+        Err(error) => {
+            let names = names_of(alloc, program)?;
+            Ok(Read::Refused(Refusal::Rule(names, error)))
+        }
+    }
+}
+
+// The program of bytes that have this typed program, which the rules admit.
+fn built(alloc: Global, program: &TProgram) -> Result<Read, AllocError>
+    ensures { IfOk result
+        (λ read. (bytes : List ℕ) → length bytes ≤ 4194304 → IsAdmittedAs bytes (tprogram_tree program.now) → Tells bytes read) }
+{
+    // The bytes have no other program, and with one they are not refused.
+    one_program();
+    program_nor_refused();
+    match form_of(alloc, program)? {
+        Some(e) => Ok(Read::Program(e)),
+        None => Ok(Read::Refused(Refusal::NotBuilt)),
+    }
+}
