@@ -12,23 +12,15 @@ use c_written::Token;
 pub fn fits(context: &Context<'_>, class: Class, token: &Token) -> bool
     ensures { IsTrue result ↔ Fits (scene_of context.now) class token.now }
 {
-    match token {
-        Token::Word(name) => match class {
-            Class::Word => !context.names_type(name.as_slice()),
-            Class::AnyWord => true,
-            Class::TypeName => context.names_type(name.as_slice()),
-            _ => false,
-        },
-        Token::Keyword(found) => match class {
-            Class::Keyword(wanted) => *found == wanted,
-            _ => false,
-        },
-        Token::Punctuator(found) => match class {
-            Class::Sign(wanted) => *found == wanted,
-            _ => false,
-        },
-        Token::Number(_) => matches!(class, Class::Number),
-        Token::Character(_) => matches!(class, Class::Character),
-        Token::Text(_) => matches!(class, Class::Text),
+    match class {
+        Class::Keyword(wanted) => matches!(token, Token::Keyword(found) if *found == wanted),
+        Class::Sign(wanted) => matches!(token, Token::Punctuator(found) if *found == wanted),
+        Class::Word => matches!(token, Token::Word(name) if !context.names_type(name.as_slice())),
+        Class::AnyWord => matches!(token, Token::Word(_)),
+        Class::TypeName =>
+            matches!(token, Token::Word(name) if context.names_type(name.as_slice())),
+        Class::Number => matches!(token, Token::Number(_)),
+        Class::Character => matches!(token, Token::Character(_)),
+        Class::Text => matches!(token, Token::Text(_)),
     }
 }

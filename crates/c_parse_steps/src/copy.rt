@@ -4,6 +4,7 @@
 ghost use Rattle.std.specs.Prelude.{◌≡◌, ◌++◌, IfOk};
 ghost use Rattle.c_grammar.specs.Classes.{byte_of, bytes_of, constant_of, low_byte, name_of};
 
+use crate::boxes::boxed;
 use c_written::{Constant, Name, Token};
 use std::alloc::{AllocError, Global};
 
@@ -26,7 +27,7 @@ pub fn boxed_name_of(alloc: Global, token: &Token) -> Result<Box<Name>, AllocErr
     ensures { IfOk result (λ n. n.value ≡ name_of token.now) }
 {
     let name = name_of(alloc, token)?;
-    Ok(Box::new(alloc, name)?)
+    boxed(alloc, name)
 }
 
 /// The constant of a number.

@@ -6,6 +6,7 @@ ghost use Rattle.c_written.specs.Written.{exprs_from, exprs_tree, specs_tree, ex
 ghost use Rattle.c_grammar.specs.Made.{is_word, joined};
 ghost use Rattle.c_parse_steps.specs.Views.{boxed_declarator, boxed_expr};
 
+use crate::boxes::boxed;
 use c_grammar::Joint;
 use c_written::{AssignOp, Declarator, Expr, Exprs, Name, Pos, Specs, StepWay, UnaryOp};
 use std::alloc::{AllocError, Global};
@@ -14,7 +15,7 @@ use std::alloc::{AllocError, Global};
 pub fn enclosed_expr(alloc: Global, pos: Pos, inner: Box<Expr>) -> Result<Box<Expr>, AllocError>
     ensures { IfOk result (λ e. boxed_expr e ≡ Enclosed pos (boxed_expr inner)) }
 {
-    Ok(Box::new(alloc, Expr::Enclosed { pos, inner })?)
+    boxed(alloc, Expr::Enclosed { pos, inner })
 }
 
 /// An index.
@@ -26,16 +27,16 @@ pub fn index_expr(
 ) -> Result<Box<Expr>, AllocError>
     ensures { IfOk result (λ e. boxed_expr e ≡ Index pos (boxed_expr base) (boxed_expr index)) }
 {
-    Ok(Box::new(alloc, Expr::Index { pos, base, index })?)
+    boxed(alloc, Expr::Index { pos, base, index })
 }
 
 /// A call of a word.
 pub fn call_expr(alloc: Global, pos: Pos, name: Name, args: Exprs) -> Result<Box<Expr>, AllocError>
     ensures { IfOk result (λ e. boxed_expr e ≡ Call pos name (exprs_tree args)) }
 {
-    let name = Box::new(alloc, name)?;
-    let args = Box::new(alloc, args)?;
-    Ok(Box::new(alloc, Expr::Call { pos, name, args })?)
+    let name = boxed(alloc, name)?;
+    let args = boxed(alloc, args)?;
+    boxed(alloc, Expr::Call { pos, name, args })
 }
 
 /// A member, by a point.
@@ -47,8 +48,8 @@ pub fn dot_expr(
 ) -> Result<Box<Expr>, AllocError>
     ensures { IfOk result (λ e. boxed_expr e ≡ Dot pos (boxed_expr base) member) }
 {
-    let member = Box::new(alloc, member)?;
-    Ok(Box::new(alloc, Expr::Dot { pos, base, member })?)
+    let member = boxed(alloc, member)?;
+    boxed(alloc, Expr::Dot { pos, base, member })
 }
 
 /// A member, by an arrow.
@@ -60,8 +61,8 @@ pub fn arrow_expr(
 ) -> Result<Box<Expr>, AllocError>
     ensures { IfOk result (λ e. boxed_expr e ≡ Arrow pos (boxed_expr base) member) }
 {
-    let member = Box::new(alloc, member)?;
-    Ok(Box::new(alloc, Expr::Arrow { pos, base, member })?)
+    let member = boxed(alloc, member)?;
+    boxed(alloc, Expr::Arrow { pos, base, member })
 }
 
 /// `++` or `--` behind its operand.
@@ -73,7 +74,7 @@ pub fn post_step_expr(
 ) -> Result<Box<Expr>, AllocError>
     ensures { IfOk result (λ e. boxed_expr e ≡ PostStep pos way (boxed_expr operand)) }
 {
-    Ok(Box::new(alloc, Expr::PostStep { pos, way, operand })?)
+    boxed(alloc, Expr::PostStep { pos, way, operand })
 }
 
 /// `++` or `--` before its operand.
@@ -85,7 +86,7 @@ pub fn pre_step_expr(
 ) -> Result<Box<Expr>, AllocError>
     ensures { IfOk result (λ e. boxed_expr e ≡ PreStep pos way (boxed_expr operand)) }
 {
-    Ok(Box::new(alloc, Expr::PreStep { pos, way, operand })?)
+    boxed(alloc, Expr::PreStep { pos, way, operand })
 }
 
 /// A unary operator and its operand.
@@ -97,14 +98,14 @@ pub fn unary_expr(
 ) -> Result<Box<Expr>, AllocError>
     ensures { IfOk result (λ e. boxed_expr e ≡ Unary pos op (boxed_expr operand)) }
 {
-    Ok(Box::new(alloc, Expr::Unary { pos, op, operand })?)
+    boxed(alloc, Expr::Unary { pos, op, operand })
 }
 
 /// `sizeof` of an expression.
 pub fn sizeof_expr(alloc: Global, pos: Pos, operand: Box<Expr>) -> Result<Box<Expr>, AllocError>
     ensures { IfOk result (λ e. boxed_expr e ≡ SizeofExpr pos (boxed_expr operand)) }
 {
-    Ok(Box::new(alloc, Expr::SizeofExpr { pos, operand })?)
+    boxed(alloc, Expr::SizeofExpr { pos, operand })
 }
 
 /// `sizeof` of a type.
@@ -116,15 +117,15 @@ pub fn sizeof_type(
 ) -> Result<Box<Expr>, AllocError>
     ensures { IfOk result (λ e. boxed_expr e ≡ SizeofType pos (specs_tree specs) (boxed_declarator declarator)) }
 {
-    let specs = Box::new(alloc, specs)?;
-    Ok(Box::new(
+    let specs = boxed(alloc, specs)?;
+    boxed(
         alloc,
         Expr::SizeofType {
             pos,
             specs,
             declarator,
         },
-    )?)
+    )
 }
 
 /// A cast.
@@ -137,8 +138,8 @@ pub fn cast_expr(
 ) -> Result<Box<Expr>, AllocError>
     ensures { IfOk result (λ e. boxed_expr e ≡ Cast pos (specs_tree specs) (boxed_declarator declarator) (boxed_expr operand)) }
 {
-    let specs = Box::new(alloc, specs)?;
-    Ok(Box::new(
+    let specs = boxed(alloc, specs)?;
+    boxed(
         alloc,
         Expr::Cast {
             pos,
@@ -146,7 +147,7 @@ pub fn cast_expr(
             declarator,
             operand,
         },
-    )?)
+    )
 }
 
 /// A conditional.
@@ -159,7 +160,7 @@ pub fn cond_expr(
 ) -> Result<Box<Expr>, AllocError>
     ensures { IfOk result (λ e. boxed_expr e ≡ Cond pos (boxed_expr condition) (boxed_expr then) (boxed_expr otherwise)) }
 {
-    Ok(Box::new(
+    boxed(
         alloc,
         Expr::Cond {
             pos,
@@ -167,7 +168,7 @@ pub fn cond_expr(
             then,
             otherwise,
         },
-    )?)
+    )
 }
 
 /// An assignment.
@@ -179,7 +180,7 @@ pub fn assign_expr(
 ) -> Result<Box<Expr>, AllocError>
     ensures { IfOk result (λ e. boxed_expr e ≡ Assign pos (boxed_expr left) (boxed_expr right)) }
 {
-    Ok(Box::new(alloc, Expr::Assign { pos, left, right })?)
+    boxed(alloc, Expr::Assign { pos, left, right })
 }
 
 /// An assignment by an operator.
@@ -192,7 +193,7 @@ pub fn compound_expr(
 ) -> Result<Box<Expr>, AllocError>
     ensures { IfOk result (λ e. boxed_expr e ≡ Compound pos op (boxed_expr left) (boxed_expr right)) }
 {
-    Ok(Box::new(
+    boxed(
         alloc,
         Expr::Compound {
             pos,
@@ -200,7 +201,7 @@ pub fn compound_expr(
             left,
             right,
         },
-    )?)
+    )
 }
 
 /// Two operands and what stands between them.
@@ -222,7 +223,7 @@ pub fn joined(
             right,
         },
     };
-    Ok(Box::new(alloc, whole)?)
+    boxed(alloc, whole)
 }
 
 /// One more expression at the end.
@@ -234,29 +235,9 @@ pub fn push_expr(items: &mut Vec<Expr>, next: Box<Expr>) -> Result<(), AllocErro
 }
 
 /// Whether it is a word alone.
+#[tactic(auto, unfolding(c_written::specs::Written::expr_tree))]
 pub fn is_word(base: &Expr) -> bool
     ensures { result ≡ is_word (expr_tree base.now) }
 {
-    match base {
-        Expr::Word { .. } => true,
-        Expr::Number { .. }
-        | Expr::Character { .. }
-        | Expr::Strings { .. }
-        | Expr::Enclosed { .. }
-        | Expr::Index { .. }
-        | Expr::Call { .. }
-        | Expr::Dot { .. }
-        | Expr::Arrow { .. }
-        | Expr::PostStep { .. }
-        | Expr::PreStep { .. }
-        | Expr::Unary { .. }
-        | Expr::SizeofExpr { .. }
-        | Expr::SizeofType { .. }
-        | Expr::Cast { .. }
-        | Expr::Binary { .. }
-        | Expr::Cond { .. }
-        | Expr::Assign { .. }
-        | Expr::Compound { .. }
-        | Expr::Comma { .. } => false,
-    }
+    matches!(base, Expr::Word { .. })
 }

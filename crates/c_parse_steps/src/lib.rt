@@ -13,6 +13,7 @@
 //! comes and for nodes.
 #![tactic(auto)]
 
+mod boxes;
 mod class;
 mod context;
 mod copy;

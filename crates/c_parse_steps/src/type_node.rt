@@ -7,6 +7,7 @@ ghost use Rattle.c_grammar.specs.Made.{declared_word, function_of, is_bare_void,
 ghost use Rattle.c_parse_steps.specs.Kinds.{is_void_alone, is_void_spec, is_void_word};
 ghost use Rattle.c_parse_steps.specs.Views.{boxed_declarator, boxed_expr};
 
+use crate::boxes::boxed;
 use c_written::{
     Declarator, Enumerator, Expr, MemberDecl, Name, Param, Params, Pos, Spec, Specs, TypeWord,
 };
@@ -20,7 +21,7 @@ pub fn grouped_declarator(
 ) -> Result<Box<Declarator>, AllocError>
     ensures { IfOk result (λ d. boxed_declarator d ≡ Grouped pos (boxed_declarator inner)) }
 {
-    Ok(Box::new(alloc, Declarator::Grouped { pos, inner })?)
+    boxed(alloc, Declarator::Grouped { pos, inner })
 }
 
 /// `*` and what it points to.
@@ -32,14 +33,14 @@ pub fn pointer_declarator(
 ) -> Result<Box<Declarator>, AllocError>
     ensures { IfOk result (λ d. boxed_declarator d ≡ Pointer pos is_const (boxed_declarator inner)) }
 {
-    Ok(Box::new(
+    boxed(
         alloc,
         Declarator::Pointer {
             pos,
             is_const,
             inner,
         },
-    )?)
+    )
 }
 
 /// A size behind a declarator.
@@ -51,7 +52,7 @@ pub fn array_declarator(
 ) -> Result<Box<Declarator>, AllocError>
     ensures { IfOk result (λ d. boxed_declarator d ≡ Array pos (boxed_declarator inner) (boxed_expr size)) }
 {
-    Ok(Box::new(alloc, Declarator::Array { pos, inner, size })?)
+    boxed(alloc, Declarator::Array { pos, inner, size })
 }
 
 /// Brackets without a size behind a declarator.
@@ -62,7 +63,7 @@ pub fn open_array_declarator(
 ) -> Result<Box<Declarator>, AllocError>
     ensures { IfOk result (λ d. boxed_declarator d ≡ OpenArray pos (boxed_declarator inner)) }
 {
-    Ok(Box::new(alloc, Declarator::OpenArray { pos, inner })?)
+    boxed(alloc, Declarator::OpenArray { pos, inner })
 }
 
 /// These parameters behind a declarator.
@@ -75,10 +76,10 @@ pub fn function_declarator(
     ensures { IfOk result (λ d. boxed_declarator d ≡ function_of pos (boxed_declarator inner) (params_from params.items)) }
 {
     if is_void(params.as_slice()) {
-        return Ok(Box::new(alloc, Declarator::VoidFunction { pos, inner })?);
+        return boxed(alloc, Declarator::VoidFunction { pos, inner });
     }
     let params = Params::from_vec(params);
-    Ok(Box::new(alloc, Declarator::Function { pos, inner, params })?)
+    boxed(alloc, Declarator::Function { pos, inner, params })
 }
 
 // `void` alone.
@@ -118,18 +119,13 @@ fn is_void_word(specs: &[Spec]) -> bool
     }
 }
 
+#[tactic(auto, unfolding(c_written::specs::Written::spec_tree))]
 fn is_void_spec(spec: &Spec) -> bool
     ensures { result ≡ is_void_spec (spec_tree spec.now) }
 {
     match spec {
         Spec::Basic { word, .. } => matches!(word, TypeWord::Void),
-        Spec::Storage { .. }
-        | Spec::Const { .. }
-        | Spec::TypedefName { .. }
-        | Spec::Struct { .. }
-        | Spec::StructBody { .. }
-        | Spec::Enum { .. }
-        | Spec::EnumBody { .. } => false,
+        _ => false,
     }
 }
 
@@ -142,7 +138,7 @@ pub fn empty_declarator(
     ensures { IfOk result (λ d. boxed_declarator d ≡ Function pos (boxed_declarator inner) no_params) }
 {
     let params = Params::new(alloc);
-    Ok(Box::new(alloc, Declarator::Function { pos, inner, params })?)
+    boxed(alloc, Declarator::Function { pos, inner, params })
 }
 
 /// A constant of an enumeration with its value.
@@ -153,34 +149,19 @@ pub fn valued_enumerator(pos: Pos, name: Name, value: Box<Expr>) -> Enumerator
 }
 
 /// Whether the declarator has a token.
+#[tactic(auto, unfolding(c_written::specs::Written::declarator_tree))]
 pub fn is_given(declarator: &Declarator) -> bool
     ensures { result ≡ is_given (declarator_tree declarator.now) }
 {
-    match declarator {
-        Declarator::Absent => false,
-        Declarator::Name { .. }
-        | Declarator::Grouped { .. }
-        | Declarator::Pointer { .. }
-        | Declarator::Array { .. }
-        | Declarator::OpenArray { .. }
-        | Declarator::Function { .. }
-        | Declarator::VoidFunction { .. } => true,
-    }
+    !matches!(declarator, Declarator::Absent)
 }
 
 /// Whether the spec tells a type.
+#[tactic(auto, unfolding(c_written::specs::Written::spec_tree))]
 pub fn is_type(spec: &Spec) -> bool
     ensures { result ≡ is_type (spec_tree spec.now) }
 {
-    match spec {
-        Spec::Storage { .. } | Spec::Const { .. } => false,
-        Spec::Basic { .. }
-        | Spec::TypedefName { .. }
-        | Spec::Struct { .. }
-        | Spec::StructBody { .. }
-        | Spec::Enum { .. }
-        | Spec::EnumBody { .. } => true,
-    }
+    !matches!(spec, Spec::Storage { .. } | Spec::Const { .. })
 }
 
 /// The place of the first spec.

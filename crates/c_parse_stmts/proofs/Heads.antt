@@ -1,5 +1,5 @@
 -- What is left of a `for` behind its opening.
-use Rattle.std.proofs.Common.{◌≡◌, ℕ, List, sym, subst}
+use Rattle.std.proofs.Common.{◌≡◌, ℕ, List, subst}
 use Rattle.std.specs.Prelude.{Bool, false}
 use Rattle.c_written.specs.declared.file.ForHead.{ForHead}
 use Rattle.c_written.specs.declared.place.Pos.{Pos}

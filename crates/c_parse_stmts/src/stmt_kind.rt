@@ -81,7 +81,7 @@ pub fn no_left_bracket(tokens: &[Placed]) -> bool
 }
 
 /// Whether an if without else ends the statement.
-#[tactic(auto, using(c_written::proofs::Trees::the_written_trees), unfolding(c_grammar::specs::Made::ends_open))]
+#[tactic(auto, using(c_written::proofs::Trees::the_written_trees), unfolding(c_grammar::specs::Made::ends_open, c_written::specs::WrittenFile::stmt_tree))]
 pub fn ends_open(stmt: &Stmt) -> bool
     ensures { result ≡ ends_open (stmt_tree stmt.now) }
 {

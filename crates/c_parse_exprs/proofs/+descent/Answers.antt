@@ -19,6 +19,7 @@ use Rattle.c_parse_leaves.proofs.TagSteps.{structure_alone, structure_braces, en
 use Rattle.c_parse_steps.proofs.TypeSteps.{declarators_at, value_at, again_is, next_step, more_type}
 use Rattle.c_parse_leaves.proofs.DeclaratorSteps.{direct_is, tail_is, no_tail, tails_at, tails_absent, function_so, regiven, renamed, both_true, first_false}
 use Rattle.c_parse_steps.proofs.Last.{same, last_part, last_inside}
+use Rattle.c_parse_exprs.proofs.Shorter.{shorter_by, shorter_still, no_longer_by, no_longer}
 use Rattle.c_parse_exprs.proofs.+descent.Goals as goal
 
 pub exprs::joined_operands-returns-in-Err-clause-goes : goal.exprs::joined_operands-returns-in-Err-clause-goes
@@ -491,3 +492,123 @@ declarators::named-returns-in-Err-clause-goes t c = halted (halts (stall (c.in-E
 
 pub declarators::named-returns-clause-goes : goal.declarators::named-returns-clause-goes
 declarators::named-returns-clause-goes t c = carried c.tails.ensures.goes (λ o g. by (type_rule (kind.declared_name (direct_is _ _ _ c.requires.1).0)) (unborne _ c.requires.0) (direct_is _ _ _ c.requires.1).1 (step (c.in-Ok.ensures.goes (part.ADeclarator (part.Direct c.args.role)) (λ d. process.part 0 (scene_of c.args.context.now) (part.ADeclarator (part.Tails c.args.role true d)) process.give)) _ (last_part same o g)))
+
+pub exprs::joined_operands-returns-clause-shorter : goal.exprs::joined_operands-returns-clause-shorter
+exprs::joined_operands-returns-clause-shorter t c = shorter_by c.more.result c.more.ensures.shorter c.in-Ok.ensures.shorter
+
+pub exprs::right_side-returns-clause-shorter : goal.exprs::right_side-returns-clause-shorter
+exprs::right_side-returns-clause-shorter t c = omega (arith, c.in-Ok.ensures.shorter, c.in-Ok-operand.ensures.shorter)
+
+pub exprs::assignment-returns-clause-shorter : goal.exprs::assignment-returns-clause-shorter
+exprs::assignment-returns-clause-shorter t c = shorter_by c.assigned.result c.assigned.ensures.shorter c.in-Ok.ensures.shorter
+
+pub exprs::plain_assigned-returns-clause-shorter : goal.exprs::plain_assigned-returns-clause-shorter
+exprs::plain_assigned-returns-clause-shorter t c = no_longer_by c.handed.result c.handed.ensures.shorter (omega (arith, c.in-Ok.ensures.shorter))
+
+pub exprs::compound_assigned-returns-clause-shorter : goal.exprs::compound_assigned-returns-clause-shorter
+exprs::compound_assigned-returns-clause-shorter t c = no_longer_by c.handed.result c.handed.ensures.shorter (omega (arith, c.in-Ok.ensures.shorter))
+
+pub exprs::conditional-returns-clause-shorter : goal.exprs::conditional-returns-clause-shorter
+exprs::conditional-returns-clause-shorter t c = shorter_by c.chosen.result c.chosen.ensures.shorter c.in-Ok.ensures.shorter
+
+pub exprs::chosen-returns-clause-shorter : goal.exprs::chosen-returns-clause-shorter
+exprs::chosen-returns-clause-shorter t c = no_longer_by c.handed.result c.handed.ensures.shorter (omega (arith, c.in-Ok.ensures.shorter, c.in-Ok-joined_operands.ensures.shorter, c.in-Ok-taken.ensures.shorter, c.in-Ok-conditional.ensures.shorter))
+
+pub exprs::cast_form-returns-clause-shorter : goal.exprs::cast_form-returns-clause-shorter
+exprs::cast_form-returns-clause-shorter t c = shorter_by c.handed.result c.handed.ensures.shorter (omega (arith, c.in-Ok.ensures.shorter, c.in-Ok-specs.ensures.shorter, c.in-Ok-declarator.ensures.shorter, c.in-Ok-taken.ensures.shorter, c.in-Ok-cast_operand.ensures.shorter))
+
+pub exprs::size_of-returns-clause-shorter : goal.exprs::size_of-returns-clause-shorter
+exprs::size_of-returns-clause-shorter t c = shorter_still c.sized.result c.sized.ensures.shorter (omega (arith, c.in-Ok.ensures.shorter))
+
+pub exprs::pre_step-returns-clause-shorter : goal.exprs::pre_step-returns-clause-shorter
+exprs::pre_step-returns-clause-shorter t c = shorter_by c.handed.result c.handed.ensures.shorter (omega (arith, c.in-Ok.ensures.shorter, c.in-Ok-unary.ensures.shorter))
+
+pub exprs::unary_form-returns-clause-shorter : goal.exprs::unary_form-returns-clause-shorter
+exprs::unary_form-returns-clause-shorter t c = shorter_by c.handed.result c.handed.ensures.shorter (omega (arith, c.in-Ok.ensures.shorter, c.in-Ok-cast.ensures.shorter))
+
+pub exprs::sized-returns-clause-shorter : goal.exprs::sized-returns-clause-shorter
+exprs::sized-returns-clause-shorter t c = shorter_by c.handed.result c.handed.ensures.shorter c.in-Ok.ensures.shorter
+
+pub exprs::sized_type-returns-clause-shorter : goal.exprs::sized_type-returns-clause-shorter
+exprs::sized_type-returns-clause-shorter t c = shorter_by c.handed.result c.handed.ensures.shorter (omega (arith, c.in-Ok.ensures.shorter, c.in-Ok-specs.ensures.shorter, c.in-Ok-declarator.ensures.shorter, c.in-Ok-taken.ensures.shorter))
+
+pub exprs::postfix-returns-clause-shorter : goal.exprs::postfix-returns-clause-shorter
+exprs::postfix-returns-clause-shorter t c = shorter_by c.suffixes.result c.suffixes.ensures.shorter c.in-Ok.ensures.shorter
+
+pub exprs::index-returns-clause-shorter : goal.exprs::index-returns-clause-shorter
+exprs::index-returns-clause-shorter t c = shorter_still c.closed.result c.closed.ensures.shorter (omega (arith, c.in-Ok.ensures.shorter, c.in-Ok-joined_operands.ensures.shorter))
+
+pub exprs::call-returns-clause-shorter : goal.exprs::call-returns-clause-shorter
+exprs::call-returns-clause-shorter t c = shorter_by c.handed.result c.handed.ensures.shorter (omega (arith, c.in-Ok.ensures.shorter, c.in-Ok-arguments.ensures.shorter))
+
+pub exprs::enclosed-returns-clause-shorter : goal.exprs::enclosed-returns-clause-shorter
+exprs::enclosed-returns-clause-shorter t c = shorter_still c.closed.result c.closed.ensures.shorter (omega (arith, c.in-Ok.ensures.shorter, c.in-Ok-joined_operands.ensures.shorter))
+
+pub exprs::arguments-returns-then-comes-2-clause-shorter : goal.exprs::arguments-returns-then-comes-2-clause-shorter
+exprs::arguments-returns-then-comes-2-clause-shorter t c = shorter_still c.closed.result c.closed.ensures.shorter (omega (arith, c.in-Ok.ensures.shorter))
+
+pub types::specs-returns-then-not-spec_ahead-clause-shorter : goal.types::specs-returns-then-not-spec_ahead-clause-shorter
+types::specs-returns-then-not-spec_ahead-clause-shorter t c = omega (arith, c.in-Ok.ensures.shorter)
+
+pub types::structure-returns-clause-shorter : goal.types::structure-returns-clause-shorter
+types::structure-returns-clause-shorter t c = shorter_by c.structure_form.result c.structure_form.ensures.shorter c.in-Ok.ensures.shorter
+
+pub types::structure_form-returns-clause-shorter : goal.types::structure_form-returns-clause-shorter
+types::structure_form-returns-clause-shorter t c = omega (arith, c.in-Ok.ensures.shorter, c.in-Ok-members.ensures.shorter)
+
+pub types::enumeration-returns-clause-shorter : goal.types::enumeration-returns-clause-shorter
+types::enumeration-returns-clause-shorter t c = shorter_by c.enumeration_form.result c.enumeration_form.ensures.shorter c.in-Ok.ensures.shorter
+
+pub types::enumeration_form-returns-clause-shorter : goal.types::enumeration_form-returns-clause-shorter
+types::enumeration_form-returns-clause-shorter t c = omega (arith, c.in-Ok.ensures.shorter, c.in-Ok-enumerators.ensures.shorter)
+
+pub types::members-returns-then-comes-clause-shorter : goal.types::members-returns-then-comes-clause-shorter
+types::members-returns-then-comes-clause-shorter t c = shorter_still c.closed.result c.closed.ensures.shorter (omega (arith, c.in-Ok.ensures.shorter))
+
+pub types::member-returns-then-comes-2-clause-shorter : goal.types::member-returns-then-comes-2-clause-shorter
+types::member-returns-then-comes-2-clause-shorter t c = shorter_still c.members_end.result c.members_end.ensures.shorter (omega (arith, c.in-Ok-declarator.ensures.shorter))
+
+pub types::enumerators-returns-then-comes-clause-shorter : goal.types::enumerators-returns-then-comes-clause-shorter
+types::enumerators-returns-then-comes-clause-shorter t c = shorter_still c.closed.result c.closed.ensures.shorter (omega (arith, c.in-Ok.ensures.shorter))
+
+pub types::enumerators-returns-then-comes-2-clause-shorter : goal.types::enumerators-returns-then-comes-2-clause-shorter
+types::enumerators-returns-then-comes-2-clause-shorter t c = shorter_still c.comma_end.result c.comma_end.ensures.shorter (omega (arith, c.in-Ok.ensures.shorter, c.in-Ok-taken.ensures.shorter))
+
+pub types::enumerator-returns-clause-shorter : goal.types::enumerator-returns-clause-shorter
+types::enumerator-returns-clause-shorter t c = shorter_by c.enumerator_value.result c.enumerator_value.ensures.shorter (omega (arith, c.in-Ok.ensures.shorter))
+
+pub types::enumerator_value-returns-clause-shorter : goal.types::enumerator_value-returns-clause-shorter
+types::enumerator_value-returns-clause-shorter t c = omega (arith, c.in-Ok.ensures.shorter, c.in-Ok-conditional.ensures.shorter)
+
+pub declarators::pointer-returns-clause-shorter : goal.declarators::pointer-returns-clause-shorter
+declarators::pointer-returns-clause-shorter t c = shorter_by c.handed.result c.handed.ensures.shorter (omega (arith, c.in-Ok.ensures.shorter, c.in-Ok-consts.ensures.shorter, c.in-Ok-declarator.ensures.shorter))
+
+pub declarators::declarator-returns-then-comes-clause-shorter : goal.declarators::declarator-returns-then-comes-clause-shorter
+declarators::declarator-returns-then-comes-clause-shorter t c = no_longer c.pointer.result _ c.pointer.ensures.shorter
+
+pub declarators::direct-returns-in-Name-clause-shorter : goal.declarators::direct-returns-in-Name-clause-shorter
+declarators::direct-returns-in-Name-clause-shorter t c = no_longer c.named.result _ c.named.ensures.shorter
+
+pub declarators::direct-returns-in-Grouped-clause-shorter : goal.declarators::direct-returns-in-Grouped-clause-shorter
+declarators::direct-returns-in-Grouped-clause-shorter t c = no_longer c.grouped.result _ c.grouped.ensures.shorter
+
+pub declarators::named-returns-clause-shorter : goal.declarators::named-returns-clause-shorter
+declarators::named-returns-clause-shorter t c = shorter_by c.tails.result c.tails.ensures.shorter c.in-Ok.ensures.shorter
+
+pub declarators::grouped-returns-clause-shorter : goal.declarators::grouped-returns-clause-shorter
+declarators::grouped-returns-clause-shorter t c = shorter_by c.tails.result c.tails.ensures.shorter (omega (arith, c.in-Ok.ensures.shorter, c.in-Ok-declarator.ensures.shorter, c.in-Ok-closed.ensures.shorter))
+
+pub declarators::array-returns-clause-shorter : goal.declarators::array-returns-clause-shorter
+declarators::array-returns-clause-shorter t c = shorter_still c.size.result c.size.ensures.shorter (omega (arith, c.in-Ok.ensures.shorter))
+
+pub declarators::function-returns-clause-shorter : goal.declarators::function-returns-clause-shorter
+declarators::function-returns-clause-shorter t c = shorter_still c.parameters.result c.parameters.ensures.shorter (omega (arith, c.in-Ok.ensures.shorter))
+
+pub declarators::size-returns-clause-shorter : goal.declarators::size-returns-clause-shorter
+declarators::size-returns-clause-shorter t c = shorter_still c.closed.result c.closed.ensures.shorter (omega (arith, c.in-Ok.ensures.shorter))
+
+pub declarators::parameters-returns-then-comes-2-clause-shorter : goal.declarators::parameters-returns-then-comes-2-clause-shorter
+declarators::parameters-returns-then-comes-2-clause-shorter t c = shorter_still c.closed.result c.closed.ensures.shorter (omega (arith, c.in-Ok.ensures.shorter))
+
+pub declarators::parameter-returns-clause-shorter : goal.declarators::parameter-returns-clause-shorter
+declarators::parameter-returns-clause-shorter t c = omega (arith, c.in-Ok.ensures.shorter, c.in-Ok-declarator.ensures.shorter)

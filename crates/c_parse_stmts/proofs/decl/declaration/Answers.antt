@@ -1,6 +1,7 @@
-use Rattle.std.proofs.Common.{refl}
+use Rattle.std.proofs.Common.{refl, arith}
 use Rattle.c_grammar.specs.Parts.{ADecl, Declaration}
 use Rattle.c_parse_steps.proofs.Paths.{begin, behind, lasts, not_behind}
+use Rattle.c_parse_exprs.proofs.Shorter.{shorter_still}
 use Rattle.c_parse_stmts.proofs.decl.declaration.Goals as goal
 
 pub returns-in_err-words-clause-goes : goal.returns-in_err-words-clause-goes
@@ -8,3 +9,6 @@ returns-in_err-words-clause-goes c = not_behind c.from_residual.ensures.1 (begin
 
 pub returns-clause-goes : goal.returns-clause-goes
 returns-clause-goes c = lasts (behind (begin {p = ADecl Declaration} (λ o g. g) refl refl) c.in_ok-words.ensures.goes) c.declared.ensures.goes (λ d. refl)
+
+pub returns-clause-shorter : goal.returns-clause-shorter
+returns-clause-shorter c = shorter_still c.declared.result c.declared.ensures.shorter (omega (arith, c.in_ok-words.ensures.shorter))

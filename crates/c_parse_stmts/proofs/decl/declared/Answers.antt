@@ -1,8 +1,9 @@
 use Rattle.c_written.specs.Written.{specs_tree}
 use Rattle.c_grammar.specs.Parts.{ADecl, Declared}
-use Rattle.std.proofs.Common.{refl, sym, ◌∙◌}
+use Rattle.std.proofs.Common.{refl, sym, ◌∙◌, arith}
 use Rattle.c_parse_steps.proofs.Steps.{if_false, if_true}
 use Rattle.c_parse_steps.proofs.Paths.{after, begin, behind, ends, lasts, not_after, not_behind}
+use Rattle.c_parse_exprs.proofs.Shorter.{shorter_still}
 use Rattle.c_parse_stmts.proofs.decl.declared.Goals as goal
 
 pub returns-in_err-_end-clause-goes : goal.returns-in_err-_end-clause-goes
@@ -16,3 +17,6 @@ returns-in_err-first-clause-goes c = not_behind c.from_residual-in_err-first.ens
 
 pub returns-clause-goes : goal.returns-clause-goes
 returns-clause-goes c = lasts (behind (begin {p = ADecl (Declared (specs_tree c.args.specs))} (λ o g. g) refl (if_false _ (sym c.comes.ensures ∙ c.if-comes.false))) c.in_ok-first.ensures.goes) c.initial.ensures.goes (λ d. refl)
+
+pub returns-clause-shorter : goal.returns-clause-shorter
+returns-clause-shorter c = shorter_still c.initial.result c.initial.ensures.shorter (omega (arith, c.in_ok-first.ensures.shorter))

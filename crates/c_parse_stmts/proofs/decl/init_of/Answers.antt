@@ -1,5 +1,5 @@
 use Rattle.c_grammar.specs.Parts.{ADecl, Initial}
-use Rattle.std.proofs.Common.{[], ◌∷◌, ◌++◌, refl, sym, ap, ◌∙◌}
+use Rattle.std.proofs.Common.{[], ◌∷◌, ◌++◌, refl, sym, ap, ◌∙◌, arith}
 use Rattle.std.specs.Prelude.{Some}
 use Rattle.c_written.specs.declared.declaration.Init.{Init}
 use Rattle.c_written.specs.WrittenDecl.{init_tree}
@@ -24,3 +24,6 @@ returns-in_err-init-2-clause-goes c = λ s before d. passed_on (Steps _ _) c.fro
 
 pub returns-then-comes-clause-goes : goal.returns-then-comes-clause-goes
 returns-then-comes-clause-goes c = λ s before d. stepped (λ o g. goes_so (inside (after (begin {p = ADecl (Initial s before d)} (λ o g. g) refl (if_true _ (sym c.comes.ensures ∙ c.if-comes.true))) c.in_ok-_equals.ensures.goes) c.in_ok-init.ensures.goes) o (last_part same o (same_ending (ap (λ (v : Init). before ++ record { declarator = d; init = Some (init_tree v) } ∷ []) c.in_ok-init-2.ensures.ok) g)))
+
+pub returns-then-comes-clause-shorter : goal.returns-then-comes-clause-shorter
+returns-then-comes-clause-shorter c = omega (arith, c.in_ok-_equals.ensures.shorter, c.in_ok-init.ensures.shorter)

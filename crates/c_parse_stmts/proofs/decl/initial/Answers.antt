@@ -9,6 +9,7 @@ use Rattle.c_parse_steps.proofs.Paths.{after, begin, behind, goes_so, not_after,
 use Rattle.c_parse_stmts.proofs.DeclSteps.{initialised_at, not_initialised_at, same_ending}
 use Rattle.c_parse_steps.proofs.Last.{same, last_part}
 use Rattle.c_parse_steps.specs.Answers.{Gives, halted, no_memory}
+use Rattle.c_parse_exprs.proofs.Shorter.{shorter_still}
 use Rattle.c_parse_stmts.proofs.decl.initial.Goals as goal
 
 pub returns-in_err-init-clause-goes : goal.returns-in_err-init-clause-goes
@@ -37,3 +38,6 @@ loop-comma-preserved c = ((λ o g. goes_so (behind (after (begin {p = ADecl (End
 
 pub returns-clause-goes : goal.returns-clause-goes
 returns-clause-goes c = carried c.declaration_end.ensures.goes c.loop-comma.invariant.0
+
+pub returns-clause-shorter : goal.returns-clause-shorter
+returns-clause-shorter c = shorter_still c.declaration_end.result c.declaration_end.ensures.shorter (omega arith)

@@ -1,4 +1,4 @@
-use Rattle.std.proofs.Common.{refl}
+use Rattle.std.proofs.Common.{refl, arith}
 use Rattle.c_parse_steps.specs.Answers.{no_memory, stepped, Steps, stalled}
 use Rattle.c_parse_steps.proofs.Steps.{passed_on}
 use Rattle.c_parse_stmts.specs.declared.stmt_kind.StatementKind.TheVariants as statements
@@ -27,3 +27,6 @@ returns-in_err-head-clause-goes c = λ b. passed_on (Steps _ _) c.from_residual-
 
 pub returns-clause-goes : goal.returns-clause-goes
 returns-clause-goes c = λ b. stepped (λ o g. goes_so (inside (inside (inside (after (after (statement_begins {b = b} statements.For c.requires refl) c.in_ok-at.ensures.goes) c.in_ok-_opening.ensures.goes) c.in_ok-start.ensures.goes) c.in_ok-condition.ensures.goes) c.in_ok-step.ensures.goes) o (same_rest c.in_ok-head.ensures.ok g))
+
+pub returns-clause-shorter : goal.returns-clause-shorter
+returns-clause-shorter c = omega (arith, c.in_ok-at.ensures.shorter, c.in_ok-_opening.ensures.shorter, c.in_ok-start.ensures.shorter, c.in_ok-condition.ensures.shorter, c.in_ok-step.ensures.shorter)

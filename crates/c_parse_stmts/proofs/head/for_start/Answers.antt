@@ -1,5 +1,5 @@
 use Rattle.c_grammar.specs.Parts.{ForStart}
-use Rattle.std.proofs.Common.{refl, sym, ap, ◌∙◌}
+use Rattle.std.proofs.Common.{refl, sym, ap, ◌∙◌, arith}
 use Rattle.std.specs.Prelude.{not}
 use Rattle.c_written.specs.declared.declaration.Decl.{Decl}
 use Rattle.c_written.specs.WrittenDecl.{decl_tree}
@@ -33,3 +33,6 @@ returns-in_err-_end-2-clause-goes c = not_after c.from_residual-in_err-_end-2.en
 
 pub returns-clause-goes : goal.returns-clause-goes
 returns-clause-goes c = ends (after (behind (where_so (begin {p = ForStart} (λ o g. g) refl (if_false _ (sym c.comes.ensures ∙ c.if-comes.false) ∙ if_false _ (sym c.spec_ahead.ensures ∙ c.if-spec_ahead.false))) (ap not (sym c.spec_ahead.ensures ∙ c.if-spec_ahead.false))) c.in_ok-value.ensures.goes) c.in_ok-_end-2.ensures.goes) (forstart_value _)
+
+pub returns-clause-shorter : goal.returns-clause-shorter
+returns-clause-shorter c = omega (arith, c.in_ok-value.ensures.shorter, c.in_ok-_end-2.ensures.shorter)

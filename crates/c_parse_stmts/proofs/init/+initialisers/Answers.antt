@@ -10,6 +10,7 @@ use Rattle.c_parse_steps.proofs.Paths.{after, barred_at, begin, behind, ends, go
 use Rattle.c_parse_stmts.proofs.DeclSteps.{same_inits}
 use Rattle.c_parse_steps.proofs.Last.{same, last_part}
 use Rattle.c_parse_steps.specs.Answers.{Gives, halted, no_memory}
+use Rattle.c_parse_exprs.proofs.Shorter.{shorter_still}
 use Rattle.c_parse_stmts.proofs.init.+initialisers.Goals as goal
 
 pub initialiser-returns-then-designator_ahead-clause-goes : goal.initialiser-returns-then-designator_ahead-clause-goes
@@ -62,3 +63,15 @@ more_initialisers-returns-in_err-_close-clause-goes t c = not_after c.from_resid
 
 pub more_initialisers-returns-clause-goes : goal.more_initialisers-returns-clause-goes
 more_initialisers-returns-clause-goes t c = ends (after (begin {p = MoreInitialisers (inits_from c.loop-rest.items.items)} c.loop-rest.invariant.0 refl (if_true _ (sym c.comes.ensures ∙ c.loop-rest-test.false))) c.in_ok-_close.ensures.goes) c.from_vec.ensures
+
+pub braces-returns-clause-shorter : goal.braces-returns-clause-shorter
+braces-returns-clause-shorter t c = omega (arith, c.in_ok-at.ensures.shorter, c.in_ok-items.ensures.shorter)
+
+pub initialisers-returns-clause-shorter : goal.initialisers-returns-clause-shorter
+initialisers-returns-clause-shorter t c = shorter_still c.more_initialisers.result c.more_initialisers.ensures.shorter (omega (arith, c.in_ok-first.ensures.shorter))
+
+pub more_initialisers-returns-then-comes-clause-shorter : goal.more_initialisers-returns-then-comes-clause-shorter
+more_initialisers-returns-then-comes-clause-shorter t c = shorter_still c.comma_end.result c.comma_end.ensures.shorter (omega (arith, c.in_ok-_comma.ensures.shorter))
+
+pub more_initialisers-returns-clause-shorter : goal.more_initialisers-returns-clause-shorter
+more_initialisers-returns-clause-shorter t c = omega (arith, c.in_ok-_close.ensures.shorter)

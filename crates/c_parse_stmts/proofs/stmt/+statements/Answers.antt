@@ -23,6 +23,7 @@ use Rattle.c_parse_steps.proofs.Paths.{after, begin, behind, ends, goes_so, insi
 use Rattle.c_parse_stmts.proofs.SimpleSteps.{not_tried, tried}
 use Rattle.c_parse_stmts.proofs.Steps.{for_led, held, in_scene, not_held, same_items, same_statement}
 use Rattle.c_parse_steps.proofs.Last.{same, last_part}
+use Rattle.c_parse_exprs.proofs.Shorter.{no_longer, shorter_by}
 use Rattle.c_parse_stmts.proofs.stmt.+statements.Goals as goal
 
 pub label-returns-in_err-at-clause-goes : goal.label-returns-in_err-at-clause-goes
@@ -201,3 +202,39 @@ else_form-returns-in_err-otherwise-clause-goes t c = not_held c.from_residual-in
 
 pub else_form-returns-clause-goes : goal.else_form-returns-clause-goes
 else_form-returns-clause-goes t c = ends (held (after (where_so (begin {p = AStmt (Else c.args.at (boxed_expr c.args.condition) (boxed_tree c.args.then))} (λ o g. g) refl (if_true _ c.requires)) (and_right _ _ c.requires)) c.in_ok-_word.ensures.goes) c.in_ok-otherwise.ensures.goes) c.if_else_stmt.ensures
+
+pub label-returns-clause-shorter : goal.label-returns-clause-shorter
+label-returns-clause-shorter t c = omega (arith, c.in_ok-at.ensures.shorter, c.in_ok-_colon.ensures.shorter, c.in_ok-body.ensures.shorter)
+
+pub case-returns-clause-shorter : goal.case-returns-clause-shorter
+case-returns-clause-shorter t c = omega (arith, c.in_ok-at.ensures.shorter, c.in_ok-value.ensures.shorter, c.in_ok-_colon.ensures.shorter, c.in_ok-body.ensures.shorter)
+
+pub default_statement-returns-clause-shorter : goal.default_statement-returns-clause-shorter
+default_statement-returns-clause-shorter t c = omega (arith, c.in_ok-at.ensures.shorter, c.in_ok-_colon.ensures.shorter, c.in_ok-body.ensures.shorter)
+
+pub block-returns-clause-shorter : goal.block-returns-clause-shorter
+block-returns-clause-shorter t c = omega (arith, c.in_ok-at.ensures.shorter, c.in_ok-items.ensures.shorter)
+
+pub if_statement-returns-clause-shorter : goal.if_statement-returns-clause-shorter
+if_statement-returns-clause-shorter t c = shorter_by c.else_part.result c.else_part.ensures.shorter (omega (arith, c.in_ok-at.ensures.shorter, c.in_ok-value.ensures.shorter, c.in_ok-then.ensures.shorter))
+
+pub else_part-returns-then-else_comes-clause-shorter : goal.else_part-returns-then-else_comes-clause-shorter
+else_part-returns-then-else_comes-clause-shorter t c = no_longer c.else_form.result _ c.else_form.ensures.shorter
+
+pub else_form-returns-clause-shorter : goal.else_form-returns-clause-shorter
+else_form-returns-clause-shorter t c = omega (arith, c.in_ok-_word.ensures.shorter, c.in_ok-otherwise.ensures.shorter)
+
+pub switch_statement-returns-clause-shorter : goal.switch_statement-returns-clause-shorter
+switch_statement-returns-clause-shorter t c = omega (arith, c.in_ok-at.ensures.shorter, c.in_ok-value.ensures.shorter, c.in_ok-body.ensures.shorter)
+
+pub while_loop-returns-clause-shorter : goal.while_loop-returns-clause-shorter
+while_loop-returns-clause-shorter t c = omega (arith, c.in_ok-at.ensures.shorter, c.in_ok-condition.ensures.shorter, c.in_ok-body.ensures.shorter)
+
+pub do_loop-returns-clause-shorter : goal.do_loop-returns-clause-shorter
+do_loop-returns-clause-shorter t c = omega (arith, c.in_ok-at.ensures.shorter, c.in_ok-body.ensures.shorter, c.in_ok-_word.ensures.shorter, c.in_ok-condition.ensures.shorter, c.in_ok-_end.ensures.shorter)
+
+pub for_loop-returns-clause-shorter : goal.for_loop-returns-clause-shorter
+for_loop-returns-clause-shorter t c = omega (arith, c.in_ok-opening.ensures.shorter, c.in_ok-body.ensures.shorter)
+
+pub items-returns-clause-shorter : goal.items-returns-clause-shorter
+items-returns-clause-shorter t c = omega (arith, c.in_ok-_close.ensures.shorter)

@@ -1,3 +1,4 @@
+use Rattle.std.proofs.Common.{arith}
 use Rattle.c_grammar.specs.Descent.{stops}
 use Rattle.c_parse_steps.specs.Views.{scene_of}
 use Rattle.c_parse_steps.proofs.Steps.{halt, halts, not_shut, refuse, passed_on}
@@ -16,3 +17,6 @@ returns-in_err-_close-clause-goes c = passed_on (Conditions _ _ _) c.from_residu
 
 pub returns-clause-goes : goal.returns-clause-goes
 returns-clause-goes c = tested (λ p k o g. goes_so (shuts (inside (after (from_start {p = p} (in_parentheses (scene_of c.args.context.now) k) c.args.tokens.now) c.in_ok-_opening.ensures.goes) c.in_ok-value.ensures.goes) c.in_ok-_close.ensures.goes) o g)
+
+pub returns-clause-shorter : goal.returns-clause-shorter
+returns-clause-shorter c = omega (arith, c.in_ok-_opening.ensures.shorter, c.in_ok-value.ensures.shorter, c.in_ok-_close.ensures.shorter)

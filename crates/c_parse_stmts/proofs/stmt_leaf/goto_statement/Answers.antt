@@ -1,4 +1,4 @@
-use Rattle.std.proofs.Common.{refl, ap, ◌∙◌}
+use Rattle.std.proofs.Common.{refl, ap, ◌∙◌, arith}
 use Rattle.c_written.specs.WrittenFile as trees
 use Rattle.c_written.proofs.WrittenFileTrees.{stmt_goto}
 use Rattle.c_parse_stmts.specs.declared.stmt_kind.StatementKind.TheVariants as statements
@@ -22,3 +22,6 @@ returns-in_err-label-clause-goes c = λ b. passed_on (Gives _ _) c.from_residual
 
 pub returns-clause-goes : goal.returns-clause-goes
 returns-clause-goes c = λ b. ends (after (after (after (statement_begins statements.Goto c.requires refl) c.in_ok-at.ensures.goes) c.in_ok-word.ensures.goes) c.in_ok-_end.ensures.goes) (stmt_goto _ _ ∙ ap (trees.Goto c.in_ok-at.at.now.pos) c.in_ok-label.ensures)
+
+pub returns-clause-shorter : goal.returns-clause-shorter
+returns-clause-shorter c = omega (arith, c.in_ok-at.ensures.shorter, c.in_ok-word.ensures.shorter, c.in_ok-_end.ensures.shorter)

@@ -1,5 +1,5 @@
 use Rattle.c_grammar.specs.Parts.{Optionally}
-use Rattle.std.proofs.Common.{refl, sym, ap, ◌∙◌}
+use Rattle.std.proofs.Common.{refl, sym, ap, ◌∙◌, arith}
 use Rattle.c_grammar.specs.Refused.{first_is}
 use Rattle.c_parse_steps.proofs.Steps.{if_false, if_true, sign_is}
 use Rattle.c_parse_steps.proofs.Paths.{after, begin, behind, ends, not_after, not_behind}
@@ -19,3 +19,6 @@ returns-in_err-_end-2-clause-goes c = not_after c.from_residual-in_err-_end-2.en
 
 pub returns-clause-goes : goal.returns-clause-goes
 returns-clause-goes c = ends (after (behind (begin {p = Optionally c.args.closing} (λ o g. g) refl (if_false _ (ap (λ f. first_is f c.args.tokens.now) (sym c.lookahead_of.ensures) ∙ sym c.comes.ensures ∙ c.if-comes.false))) c.in_ok-value.ensures.goes) (sign_is c.sign.ensures c.in_ok-_end-2.ensures.goes)) refl
+
+pub returns-clause-shorter : goal.returns-clause-shorter
+returns-clause-shorter c = omega (arith, c.in_ok-value.ensures.shorter, c.in_ok-_end-2.ensures.shorter)
