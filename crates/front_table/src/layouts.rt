@@ -16,31 +16,38 @@ pub fn line(alloc: Global, text: &str) -> Result<String, AllocError> {
     let mut structs = StructDefs::new(alloc);
     let mut told = String::new(alloc);
     for question in text.lines() {
-        if !told.is_empty() {
-            told.push_str("; ")?;
-        }
-        let (word, rest) = question.split_once(' ').unwrap_or((question, ""));
-        match word {
-            "struct" => define(alloc, &mut structs, rest, &mut told)?,
-            "size" => sized(alloc, &structs, rest, &mut told)?,
-            _ => converted(word, rest, &mut told)?,
-        }
+        answer(alloc, &mut structs, question, &mut told)?;
     }
     Ok(told)
 }
 
+// Adds what is answered to a line.
+fn answer(alloc: Global, structs: &mut StructDefs, question: &str, told: &mut String) -> Written {
+    if !told.is_empty() {
+        told.push_str("; ")?;
+    }
+    let (word, rest) = question.split_once(' ').unwrap_or((question, ""));
+    match word {
+        "struct" => define(alloc, structs, rest, told),
+        "size" => sized(alloc, structs, rest, told),
+        _ => converted(word, rest, told),
+    }
+}
+
 // Adds a struct of members of these types, parted by commas, and tells their offsets.
 fn define(alloc: Global, structs: &mut StructDefs, members: &str, told: &mut String) -> Written {
-    let mut making = Making::new(alloc);
     told.push_str("offsets")?;
-    for words in members.split(',').filter(|words| !words.is_empty()) {
-        match type_of(alloc, words)? {
-            Some(ty) => making.push(alloc, ty, structs, told)?,
-            None => return told.push_str(" no type"),
-        }
+    let mut making = Making::new(alloc);
+    if making.take_members(alloc, members, structs, told)? {
+        add(alloc, structs, making.finish(alloc))
+    } else {
+        told.push_str(" no type")
     }
+}
+
+fn add(alloc: Global, structs: &mut StructDefs, made: StructDef) -> Written {
     let mut defs = mem::replace(structs, StructDefs::new(alloc)).into_vec();
-    defs.push(making.finish(alloc))?;
+    defs.push(made)?;
     *structs = StructDefs::from_vec(defs);
     Ok(())
 }
@@ -63,18 +70,31 @@ impl Making {
         }
     }
 
-    // Adds a member of this type, and tells its offset.
-    fn push(
+    // Adds members of these types and tells their offsets, up to words that are no type, where it answers false.
+    fn take_members(
         &mut self,
         alloc: Global,
-        ty: CType,
+        members: &str,
         structs: &StructDefs,
         told: &mut String,
-    ) -> Written {
+    ) -> Result<bool, AllocError> {
+        for words in members.split(',').filter(|words| !words.is_empty()) {
+            match type_of(alloc, words)? {
+                Some(ty) => {
+                    let offset = self.push(alloc, ty, structs)?;
+                    told.push(' ')?;
+                    number(told, u128::from(offset))?;
+                }
+                None => return Ok(false),
+            }
+        }
+        Ok(true)
+    }
+
+    // Adds a member of this type, and gives its offset.
+    fn push(&mut self, alloc: Global, ty: CType, structs: &StructDefs) -> Result<u64, AllocError> {
         let own = align_of(&ty, structs);
         let place = next_member(self.end, bytes_of(size_of(&ty, structs)), own);
-        told.push(' ')?;
-        number(told, u128::from(place.offset))?;
         self.end = place.end;
         self.align = self.align.max(own);
         self.members.push(Member {
@@ -82,7 +102,7 @@ impl Making {
             ty,
             offset: place.offset,
         })?;
-        Ok(())
+        Ok(place.offset)
     }
 
     fn finish(self, alloc: Global) -> StructDef {
@@ -109,12 +129,23 @@ fn bytes_of(size: Sized) -> u64 {
 
 // Tells the size and the alignment of a type.
 fn sized(alloc: Global, structs: &StructDefs, words: &str, told: &mut String) -> Written {
-    let Some(ty) = type_of(alloc, words)? else {
+    let Some((size, align)) = room_of(alloc, structs, words)? else {
         return told.push_str("no type");
     };
-    size_words(told, size_of(&ty, structs))?;
+    size_words(told, size)?;
     told.push(' ')?;
-    number(told, u128::from(align_of(&ty, structs)))
+    number(told, u128::from(align))
+}
+
+fn room_of(
+    alloc: Global,
+    structs: &StructDefs,
+    words: &str,
+) -> Result<Option<(Sized, u64)>, AllocError> {
+    Ok(match type_of(alloc, words)? {
+        Some(ty) => Some((size_of(&ty, structs), align_of(&ty, structs))),
+        None => None,
+    })
 }
 
 fn size_words(told: &mut String, size: Sized) -> Written {
@@ -132,15 +163,35 @@ fn size_words(told: &mut String, size: Sized) -> Written {
 // Tells what a conversion answers.
 fn converted(word: &str, rest: &str, told: &mut String) -> Written {
     let (first, second) = rest.split_once(' ').unwrap_or((rest, ""));
-    match (word, integer(first), integer(second)) {
-        ("promote", Some(t), _) => shown(told, &promote(t)),
-        ("balance", Some(a), Some(b)) => shown(told, &balance(a, b)),
-        ("wrap", Some(t), _) => match second.parse::<i128>() {
-            Ok(n) => signed(told, wrap(t, n)),
-            Err(_) => told.push_str("no number"),
-        },
-        ("literal", _, _) => literal(first, second, told),
+    match word {
+        "literal" => literal(first, second, told),
+        "wrap" => wrapped(integer(first), second, told),
+        "promote" => type_name(promoted(integer(first)), told),
+        "balance" => type_name(balanced(integer(first), integer(second)), told),
         _ => told.push_str("no such word"),
+    }
+}
+
+fn type_name(ty: Option<IntType>, told: &mut String) -> Written {
+    match ty {
+        Some(ty) => shown(told, &ty),
+        None => told.push_str("no such word"),
+    }
+}
+
+fn promoted(ty: Option<IntType>) -> Option<IntType> {
+    Some(promote(ty?))
+}
+
+fn balanced(a: Option<IntType>, b: Option<IntType>) -> Option<IntType> {
+    Some(balance(a?, b?))
+}
+
+fn wrapped(ty: Option<IntType>, value: &str, told: &mut String) -> Written {
+    match (ty, value.parse::<i128>()) {
+        (Some(ty), Ok(n)) => signed(told, wrap(ty, n)),
+        (Some(_), Err(_)) => told.push_str("no number"),
+        (None, _) => told.push_str("no such word"),
     }
 }
 
@@ -175,15 +226,33 @@ fn extended(
     number: Option<u64>,
     ty: Option<CType>,
 ) -> Result<Option<CType>, AllocError> {
-    match (word, ty, number) {
-        ("array", Some(of), Some(n)) => Ok(Some(CType::Array(target(alloc, of)?, n))),
-        ("pointer", Some(to), _) => Ok(Some(CType::Pointer(target(alloc, to)?))),
-        ("struct", None, Some(n)) => Ok(Some(CType::Struct(n))),
-        ("void", None, _) => Ok(Some(CType::Void)),
-        ("function", None, _) => Ok(Some(CType::Function(0))),
-        (_, found, _) => match integer(word) {
-            Some(t) => Ok(Some(CType::Int(t))),
-            None => Ok(found),
+    match ty {
+        Some(inner) => Ok(Some(around(alloc, word, number, inner)?)),
+        None => Ok(alone(word, number)),
+    }
+}
+
+fn alone(word: &str, number: Option<u64>) -> Option<CType> {
+    match word {
+        "struct" => Some(CType::Struct(number?)),
+        "void" => Some(CType::Void),
+        "function" => Some(CType::Function(0)),
+        _ => Some(CType::Int(integer(word)?)),
+    }
+}
+
+fn around(
+    alloc: Global,
+    word: &str,
+    number: Option<u64>,
+    inner: CType,
+) -> Result<CType, AllocError> {
+    match (word, number) {
+        ("array", Some(n)) => Ok(CType::Array(target(alloc, inner)?, n)),
+        ("pointer", _) => Ok(CType::Pointer(target(alloc, inner)?)),
+        _ => match integer(word) {
+            Some(ty) => Ok(CType::Int(ty)),
+            None => Ok(inner),
         },
     }
 }

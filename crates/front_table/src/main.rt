@@ -25,7 +25,7 @@ mod trees;
 mod types;
 
 use case::Case;
-use std::alloc::Global;
+use std::alloc::{AllocError, Global};
 use std::io::{self, Read};
 
 fn main(rt: HostRuntime) -> io::Result<()> {
@@ -46,19 +46,18 @@ fn main(rt: HostRuntime) -> io::Result<()> {
 }
 
 // What is printed of a case.
-fn answer(alloc: Global, case: &Case) -> io::Result<String> {
+fn answer(alloc: Global, case: &Case) -> Result<String, AllocError> {
     let text = case.text();
-    let told = match case.word() {
-        b"lex" => tokens::line(alloc, text)?,
-        b"parse" => trees::line(alloc, text)?,
-        b"accepts" => trees::verdict(alloc, text)?,
+    match case.word() {
+        b"lex" => tokens::line(alloc, text),
+        b"parse" => trees::line(alloc, text),
+        b"accepts" => trees::verdict(alloc, text),
         b"layout" => match str::from_utf8(text) {
-            Ok(lines) => layouts::line(alloc, lines)?,
-            Err(_) => String::from_str(alloc, "no text")?,
+            Ok(lines) => layouts::line(alloc, lines),
+            Err(_) => String::from_str(alloc, "no text"),
         },
-        b"fronts" => trees::fronts(alloc, text)?,
-        b"alarms" => forms::line(alloc, text)?,
-        _ => String::from_str(alloc, "no such word")?,
-    };
-    Ok(told)
+        b"fronts" => trees::fronts(alloc, text),
+        b"alarms" => forms::line(alloc, text),
+        _ => String::from_str(alloc, "no such word"),
+    }
 }

@@ -1,8 +1,8 @@
 // The answer of `lex` as a line.
 
-use crate::text::{place, refusal};
+use crate::text::{Written, place, refusal};
 use c_lexer::{LexError, lex};
-use c_written::{Token, Tokens};
+use c_written::{Placed, Token, Tokens};
 use std::alloc::{AllocError, Global};
 
 const MOST: usize = 4_194_304;
@@ -17,18 +17,21 @@ pub fn cut(alloc: Global, text: &[u8]) -> Result<Tokens, LexError> {
 
 /// The line of a refusal, as `TooWide 1:4`.
 pub fn refused(alloc: Global, error: LexError) -> Result<String, AllocError> {
-    let (reason, pos) = match error {
-        LexError::BadByte(pos) => ("BadByte", pos),
-        LexError::Unterminated(pos) => ("Unterminated", pos),
-        LexError::BadNumber(pos) => ("BadNumber", pos),
-        LexError::TooWide(pos) => ("TooWide", pos),
-        LexError::BadEscape(pos) => ("BadEscape", pos),
-        LexError::Directive(pos) => ("Directive", pos),
-        LexError::NoMemory => return Err(AllocError),
-    };
     let mut line = String::new(alloc);
-    refusal(&mut line, reason, pos)?;
+    refusal_words(&mut line, error)?;
     Ok(line)
+}
+
+fn refusal_words(out: &mut String, error: LexError) -> Written {
+    match error {
+        LexError::BadByte(pos) => refusal(out, "BadByte", pos),
+        LexError::Unterminated(pos) => refusal(out, "Unterminated", pos),
+        LexError::BadNumber(pos) => refusal(out, "BadNumber", pos),
+        LexError::TooWide(pos) => refusal(out, "TooWide", pos),
+        LexError::BadEscape(pos) => refusal(out, "BadEscape", pos),
+        LexError::Directive(pos) => refusal(out, "Directive", pos),
+        LexError::NoMemory => Err(AllocError),
+    }
 }
 
 /// The kinds and places of the tokens and the place of the end, or the refusal.
@@ -42,12 +45,16 @@ pub fn line(alloc: Global, text: &[u8]) -> Result<String, AllocError> {
 fn tokens_line(alloc: Global, tokens: &Tokens) -> Result<String, AllocError> {
     let mut line = String::new(alloc);
     for placed in tokens.list.as_slice() {
-        line.push(kind(&placed.token))?;
-        place(&mut line, placed.pos)?;
-        line.push(' ')?;
+        token(&mut line, placed)?;
     }
     place(&mut line, tokens.end)?;
     Ok(line)
+}
+
+fn token(out: &mut String, placed: &Placed) -> Written {
+    out.push(kind(&placed.token))?;
+    place(out, placed.pos)?;
+    out.push(' ')
 }
 
 // A letter for each kind of token.

@@ -29,13 +29,17 @@ pub fn read(alloc: Global, text: &[u8]) -> Reading {
 /// The line of a refusal by the parser, as `syntax 1:4`.
 pub fn refused(alloc: Global, error: ParseError) -> Result<String, AllocError> {
     let mut line = String::new(alloc);
-    match error {
-        ParseError::Syntax(pos) => refusal(&mut line, "syntax", pos)?,
-        ParseError::TooDeep(pos) => refusal(&mut line, "nesting", pos)?,
-        ParseError::Unsupported(pos, construct) => unsupported(&mut line, construct, pos)?,
-        ParseError::NoMemory => return Err(AllocError),
-    }
+    refusal_words(&mut line, error)?;
     Ok(line)
+}
+
+fn refusal_words(out: &mut String, error: ParseError) -> Written {
+    match error {
+        ParseError::Syntax(pos) => refusal(out, "syntax", pos),
+        ParseError::TooDeep(pos) => refusal(out, "nesting", pos),
+        ParseError::Unsupported(pos, construct) => unsupported(out, construct, pos),
+        ParseError::NoMemory => Err(AllocError),
+    }
 }
 
 fn unsupported(out: &mut String, construct: Construct, pos: Pos) -> Written {
@@ -72,12 +76,18 @@ pub fn verdict(alloc: Global, text: &[u8]) -> Result<String, AllocError> {
 pub fn fronts(alloc: Global, text: &[u8]) -> Result<String, AllocError> {
     let mut line = String::from_str(alloc, "files:")?;
     for length in 0..text.len() {
-        if is_file(alloc, &text[..length])? {
-            line.push(' ')?;
-            number(&mut line, length as u128)?;
-        }
+        front(alloc, &text[..length], &mut line)?;
     }
     Ok(line)
+}
+
+// Adds the length of a front that is a file.
+fn front(alloc: Global, text: &[u8], out: &mut String) -> Written {
+    if is_file(alloc, text)? {
+        out.push(' ')?;
+        number(out, text.len() as u128)?;
+    }
+    Ok(())
 }
 
 fn is_file(alloc: Global, text: &[u8]) -> Result<bool, AllocError> {

@@ -7,28 +7,15 @@ use std::alloc::{AllocError, Global};
 
 /// The line of a row about one interval or two.
 pub fn line(alloc: Global, words: &[&str]) -> Result<Option<String>, AllocError> {
+    if let Some((a, b, c)) = arithmetic(words) {
+        return Ok(Some(format!(in alloc; "{a} {b} {c}")?));
+    }
+    if let Some(made) = made(words) {
+        return shown(alloc, made);
+    }
     match words {
-        ["bounds", a, b] => match (interval(a), interval(b)) {
-            (Some(a), Some(b)) => Ok(Some(arithmetic(alloc, &a, &b)?)),
-            _ => Ok(None),
-        },
-        ["quotients", a, b] => match (interval(a), interval(b)) {
-            (Some(a), Some(b)) => shown(alloc, Some(a.quot(&b))),
-            _ => Ok(None),
-        },
-        ["cut", a, lo, hi] => match (interval(a), lo.parse::<i128>(), hi.parse::<i128>()) {
-            (Some(a), Ok(lo), Ok(hi)) => shown(alloc, a.cut(lo, hi)),
-            _ => Ok(None),
-        },
-        ["opposite", a] => match interval(a) {
-            Some(a) => shown(alloc, Some(a.neg())),
-            None => Ok(None),
-        },
-        ["point", n] => match n.parse::<i128>() {
-            Ok(n) => shown(alloc, Some(Interval::point(n))),
-            Err(_) => Ok(None),
-        },
-        _ => of_ranges(alloc, words),
+        ["unknowing"] => Ok(Some(unknowing(alloc)?)),
+        _ => truth(alloc, held(words)),
     }
 }
 
@@ -36,9 +23,12 @@ fn interval(word: &str) -> Option<Interval> {
     Interval::within(range(word)?)
 }
 
-fn arithmetic(alloc: Global, a: &Interval, b: &Interval) -> Result<String, AllocError> {
-    let (sums, differences) = (ends(&a.add(b)), ends(&a.sub(b)));
-    format!(in alloc; "{sums} {differences} {}", ends(&a.mul(b)))
+fn arithmetic(words: &[&str]) -> Option<(Between, Between, Between)> {
+    let ["bounds", a, b] = words else {
+        return None;
+    };
+    let (a, b) = (interval(a)?, interval(b)?);
+    Some((ends(&a.add(&b)), ends(&a.sub(&b)), ends(&a.mul(&b))))
 }
 
 fn ends(a: &Interval) -> Between {
@@ -48,40 +38,57 @@ fn ends(a: &Interval) -> Between {
     })
 }
 
-fn shown(alloc: Global, made: Option<Interval>) -> Result<Option<String>, AllocError> {
+// What a row makes, which may be no interval.
+fn made(words: &[&str]) -> Option<Option<Between>> {
+    match words {
+        ["quotients", a, b] => Some(Some(ends(&interval(a)?.quot(&interval(b)?)))),
+        ["cut", a, lo, hi] => Some(cut(interval(a)?, number(lo)?, number(hi)?)),
+        ["opposite", a] => Some(Some(ends(&interval(a)?.neg()))),
+        ["point", n] => Some(Some(ends(&Interval::point(number(n)?)))),
+        ["hull", a, b] => Some(Some(Between(range(a)?.hull(range(b)?)))),
+        _ => None,
+    }
+}
+
+fn number(word: &str) -> Option<i128> {
+    word.parse::<i128>().ok()
+}
+
+fn cut(a: Interval, lo: i128, hi: i128) -> Option<Between> {
+    Some(ends(&a.cut(lo, hi)?))
+}
+
+fn shown(alloc: Global, made: Option<Between>) -> Result<Option<String>, AllocError> {
     Ok(Some(match made {
-        Some(a) => format!(in alloc; "{}", ends(&a))?,
+        Some(a) => format!(in alloc; "{a}")?,
         None => String::from_str(alloc, "none")?,
     }))
 }
 
-fn of_ranges(alloc: Global, words: &[&str]) -> Result<Option<String>, AllocError> {
+fn held(words: &[&str]) -> Option<bool> {
     match words {
-        ["hull", a, b] => match (range(a), range(b)) {
-            (Some(a), Some(b)) => Ok(Some(format!(in alloc; "{}", Between(a.hull(b)))?)),
-            _ => Ok(None),
-        },
-        ["holds", a] => match range(a) {
-            Some(a) => truth(alloc, a.holds_some()),
-            None => Ok(None),
-        },
-        ["unknowing"] => {
-            let five = NExpr::Const(5);
-            let class = Unknowing.residue(&five);
-            let same = if Unknowing.same(Var(0)).is_none() {
-                "none"
-            } else {
-                "some"
-            };
-            let bounds = Between(Unknowing.range(&five));
-            let line = format!(in alloc; "{bounds} {}mod{} {same}", class.rem, class.modulus)?;
-            Ok(Some(line))
-        }
-        _ => Ok(None),
+        ["holds", a] => Some(range(a)?.holds_some()),
+        _ => None,
     }
 }
 
-fn truth(alloc: Global, holds: bool) -> Result<Option<String>, AllocError> {
-    let line = String::from_str(alloc, if holds { "yes" } else { "no" })?;
-    Ok(Some(line))
+fn unknowing(alloc: Global) -> Result<String, AllocError> {
+    let five = NExpr::Const(5);
+    let class = Unknowing.residue(&five);
+    let same = if Unknowing.same(Var(0)).is_none() {
+        "none"
+    } else {
+        "some"
+    };
+    let bounds = Between(Unknowing.range(&five));
+    format!(in alloc; "{bounds} {}mod{} {same}", class.rem, class.modulus)
+}
+
+fn truth(alloc: Global, holds: Option<bool>) -> Result<Option<String>, AllocError> {
+    let word = match holds {
+        Some(true) => "yes",
+        Some(false) => "no",
+        None => return Ok(None),
+    };
+    Ok(Some(String::from_str(alloc, word)?))
 }

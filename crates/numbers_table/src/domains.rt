@@ -39,10 +39,9 @@ impl Written for Pair<Interval, Class> {
     }
 }
 
-/// What the last word of a row answers.
-#[derive(Drop)]
+/// What a row is answered that gives no value.
+#[derive(Clone, Copy)]
 enum Told {
-    Value(Range, Residue),
     Truth(bool),
     Nothing,
     NoRow,
@@ -51,28 +50,41 @@ enum Told {
 /// The line of a row over a domain.
 pub fn shown<V: Written>(alloc: Global, words: &[&str]) -> Result<Option<String>, AllocError> {
     let line = match last::<V>(alloc, words)? {
-        Told::Value(bounds, Residue { rem, modulus }) => {
-            format!(in alloc; "{} {rem}mod{modulus}", Between(bounds))?
-        }
-        Told::Truth(true) => String::from_str(alloc, "yes")?,
-        Told::Truth(false) => String::from_str(alloc, "no")?,
-        Told::Nothing => String::from_str(alloc, "none")?,
-        Told::NoRow => return Ok(None),
+        Ok((bounds, residue)) => of_value(alloc, bounds, residue)?,
+        Err(Told::NoRow) => return Ok(None),
+        Err(told) => String::from_str(alloc, word_of(told))?,
     };
     Ok(Some(line))
 }
 
-fn last<V: Written>(alloc: Global, words: &[&str]) -> Result<Told, AllocError> {
+fn of_value(alloc: Global, bounds: Range, residue: Residue) -> Result<String, AllocError> {
+    let Residue { rem, modulus } = residue;
+    format!(in alloc; "{} {rem}mod{modulus}", Between(bounds))
+}
+
+fn word_of(told: Told) -> &'static str {
+    match told {
+        Told::Truth(true) => "yes",
+        Told::Truth(false) => "no",
+        Told::Nothing => "none",
+        Told::NoRow => "no such row",
+    }
+}
+
+fn last<V: Written>(
+    alloc: Global,
+    words: &[&str],
+) -> Result<Result<(Range, Residue), Told>, AllocError> {
     let mut pile = Vec::new(alloc);
     for word in words {
         match value::<V>(&mut pile, word) {
             Ok(value) => pile.push(value)?,
-            Err(told) => return Ok(told),
+            Err(told) => return Ok(Err(told)),
         }
     }
     Ok(match pile.pop() {
-        Some(value) => Told::Value(value.range(), value.residue()),
-        None => Told::NoRow,
+        Some(value) => Ok((value.range(), value.residue())),
+        None => Err(Told::NoRow),
     })
 }
 
@@ -87,16 +99,15 @@ fn value<V: Written>(pile: &mut Vec<V>, word: &str) -> Result<V, Told> {
     if word == "top" {
         return Ok(V::top());
     }
-    let Some(b) = pile.pop() else {
-        return Err(Told::NoRow);
-    };
+    operated(pile, word)
+}
+
+fn operated<V: ValueDomain>(pile: &mut Vec<V>, word: &str) -> Result<V, Told> {
+    let b = pile.pop().ok_or(Told::NoRow)?;
     match word {
         "neg" => Ok(V::unary(NOp::Neg, &b)),
         "!" => Ok(V::unary(NOp::Not, &b)),
-        _ => match pile.pop() {
-            Some(a) => of_two(word, a, b),
-            None => Err(Told::NoRow),
-        },
+        _ => of_two(word, pile.pop().ok_or(Told::NoRow)?, b),
     }
 }
 

@@ -58,13 +58,16 @@ fn line(alloc: Global, row: &str) -> Result<String, AllocError> {
 }
 
 fn answer(alloc: Global, words: &[&str]) -> Result<Option<String>, AllocError> {
-    match words {
-        ["interval", rest @ ..] => shown::<Interval>(alloc, rest),
-        ["class", rest @ ..] => shown::<Class>(alloc, rest),
-        ["pair", rest @ ..] => shown::<Pair<Interval, Class>>(alloc, rest),
-        ["map", rest @ ..] => maps::line(alloc, rest),
-        ["ends" | "end" | "order", ..] => extended::line(alloc, words),
-        ["step" | "ramp", ..] => ramp_steps::line(alloc, words),
+    let [word, rest @ ..] = words else {
+        return Ok(None);
+    };
+    match *word {
+        "interval" => shown::<Interval>(alloc, rest),
+        "class" => shown::<Class>(alloc, rest),
+        "pair" => shown::<Pair<Interval, Class>>(alloc, rest),
+        "map" => maps::line(alloc, rest),
+        "ends" | "end" | "order" => extended::line(alloc, words),
+        "step" | "ramp" => ramp_steps::line(alloc, words),
         _ => bounds::line(alloc, words),
     }
 }

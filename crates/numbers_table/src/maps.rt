@@ -10,19 +10,9 @@ pub fn line(alloc: Global, words: &[&str]) -> Result<Option<String>, AllocError>
     let [word, map, rest @ ..] = words else {
         return Ok(None);
     };
-    let Some(map) = map_of(alloc, map)? else {
-        return Ok(None);
-    };
-    match rest {
-        [] => Ok(Some(format!(in alloc; "{}", map.len())?)),
-        [other] => match other.parse::<u64>() {
-            Ok(x) => of_variable(alloc, word, map, Var(x)),
-            Err(_) => match map_of(alloc, other)? {
-                Some(other) => of_two(alloc, word, &map, &other),
-                None => Ok(None),
-            },
-        },
-        _ => Ok(None),
+    match map_of(alloc, map)? {
+        Some(map) => of_map(alloc, word, map, rest),
+        None => Ok(None),
     }
 }
 
@@ -30,34 +20,69 @@ pub fn line(alloc: Global, words: &[&str]) -> Result<Option<String>, AllocError>
 fn map_of(alloc: Global, word: &str) -> Result<Option<VarMap<u8>>, AllocError> {
     let mut map = VarMap::new(alloc);
     for entry in word.split(",") {
-        let Some((x, value)) = entry.split_once("=") else {
-            return Ok(None);
-        };
-        let (Ok(x), Ok(value)) = (x.parse::<u64>(), value.parse::<u8>()) else {
-            return Ok(None);
-        };
-        map.set(Var(x), value)?;
+        match entry_of(entry) {
+            Some((x, value)) => map.set(x, value)?,
+            None => return Ok(None),
+        }
     }
     Ok(Some(map))
+}
+
+fn entry_of(entry: &str) -> Option<(Var, u8)> {
+    let (x, value) = entry.split_once("=")?;
+    Some((Var(x.parse::<u64>().ok()?), value.parse::<u8>().ok()?))
+}
+
+fn of_map(
+    alloc: Global,
+    word: &str,
+    map: VarMap<u8>,
+    rest: &[&str],
+) -> Result<Option<String>, AllocError> {
+    match rest {
+        [] => Ok(Some(format!(in alloc; "{}", map.len())?)),
+        [other] => match other.parse::<u64>() {
+            Ok(x) => of_variable(alloc, word, map, Var(x)),
+            Err(_) => with_other(alloc, word, &map, other),
+        },
+        _ => Ok(None),
+    }
 }
 
 fn of_variable(
     alloc: Global,
     word: &str,
-    mut map: VarMap<u8>,
+    map: VarMap<u8>,
     x: Var,
 ) -> Result<Option<String>, AllocError> {
     match word {
-        "get" => Ok(Some(match map.get(x) {
-            Some(value) => format!(in alloc; "{value}")?,
-            None => String::from_str(alloc, "none")?,
-        })),
-        "without" => {
-            map.remove(x);
-            let copy = map.copy(alloc)?;
-            Ok(Some(listed(alloc, &copy)?))
-        }
+        "get" => Ok(Some(found(alloc, map.get(x))?)),
+        "without" => Ok(Some(without(alloc, map, x)?)),
         _ => Ok(None),
+    }
+}
+
+fn found(alloc: Global, value: Option<u8>) -> Result<String, AllocError> {
+    match value {
+        Some(value) => format!(in alloc; "{value}"),
+        None => String::from_str(alloc, "none"),
+    }
+}
+
+fn without(alloc: Global, mut map: VarMap<u8>, x: Var) -> Result<String, AllocError> {
+    map.remove(x);
+    listed(alloc, &map.copy(alloc)?)
+}
+
+fn with_other(
+    alloc: Global,
+    word: &str,
+    map: &VarMap<u8>,
+    other: &str,
+) -> Result<Option<String>, AllocError> {
+    match map_of(alloc, other)? {
+        Some(other) => of_two(alloc, word, map, &other),
+        None => Ok(None),
     }
 }
 
@@ -67,15 +92,20 @@ fn of_two(
     map: &VarMap<u8>,
     other: &VarMap<u8>,
 ) -> Result<Option<String>, AllocError> {
-    let holds = match word {
-        "greatest" => {
-            let both = map.merge(other, alloc, |x: u8, y: u8| -> u8 { x.max(y) })?;
-            return Ok(Some(listed(alloc, &both)?));
-        }
-        "equal" => map.all_met(other, |x: u8, y: u8| -> bool { x == y }),
-        "has" => map.all_met(other, |_x: u8, _y: u8| -> bool { true }),
-        _ => return Ok(None),
-    };
+    match word {
+        "greatest" => Ok(Some(greatest(alloc, map, other)?)),
+        "equal" => truth(alloc, map.all_met(other, |x: u8, y: u8| -> bool { x == y })),
+        "has" => truth(alloc, map.all_met(other, |_x: u8, _y: u8| -> bool { true })),
+        _ => Ok(None),
+    }
+}
+
+fn greatest(alloc: Global, map: &VarMap<u8>, other: &VarMap<u8>) -> Result<String, AllocError> {
+    let both = map.merge(other, alloc, |x: u8, y: u8| -> u8 { x.max(y) })?;
+    listed(alloc, &both)
+}
+
+fn truth(alloc: Global, holds: bool) -> Result<Option<String>, AllocError> {
     let line = String::from_str(alloc, if holds { "yes" } else { "no" })?;
     Ok(Some(line))
 }

@@ -6,6 +6,7 @@ ghost use Rattle.num_api.specs.Powers.{power_steps};
 
 use num_api::{Powers, Ramp, power_step};
 use std::alloc::{AllocError, Global};
+use std::fmt;
 
 /// The greatest number that a ramp is asked for.
 const LARGEST: i128 = 1 << 100;
@@ -18,24 +19,26 @@ pub fn line(alloc: Global, words: &[&str]) -> Result<Option<String>, AllocError>
     let Ok(n) = n.parse::<i128>() else {
         return Ok(None);
     };
-    let mut line = String::new(alloc);
     if *word == "step" {
-        shown(&mut line, power_step(n))?;
-    } else if -LARGEST <= n && n <= LARGEST {
-        let (up, down) = up_and_down(n);
-        shown(&mut line, up)?;
-        line.push(' ')?;
-        shown(&mut line, down)?;
-    } else {
+        return Ok(Some(format!(in alloc; "{}", Step(power_step(n)))?));
+    }
+    if n < -LARGEST || LARGEST < n {
         return Ok(None);
     }
-    Ok(Some(line))
+    let (up, down) = up_and_down(n);
+    Ok(Some(format!(in alloc; "{} {}", Step(up), Step(down))?))
 }
 
-fn shown(line: &mut String, step: Option<i128>) -> Result<(), AllocError> {
-    match step {
-        Some(n) => write!(line, "{n}"),
-        None => line.push_str("none"),
+/// A step, as it is printed.
+#[derive(Clone, Copy)]
+struct Step(Option<i128>);
+
+impl fmt::Display for Step {
+    fn fmt<W: fmt::Write>(&self, f: &mut fmt::Formatter<W>) -> fmt::Result {
+        match self.0 {
+            Some(n) => write!(f, "{n}"),
+            None => write!(f, "none"),
+        }
     }
 }
 
