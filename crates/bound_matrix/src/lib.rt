@@ -23,7 +23,4 @@ pub use counting::Steps;
 pub use ext_int::Live;
 pub use halves::Half;
 pub use matrices::{Matrix, close, close_one};
-pub use tighten::close_one_counted;
-
-#[cfg(test)]
-mod tests;
+pub use tighten::{close_counted, close_one_counted};

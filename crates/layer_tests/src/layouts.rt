@@ -3,7 +3,6 @@
 use c_layout::*;
 use c_syntax::{CType, IntType, Member, Members, Name, StructDef, StructDefs};
 use std::alloc::{AllocError, Global};
-use std::test::Fail;
 
 const CHAR: CType = CType::Int(IntType::Char);
 
@@ -53,23 +52,41 @@ fn double(alloc: Global, before: u64, bytes: u64) -> Result<StructDef, AllocErro
     Ok(definition(alloc, members, bytes.saturating_mul(2), 1))
 }
 
-// A struct's own entry need not be filled in, and the entries of its members are read.
-#[test]
-fn entries_are_told(rt: HostRuntime) -> Result<(), Fail> {
-    let alloc = rt.alloc();
+// A table of structs, of which the first one's entry is not filled in.
+fn four_structs(alloc: Global) -> Result<StructDefs, AllocError> {
     let mut defs = Vec::new(alloc);
     let open = (CType::Struct(1), 8);
     defs.push(triple(alloc, (INT, 0), open, (CHAR, 40), 0, 0)?)?;
     defs.push(triple(alloc, (LONG, 0), (LONG, 8), (LONG, 16), 32, 8)?)?;
     defs.push(triple(alloc, (CHAR, 0), (CHAR, 1), (CHAR, 2), u64::MAX, u64::MAX)?)?;
     defs.push(double(alloc, 2, u64::MAX)?)?;
-    let structs = StructDefs::from_vec(defs);
-    assert_eq!(rt; size_of(&CType::Struct(0), &structs), Sized::Fits(48));
-    assert_eq!(rt; align_of(&CType::Struct(0), &structs), 8);
-    assert_eq!(rt; size_of(&CType::Struct(1), &structs), Sized::Fits(24));
-    assert_eq!(rt; size_of(&CType::Struct(2), &structs), Sized::Fits(3));
-    assert_eq!(rt; size_of(&CType::Struct(3), &structs), Sized::Oversize);
-    assert_eq!(rt; align_of(&CType::Struct(3), &structs), u64::MAX);
+    Ok(StructDefs::from_vec(defs))
+}
+
+static SIZES: [(u64, Sized); 4] = [
+    (0, Sized::Fits(48)),
+    (1, Sized::Fits(24)),
+    (2, Sized::Fits(3)),
+    (3, Sized::Oversize),
+];
+
+fn size_at(structs: &StructDefs, number: u64) -> Sized {
+    size_of(&CType::Struct(number), structs)
+}
+
+fn align_at(structs: &StructDefs, number: u64) -> u64 {
+    align_of(&CType::Struct(number), structs)
+}
+
+// A struct's own entry need not be filled in, and the entries of its members are read.
+#[test]
+fn entries_are_told(rt: HostRuntime) -> Result<(), AllocError> {
+    let structs = four_structs(rt.alloc())?;
+    for (number, size) in &SIZES {
+        assert_eq!(rt; size_at(&structs, *number), *size);
+    }
+    assert_eq!(rt; align_at(&structs, 0), 8);
+    assert_eq!(rt; align_at(&structs, 3), u64::MAX);
     Ok(())
 }
 

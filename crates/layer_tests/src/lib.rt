@@ -1,5 +1,5 @@
-//! Tests of what no program of the repository tells: memory, values, cells and sets, files and sinks, the single steps of
-//! the parser, shares of trees, and lists of the language that is analysed.
+//! Tests of what no program of the repository tells: memory, values, cells and sets, bound matrices, files and sinks, the
+//! single steps of the parser, shares of trees, and lists of the language that is analysed.
 //!
 //! They stand here, and not in the crates that they call, since a crate with tests is proved twice.
 #![tactic(auto)]
@@ -14,6 +14,8 @@ mod csharp_lists;
 mod host;
 #[cfg(test)]
 mod layouts;
+#[cfg(test)]
+mod matrices;
 #[cfg(test)]
 mod parse_steps;
 #[cfg(test)]

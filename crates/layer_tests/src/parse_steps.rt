@@ -4,7 +4,6 @@
 use c_grammar::{Class, Setting};
 use c_parse_steps::{Context, Fault, Lookahead, TypeNames, comes, refused, taken};
 use c_written::{Placed, Pos, Punctuator, Token};
-use std::test::Fail;
 
 fn reason(fault: &Fault<'_>) -> &'static str {
     match fault {
@@ -24,7 +23,7 @@ fn told(context: &Context<'_>, count: u32, wanted: Punctuator, tokens: &[Placed]
 }
 
 // As many forms are unfinished; the sign that comes, and the one that must come.
-const SIGNS: [(u32, Punctuator, Punctuator, &str); 7] = [
+static SIGNS: [(u32, Punctuator, Punctuator, &str); 7] = [
     (0, Punctuator::Semicolon, Punctuator::Semicolon, "taken"),
     (199, Punctuator::LeftBrace, Punctuator::LeftBrace, "taken"),
     (
@@ -44,8 +43,19 @@ const SIGNS: [(u32, Punctuator, Punctuator, &str); 7] = [
     (0, Punctuator::Ellipsis, Punctuator::Comma, "unsupported"),
 ];
 
+fn one_sign(found: Punctuator) -> [Placed; 1] {
+    [Placed {
+        pos: Pos {
+            file: 0,
+            line: 1,
+            col: 1,
+        },
+        token: Token::Punctuator(found),
+    }]
+}
+
 #[test]
-fn signs(rt: HostRuntime) -> Result<(), Fail> {
+fn signs(rt: HostRuntime) {
     let types = TypeNames::new(rt.alloc());
     let context = Context {
         alloc: rt.alloc(),
@@ -53,20 +63,10 @@ fn signs(rt: HostRuntime) -> Result<(), Fail> {
         setting: Setting::InBlock,
     };
     for (count, found, wanted, answer) in &SIGNS {
-        let tokens = [Placed {
-            pos: Pos {
-                file: 0,
-                line: 1,
-                col: 1,
-            },
-            token: Token::Punctuator(*found),
-        }];
+        let tokens = one_sign(*found);
         assert_eq!(rt; told(&context, *count, *wanted, &tokens), *answer);
-        assert_eq!(rt;
-            comes(Lookahead::Brace, &tokens),
-            *found == Punctuator::LeftBrace
-        );
+        let is_brace = *found == Punctuator::LeftBrace;
+        assert!(rt; comes(Lookahead::Brace, &tokens) == is_brace);
     }
     assert_eq!(rt; reason(&refused(&context, 0, &[])), "syntax");
-    Ok(())
 }

@@ -1,5 +1,5 @@
 use c_written::{IntType, Name};
-use std::test::Fail;
+use std::alloc::AllocError;
 
 #[test]
 fn integer_types_have_limits(rt: HostRuntime) {
@@ -11,7 +11,7 @@ fn integer_types_have_limits(rt: HostRuntime) {
 }
 
 #[test]
-fn a_name_is_copied(rt: HostRuntime) -> Result<(), Fail> {
+fn a_name_is_copied(rt: HostRuntime) -> Result<(), AllocError> {
     let name = Name::from_vec(b"f".to_vec(rt.alloc())?);
     let copy = name.copy()?;
     assert_eq!(rt; copy.as_slice(), name.as_slice());

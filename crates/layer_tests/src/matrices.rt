@@ -1,13 +1,13 @@
 ghost use Rattle.std.specs.Prelude.{◌≡◌, ◌≤◌, ◌<◌, ◌≤ℤ◌, pos};
 ghost use Rattle.bound_matrix.specs.Points.{IsSmallNumber};
 
-use super::Live::{Dead, Live as Alive};
-use super::*;
-use crate::tighten::close_counted;
+use bound_matrix::Live::{Dead, Live as Alive};
+use bound_matrix::{Half, Matrix, Steps, close, close_counted, close_one, close_one_counted};
 use ext_int::Ext;
 use ext_int::Ext::{Fin, High};
 use std::alloc::{AllocError, Global};
 use std::marker::Brand;
+use std::process::Abort;
 use std::sync::ledger::{Blank, Ledger};
 
 const LIMIT: i128 = 1 << 100;
@@ -50,123 +50,152 @@ fn closed_bound(alloc: Global, case: &Case) -> Result<Option<Ext>, AllocError> {
     }
 }
 
+static CASES: [Case<'static>; 11] = [
+    // x + y <= 3 and x - y <= 0 give 2x <= 3, and so 2x <= 2.
+    Case {
+        vars: 2,
+        bounds: &[(3, 0, 3), (2, 0, 0)],
+        at: (1, 0),
+        closed: Some(Fin(2)),
+    },
+    // x - y <= -1 and y - x <= 0.
+    Case {
+        vars: 2,
+        bounds: &[(2, 0, -1), (0, 2, 0)],
+        at: (0, 0),
+        closed: None,
+    },
+    // x + y <= 3, x - y <= 0 and -x <= -2.
+    Case {
+        vars: 2,
+        bounds: &[(3, 0, 3), (2, 0, 0), (0, 1, -4)],
+        at: (0, 0),
+        closed: None,
+    },
+    // x = y and x + y = 3: a point, but none of whole numbers.
+    Case {
+        vars: 2,
+        bounds: &[(2, 0, 0), (0, 2, 0), (3, 0, 3), (0, 3, -3)],
+        at: (0, 0),
+        closed: None,
+    },
+    // -2x <= -3 gives x >= 2.
+    Case {
+        vars: 1,
+        bounds: &[(0, 1, -3)],
+        at: (0, 1),
+        closed: Some(Fin(-4)),
+    },
+    // x <= 1 and y <= 2 give x + y <= 3.
+    Case {
+        vars: 2,
+        bounds: &[(1, 0, 2), (3, 2, 5)],
+        at: (3, 0),
+        closed: Some(Fin(3)),
+    },
+    // x - z <= 1 and z - y <= 2 give x - y <= 3.
+    Case {
+        vars: 3,
+        bounds: &[(4, 0, 1), (2, 4, 2)],
+        at: (2, 0),
+        closed: Some(Fin(3)),
+    },
+    // The same of large bounds.
+    Case {
+        vars: 3,
+        bounds: &[(4, 0, LARGE), (2, 4, LARGE)],
+        at: (2, 0),
+        closed: Some(Fin(2 * LARGE)),
+    },
+    Case {
+        vars: 2,
+        bounds: &[(2, 0, 7)],
+        at: (0, 2),
+        closed: Some(High),
+    },
+    // A bound of an index from itself.
+    Case {
+        vars: 1,
+        bounds: &[],
+        at: (1, 1),
+        closed: Some(Fin(0)),
+    },
+    Case {
+        vars: 1,
+        bounds: &[(0, 0, -1)],
+        at: (1, 1),
+        closed: None,
+    },
+];
+
 #[test]
 fn closes(rt: HostRuntime) {
-    let cases = [
-        // x + y <= 3 and x - y <= 0 give 2x <= 3, and so 2x <= 2.
-        Case {
-            vars: 2,
-            bounds: &[(3, 0, 3), (2, 0, 0)],
-            at: (1, 0),
-            closed: Some(Fin(2)),
-        },
-        // x - y <= -1 and y - x <= 0.
-        Case {
-            vars: 2,
-            bounds: &[(2, 0, -1), (0, 2, 0)],
-            at: (0, 0),
-            closed: None,
-        },
-        // x + y <= 3, x - y <= 0 and -x <= -2.
-        Case {
-            vars: 2,
-            bounds: &[(3, 0, 3), (2, 0, 0), (0, 1, -4)],
-            at: (0, 0),
-            closed: None,
-        },
-        // x = y and x + y = 3: a point, but none of whole numbers.
-        Case {
-            vars: 2,
-            bounds: &[(2, 0, 0), (0, 2, 0), (3, 0, 3), (0, 3, -3)],
-            at: (0, 0),
-            closed: None,
-        },
-        // -2x <= -3 gives x >= 2.
-        Case {
-            vars: 1,
-            bounds: &[(0, 1, -3)],
-            at: (0, 1),
-            closed: Some(Fin(-4)),
-        },
-        // x <= 1 and y <= 2 give x + y <= 3.
-        Case {
-            vars: 2,
-            bounds: &[(1, 0, 2), (3, 2, 5)],
-            at: (3, 0),
-            closed: Some(Fin(3)),
-        },
-        // x - z <= 1 and z - y <= 2 give x - y <= 3.
-        Case {
-            vars: 3,
-            bounds: &[(4, 0, 1), (2, 4, 2)],
-            at: (2, 0),
-            closed: Some(Fin(3)),
-        },
-        // The same of large bounds.
-        Case {
-            vars: 3,
-            bounds: &[(4, 0, LARGE), (2, 4, LARGE)],
-            at: (2, 0),
-            closed: Some(Fin(2 * LARGE)),
-        },
-        Case {
-            vars: 2,
-            bounds: &[(2, 0, 7)],
-            at: (0, 2),
-            closed: Some(High),
-        },
-        // A bound of an index from itself.
-        Case {
-            vars: 1,
-            bounds: &[],
-            at: (1, 1),
-            closed: Some(Fin(0)),
-        },
-        Case {
-            vars: 1,
-            bounds: &[(0, 0, -1)],
-            at: (1, 1),
-            closed: None,
-        },
-    ];
-    for case in cases {
-        let closed = closed_bound(rt.alloc(), &case).expect(&rt, "memory");
+    for case in &CASES {
+        let closed = closed_bound(rt.alloc(), case).expect(&rt, "memory");
         assert_eq!(rt; closed, case.closed);
     }
 }
 
+/// A bound, by its place.
+type Row = (u32, u32, Ext);
+
+fn lowers(rt: &impl Abort, m: &mut Matrix, (i, j, bound): Row) {
+    assert!(rt; m.vars() == 2 && i < 4 && j < 4);
+    m.lower(i, j, bound);
+}
+
+fn raises(rt: &impl Abort, m: &mut Matrix, (i, j, bound): Row) {
+    assert!(rt; m.vars() == 2 && i < 4 && j < 4);
+    m.raise(i, j, bound);
+}
+
+fn has(rt: &impl Abort, m: &Matrix, (i, j, bound): Row) {
+    assert!(rt; m.vars() == 2 && i < 4 && j < 4);
+    assert_eq!(rt; m.get(i, j), bound);
+}
+
+// What is lowered, and then the bound of a place.
+static CUT: [(Row, Row); 5] = [
+    ((2, 0, Fin(LIMIT + 1)), (2, 0, High)),
+    ((2, 0, Fin(LIMIT)), (1, 3, Fin(LIMIT))),
+    ((2, 0, Fin(-LIMIT - 1)), (1, 3, Fin(-LIMIT))),
+    ((2, 0, Fin(5)), (1, 3, Fin(-LIMIT))),
+    ((0, 2, Ext::Low), (3, 1, Fin(-LIMIT))),
+];
+
 #[test]
 fn cuts_bounds(rt: HostRuntime) {
     let mut m = Matrix::new(rt.alloc(), 2).expect(&rt, "memory");
-    m.lower(2, 0, Fin(LIMIT + 1));
-    assert_eq!(rt; m.get(2, 0), High);
-    m.lower(2, 0, Fin(LIMIT));
-    assert_eq!(rt; m.get(1, 3), Fin(LIMIT));
-    m.lower(2, 0, Fin(-LIMIT - 1));
-    m.lower(2, 0, Fin(5));
-    assert_eq!(rt; m.get(1, 3), Fin(-LIMIT));
-    m.lower(0, 2, Ext::Low);
-    assert_eq!(rt; m.get(3, 1), Fin(-LIMIT));
+    for (lowered, found) in &CUT {
+        lowers(&rt, &mut m, *lowered);
+        has(&rt, &m, *found);
+    }
+}
+
+// What is raised, and then the bounds of two places, which mirror each other.
+static RAISED: [(Row, Row, Row); 3] = [
+    ((2, 0, Fin(5)), (2, 0, Fin(5)), (1, 3, Fin(5))),
+    ((1, 3, Fin(4)), (2, 0, Fin(5)), (1, 3, Fin(5))),
+    ((1, 3, High), (2, 0, High), (1, 3, High)),
+];
+
+#[test]
+fn raises_and_copies(rt: HostRuntime) {
+    assert_eq!(rt; Matrix::empty(rt.alloc()).vars(), 0);
+    let mut m = Matrix::new(rt.alloc(), 2).expect(&rt, "memory");
+    lowers(&rt, &mut m, (2, 0, Fin(3)));
+    let before = m.copy().expect(&rt, "memory");
+    for (raised, found, mirrored) in &RAISED {
+        raises(&rt, &mut m, *raised);
+        has(&rt, &m, *found);
+        has(&rt, &m, *mirrored);
+    }
+    assert_eq!(rt; m.vars(), 2);
+    has(&rt, &before, (2, 0, Fin(3)));
+    has(&rt, &before, (1, 3, Fin(3)));
 }
 
 // x(k) - x(k + 1) <= 1 for 24 variables.
-#[test]
-fn raises_and_copies(rt: HostRuntime) {
-    let none = Matrix::empty(rt.alloc());
-    assert_eq!(rt; none.vars(), 0);
-    let mut m = Matrix::new(rt.alloc(), 2).expect(&rt, "memory");
-    m.lower(2, 0, Fin(3));
-    let before = m.copy().expect(&rt, "memory");
-    m.raise(2, 0, Fin(5));
-    assert_eq!(rt; m.vars(), 2);
-    assert_eq!(rt; (m.get(2, 0), m.get(1, 3)), (Fin(5), Fin(5)));
-    assert_eq!(rt; (before.get(2, 0), before.get(1, 3)), (Fin(3), Fin(3)));
-    m.raise(1, 3, Fin(4));
-    assert_eq!(rt; m.get(2, 0), Fin(5));
-    m.raise(1, 3, Ext::High);
-    assert_eq!(rt; m.get(2, 0), Ext::High);
-}
-
 #[test]
 fn closes_a_chain(rt: HostRuntime) {
     let mut m = Matrix::new(rt.alloc(), 24).expect(&rt, "memory");

@@ -1,5 +1,5 @@
 use Rattle.std.proofs.Common.{◌≡◌}
-use Rattle.bound_matrix.proofs.tests.lower_all.Given as goal
+use Rattle.layer_tests.proofs.matrices.lower_all.Given as goal
 
 abbrev pub invariant-loop-i : goal.invariant-loop-i
 invariant-loop-i l = l.vars ≡ l.m.vars

@@ -1,4 +1,4 @@
-use Rattle.bound_matrix.proofs.tests.counts_steps.Given as goal
+use Rattle.layer_tests.proofs.matrices.counts_steps.Given as goal
 
 abbrev pub ghosts-steps_of_closing : goal.ghosts-steps_of_closing
 ghosts-steps_of_closing g a = record { name = a.blank.name; parts = a.blank.parts }

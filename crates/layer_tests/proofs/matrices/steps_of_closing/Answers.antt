@@ -3,7 +3,7 @@ use Rattle.std.proofs.Common.{arith, refl}
 use Rattle.std.proofs.lemmas.Int.{ints}
 use Rattle.bound_matrix.specs.Bound.{bound_at}
 use Rattle.bound_matrix.proofs.Promises.{was-tight, lowered-small, none-small}
-use Rattle.bound_matrix.proofs.tests.steps_of_closing.Goals as goal
+use Rattle.layer_tests.proofs.matrices.steps_of_closing.Goals as goal
 
 pub close_one_counted-requires-clause-lowered : goal.close_one_counted-requires-clause-lowered
 close_one_counted-requires-clause-lowered g c = was-tight c.lower.new.self c.close_counted.new.m c.lower-in-Live.new.self 2 0 _
