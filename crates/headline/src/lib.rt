@@ -14,18 +14,18 @@
 //! | exit statuses | `Status` | `code` |
 #![tactic(auto)]
 
-mod command;
 mod program;
 mod refusal;
 mod report;
 mod runs;
 mod status;
 mod verdict;
+mod words;
 
-pub use command::command;
 pub use program::{Read, program_of};
 pub use refusal::{Refusal, refusal_line};
 pub use report::report_text;
 pub use runs::run;
 pub use status::Status;
 pub use verdict::{one_program, one_verdict, program_nor_refused};
+pub use words::command;

@@ -4,11 +4,11 @@ ghost use Rattle.outside_io.specs.Io.{Rose, IsFront};
 ghost use Rattle.headline.specs.Command.{IsCommand, texts};
 ghost use Rattle.headline.specs.Headline.{IsAnswer, OnWhole, OnNothing, IsWhole, Completes};
 
-use crate::command::command;
 use crate::program::{Read, program_of};
 use crate::refusal::{Refusal, refusal_line};
 use crate::report::report_text;
 use crate::status::Status;
+use crate::words::command;
 use constant_form::alarms_of;
 use outside_io::{Files, ReadError, Sink, read_all, write_all};
 use std::alloc::{AllocError, Global};

@@ -1,7 +1,7 @@
 use Rattle.std.proofs.Common.{rules, ◌≡◌, [], ◌∷◌, codes, string_bytes, ap, ◌∙◌}
 use Rattle.headline.specs.Command.{IsName, texts}
 use Rattle.headline.proofs.CommandLemmas.{three_words}
-use Rattle.headline.proofs.command.command.Goals as goal
+use Rattle.headline.proofs.words.command.Goals as goal
 
 pub returns-clause-found : goal.returns-clause-found
 returns-clause-found c =
