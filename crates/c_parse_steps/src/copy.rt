@@ -4,8 +4,7 @@
 ghost use Rattle.std.specs.Prelude.{◌≡◌, ◌++◌, IfOk};
 ghost use Rattle.c_grammar.specs.Classes.{byte_of, bytes_of, constant_of, low_byte, name_of};
 
-use crate::boxes::boxed;
-use c_written::{Constant, Name, Token};
+use c_written::{Constant, Name, Token, boxed};
 use std::alloc::{AllocError, Global};
 
 /// The name of a word.

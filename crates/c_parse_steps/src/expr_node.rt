@@ -6,9 +6,10 @@ ghost use Rattle.c_written.specs.Written.{exprs_from, exprs_tree, specs_tree, ex
 ghost use Rattle.c_grammar.specs.Made.{is_word, joined};
 ghost use Rattle.c_parse_steps.specs.Views.{boxed_declarator, boxed_expr};
 
-use crate::boxes::boxed;
 use c_grammar::Joint;
-use c_written::{AssignOp, Declarator, Expr, Exprs, Name, Pos, Specs, StepWay, UnaryOp};
+use c_written::{
+    AssignOp, Declarator, Expr, Exprs, Name, Pos, Specs, StepWay, UnaryOp, boxed,
+};
 use std::alloc::{AllocError, Global};
 
 /// An expression between parentheses.

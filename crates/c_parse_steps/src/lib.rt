@@ -13,7 +13,6 @@
 //! comes and for nodes.
 #![tactic(auto)]
 
-mod boxes;
 mod class;
 mod context;
 mod copy;

@@ -7,9 +7,9 @@ ghost use Rattle.c_grammar.specs.Made.{declared_word, function_of, is_bare_void,
 ghost use Rattle.c_parse_steps.specs.Kinds.{is_void_alone, is_void_spec, is_void_word};
 ghost use Rattle.c_parse_steps.specs.Views.{boxed_declarator, boxed_expr};
 
-use crate::boxes::boxed;
 use c_written::{
     Declarator, Enumerator, Expr, MemberDecl, Name, Param, Params, Pos, Spec, Specs, TypeWord,
+    boxed,
 };
 use std::alloc::{AllocError, Global};
 

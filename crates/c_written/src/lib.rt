@@ -11,9 +11,10 @@
 //! `pos()` answers line 1, column 5. The pure trees stand in `specs/Written.antt`, `WrittenDecl.antt` and
 //! `WrittenFile.antt`, their places in `specs/WrittenParts.antt`, which `Expr::pos`, `Stmt::pos` and the like
 //! promise. The integer types have their tables in `specs/Integer.antt`: `IntType::Int.limits()` answers
-//! (-2147483648, 2147483647). How large a tree is stands in `specs/Sizes.antt`.
+//! (-2147483648, 2147483647). How large a tree is stands in `specs/Sizes.antt`. A node is put into a box by `boxed`.
 #![tactic(auto)]
 
+mod boxes;
 mod construct;
 mod declaration;
 mod file;
@@ -24,6 +25,7 @@ mod step;
 mod token;
 mod written;
 
+pub use boxes::boxed;
 pub use construct::Construct;
 pub use declaration::{Decl, Init, InitDeclarator, InitDeclarators, Inits};
 pub use file::{BlockItem, BlockItems, File, ForHead, ForStart, Outer, Outers, Stmt};

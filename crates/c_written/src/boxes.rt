@@ -1,4 +1,4 @@
-// Boxes of what was made.
+// Boxes of nodes.
 
 ghost use Rattle.std.specs.Prelude.{◌≡◌, IfOk};
 
