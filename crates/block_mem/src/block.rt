@@ -42,6 +42,17 @@ impl Block {
         })
     }
 
+    /// The same block once more.
+    pub fn copy(&self) -> Result<Block, NoMemory>
+        ensures { IfOk result (λ b. b ≡ self.now) }
+    {
+        Ok(Block {
+            read_only: self.read_only,
+            live: self.live,
+            bytes: self.bytes.clone()?,
+        })
+    }
+
     /// The bytes, from the first to the last.
     pub fn bytes(&self) -> &[Byte]
         ensures { result.now ≡ self.now.bytes }

@@ -1,5 +1,5 @@
 // Memory as a list of blocks.
-ghost use Rattle.std.specs.Prelude.{◌≡◌};
+ghost use Rattle.std.specs.Prelude.{◌≡◌, IfOk};
 ghost use Rattle.block_mem.specs.Blocks.{place};
 
 use crate::block::{Block, place_of};
@@ -50,6 +50,16 @@ impl Memory {
             alloc,
             blocks: Vec::new(alloc),
         }
+    }
+
+    /// The same memory once more.
+    pub fn try_clone(&self) -> Result<Memory, NoMemory>
+        ensures { IfOk result (λ m. m ≡ self.now) }
+    {
+        Ok(Memory {
+            alloc: self.alloc,
+            blocks: copy_blocks(self.alloc, &self.blocks)?,
+        })
     }
 
     /// How many blocks were made.
@@ -240,4 +250,16 @@ fn start_of(at: Pointer) -> usize
         Some(place) => place as usize,
         None => 0,
     }
+}
+
+/// The same blocks once more.
+fn copy_blocks(alloc: Global, blocks: &[Block]) -> Result<Vec<Block>, NoMemory>
+    ensures { IfOk result (λ copies. copies.items ≡ blocks.now) }
+{
+    let mut copies = Vec::new(alloc);
+    for block in blocks {
+        let copy = block.copy()?;
+        copies.push(copy)?;
+    }
+    Ok(copies)
 }

@@ -48,6 +48,17 @@ impl ObjectMemory {
         })
     }
 
+    /// The same memory once more.
+    pub fn try_clone(&self) -> Result<ObjectMemory, NoMemory>
+        ensures { IfOk result (λ m. m ≡ self.now) }
+    {
+        Ok(ObjectMemory {
+            blocks: self.blocks.try_clone()?,
+            owners: self.owners.clone()?,
+            places: self.places.clone()?,
+        })
+    }
+
     /// Makes the block of an object, without values. After `NoMemory` the memory is as it was.
     pub fn open(&mut self, objects: &[Object], object: u64) -> Result<(), NoMemory>
         requires { object < length self.old.places }
