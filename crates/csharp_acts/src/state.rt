@@ -4,6 +4,7 @@ ghost use Rattle.csharp.specs.Actions.{put, put_into};
 
 use block_mem::Value;
 use c_objects::ObjectMemory;
+use std::alloc::AllocError as NoMemory;
 use std::collections::VecDeque;
 use std::marker::Model;
 
@@ -34,7 +35,7 @@ pub enum Step {
 }
 
 impl State {
-    ghost use Rattle.std.specs.Prelude.{slice_get};
+    ghost use Rattle.std.specs.Prelude.{◌≡◌, slice_get, IfOk};
 
     /// The state with these values of temporaries, this memory, and these inputs that are left.
     pub fn new(temps: Vec<Value>, memory: ObjectMemory, inputs: VecDeque<i128>) -> State
@@ -45,6 +46,17 @@ impl State {
             memory,
             inputs,
         }
+    }
+
+    /// The same state once more.
+    pub fn try_clone(&self) -> Result<State, NoMemory>
+        ensures { IfOk result (λ s. s ≡ self.now) }
+    {
+        Ok(State {
+            temps: self.temps.clone()?,
+            memory: self.memory.try_clone()?,
+            inputs: self.inputs.clone()?,
+        })
     }
 
     /// What stands in a temporary; none where there is no such temporary.
