@@ -1,5 +1,5 @@
 -- Plain states: one interval for each temporary and for each integer object that lives (this profile).
-use Rattle.std.specs.Prelude.{ℕ, pos, ◌==◌, ◌||◌, Bool, false, if◌then◌else◌, List, [], Option, Some, None, option_map, option_and_then, slice_get}
+use Rattle.std.specs.Prelude.{ℕ, pos, ◌==◌, ◌&&◌, ◌||◌, Bool, true, false, not, if◌then◌else◌, List, [], Option, Some, None, option_map, option_and_then, slice_get}
 use Rattle.std.specs.Int.{int_min, int_max}
 use Rattle.c_written.specs.declared.int_type.IntType.{IntType}
 use Rattle.c_syntax.specs.Types.{ObjectTree, CTypeTree, Int}
@@ -14,6 +14,7 @@ use Rattle.c_values.specs.Accesses.{loaded_value}
 use Rattle.c_objects.specs.Opening.{address}
 use Rattle.csharp.specs.Trees.{CsExprTree, CsProgramTree}
 use Rattle.csharp.specs.States as states
+use Rattle.plain_runs.specs.SameExprs.{is_same_type}
 use Rattle.plain_runs.specs.Numbers.{number_expr}
 
 -- what is known of an object: its type, an interval of that type, whether its value may be indeterminate, and whether it is const
@@ -68,14 +69,21 @@ plain_first q = record {
 abbrev pub hull_span : Span → Span → Span
 hull_span s t = span (int_min s.lo t.lo) (int_max s.hi t.hi)
 
-abbrev pub hull_cell : Cell → Cell → Cell
-hull_cell c d = record c { numbers = hull_span c.numbers d.numbers; may_be_undefined = c.may_be_undefined || d.may_be_undefined }
+-- of what is one integer object in both states, which has one type and one mark
+abbrev same_mark : Bool → Bool → Bool
+same_mark true b = b
+same_mark false b = not b
+
+abbrev pub hull_cell : Cell → Cell → Option Cell
+hull_cell c d = if is_same_type c.ty d.ty && same_mark c.read_only d.read_only
+    then Some (record c { numbers = hull_span c.numbers d.numbers; may_be_undefined = c.may_be_undefined || d.may_be_undefined })
+    else None
 
 -- what stays lives on both sides
-abbrev pub on_both_sides : {A : Type 0} → (A → A → A) → Option A → Option A → Option A
-on_both_sides f None y = None
-on_both_sides f (Some x) None = None
-on_both_sides f (Some x) (Some y) = Some (f x y)
+abbrev pub hull_cells : Option Cell → Option Cell → Option Cell
+hull_cells None d = None
+hull_cells (Some c) None = None
+hull_cells (Some c) (Some d) = hull_cell c d
 
 -- a copy stays one where it is a copy of one object on both sides
 abbrev pub agreed : Option ℕ → Option ℕ → Option ℕ
@@ -87,7 +95,7 @@ abbrev pub hull : Plain → Plain → Plain
 hull p q = record {
   temps = λ d. hull_span (p.temps d) (q.temps d);
   copies = λ d. agreed (p.copies d) (q.copies d);
-  objects = λ x. on_both_sides hull_cell (p.objects x) (q.objects x);
+  objects = λ x. hull_cells (p.objects x) (q.objects x);
   passed = None;
 }
 

@@ -19,7 +19,7 @@ use Rattle.block_mem.specs.declared.types.Value.TheVariants as values
 use Rattle.c_values.specs.Places.{ObjectMemory, place_of}
 use Rattle.csharp.specs.States.{State}
 use Rattle.mem_api.specs.Likeness.{AreLike, IsAlike}
-use Rattle.plain_runs.specs.States.{Cell, Plain, hull, hull_span, hull_cell, on_both_sides}
+use Rattle.plain_runs.specs.States.{Cell, Plain, hull, hull_span, hull_cells}
 use Rattle.temp_ranges.specs.Values.{number_of, IsNoObject, HasKind}
 use Rattle.temp_ranges.specs.Ranges.{range_at}
 use Rattle.temp_ranges.specs.Sets.{IsSharp, Stands}
@@ -81,11 +81,11 @@ wider_second : (r : Range) (s t : Span) → NoWider r (range_of t) → NoWider r
 wider_second r s t w = wider r (range_of t) (range_of (hull_span s t)) w
     (record { low = lesser_second (Fin s.lo) (Fin t.lo); high = greater_second (Fin s.hi) (Fin t.hi) })
 
-none_first : (a b : Option Cell) → a ≡ None → on_both_sides hull_cell a b ≡ None
+none_first : (a b : Option Cell) → a ≡ None → hull_cells a b ≡ None
 none_first None b e = refl
 none_first (Some x) b e = absurd (cc)
 
-none_second : (a b : Option Cell) → b ≡ None → on_both_sides hull_cell a b ≡ None
+none_second : (a b : Option Cell) → b ≡ None → hull_cells a b ≡ None
 none_second None b e = refl
 none_second (Some x) None e = refl
 none_second (Some x) (Some y) e = absurd (cc)
