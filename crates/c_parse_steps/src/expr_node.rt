@@ -7,9 +7,7 @@ ghost use Rattle.c_grammar.specs.Made.{is_word, joined};
 ghost use Rattle.c_parse_steps.specs.Views.{boxed_declarator, boxed_expr};
 
 use c_grammar::Joint;
-use c_written::{
-    AssignOp, Declarator, Expr, Exprs, Name, Pos, Specs, StepWay, UnaryOp, boxed,
-};
+use c_written::{AssignOp, Declarator, Expr, Exprs, Name, Pos, Specs, StepWay, UnaryOp, boxed};
 use std::alloc::{AllocError, Global};
 
 /// An expression between parentheses.
