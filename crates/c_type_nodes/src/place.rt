@@ -16,6 +16,7 @@ ghost use Rattle.c_type_operators.specs.StoreViews.{stored_tree};
 use c_syntax::{CType, Pos, StepTime, StepWay, Stride, TBinaryOp, TExpr, TLvalue};
 use c_type_names::TypeError;
 use c_type_operators::{Operand, Stored};
+use c_written::boxed;
 use std::alloc::{AllocError as NoMemory, Global};
 
 /// The place of an operand that may be changed, or NotLvalue.
@@ -64,13 +65,13 @@ pub(crate) fn store_node(
 {
     match stored {
         Stored::Scalar(value) => {
-            let place = Box::new(alloc, place)?;
-            let value = Box::new(alloc, value)?;
+            let place = boxed(alloc, place)?;
+            let value = boxed(alloc, value)?;
             Ok(TExpr::Assign { pos, place, value })
         }
         Stored::Copied(extent, source) => {
-            let place = Box::new(alloc, place)?;
-            let source = Box::new(alloc, source)?;
+            let place = boxed(alloc, place)?;
+            let source = boxed(alloc, source)?;
             Ok(TExpr::AssignStruct {
                 pos,
                 extent,
@@ -90,8 +91,8 @@ pub(crate) fn compound_node(
 ) -> Result<TExpr, NoMemory>
     ensures { IfOk result (λ node. texpr_tree node ≡ trees.Compound pos op (tlvalue_tree place) (texpr_tree value)) }
 {
-    let place = Box::new(alloc, place)?;
-    let value = Box::new(alloc, value)?;
+    let place = boxed(alloc, place)?;
+    let value = boxed(alloc, value)?;
     Ok(TExpr::Compound {
         pos,
         op,
@@ -110,7 +111,7 @@ pub(crate) fn step_node(
 ) -> Result<TExpr, NoMemory>
     ensures { IfOk result (λ node. texpr_tree node ≡ trees.Step pos time way stride (tlvalue_tree place)) }
 {
-    let place = Box::new(alloc, place)?;
+    let place = boxed(alloc, place)?;
     Ok(TExpr::Step {
         pos,
         time,

@@ -17,6 +17,7 @@ use crate::given::{given, given_place};
 use c_syntax::{DerefKind, Op, Pos, StructDefs, TExpr, TLvalue, UnaryOp};
 use c_type_names::{TypeError, no_rule};
 use c_type_operators::{Operand, Sign, is_unsized, not_row, star_row, unary_row, value_of};
+use c_written::boxed;
 use std::alloc::Global;
 
 /// A prefix operator on a typed operand. `&` of what is no place is NotLvalue; where no row has the operand's
@@ -87,7 +88,7 @@ fn address_of(
     if is_unsized(&ty) {
         return Err(no_rule(alloc, structs, pos, Op::BitAnd, ty, None));
     }
-    let place = Box::new(alloc, place)?;
+    let place = boxed(alloc, place)?;
     Ok(Operand::Value(TExpr::AddressOf { pos, place }))
 }
 

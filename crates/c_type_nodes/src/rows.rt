@@ -12,6 +12,7 @@ ghost use Rattle.c_typing.specs.Rows as typing;
 use c_syntax::{CType, DerefKind, Member, Pos, StructDefs, TExpr, TLvalue};
 use c_type_names::Structs;
 use c_type_operators::star_row;
+use c_written::boxed;
 use std::alloc::{AllocError as NoMemory, Global};
 
 /// `.`: the member of this name of a struct in a place (C11 6.5.2.3p1 and p3).
@@ -120,7 +121,7 @@ fn member_node(
 {
     let is_const = place.is_const();
     let ty = member.ty.copy()?;
-    let place = Box::new(alloc, place)?;
+    let place = boxed(alloc, place)?;
     Ok(TLvalue::Member {
         pos,
         member: k,

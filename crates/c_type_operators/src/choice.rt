@@ -14,6 +14,7 @@ ghost use Rattle.c_typing.specs.Rows as rows;
 use crate::{as_null, as_type, is_null_constant, is_same_but_const, is_void, pointer_to};
 use c_layout::{balance, has_const_elements};
 use c_syntax::{CType, Pos, TExpr, Target};
+use c_written::boxed;
 use std::alloc::{AllocError as NoMemory, Global};
 use std::rc::Rc;
 
@@ -51,9 +52,9 @@ fn cond_node(
 ) -> Result<TExpr, NoMemory>
     ensures { IfOk result (λ node. texpr_tree node ≡ trees.Cond pos (ctype_tree ty) (texpr_tree test) (texpr_tree a) (texpr_tree b)) }
 {
-    let condition = Box::new(alloc, test)?;
-    let then = Box::new(alloc, a)?;
-    let otherwise = Box::new(alloc, b)?;
+    let condition = boxed(alloc, test)?;
+    let then = boxed(alloc, a)?;
+    let otherwise = boxed(alloc, b)?;
     Ok(TExpr::Cond {
         pos,
         ty,

@@ -11,13 +11,14 @@ ghost use Rattle.c_typing.specs.Operands as operands;
 use crate::types::is_same;
 use c_layout::balance;
 use c_syntax::{CType, IntType, Pos, TBinaryOp, TExpr, TUnaryOp};
+use c_written::boxed;
 use std::alloc::{AllocError as NoMemory, Global};
 
 /// The conversion of a value to this type, as a node at this place.
 pub fn convert_node(alloc: Global, pos: Pos, ty: CType, e: TExpr) -> Result<TExpr, NoMemory>
     ensures { IfOk result (λ node. texpr_tree node ≡ trees.Convert pos (ctype_tree ty) (texpr_tree e)) }
 {
-    let operand = Box::new(alloc, e)?;
+    let operand = boxed(alloc, e)?;
     Ok(TExpr::Convert { pos, ty, operand })
 }
 
@@ -25,7 +26,7 @@ pub fn convert_node(alloc: Global, pos: Pos, ty: CType, e: TExpr) -> Result<TExp
 pub fn unary_node(alloc: Global, pos: Pos, op: TUnaryOp, e: TExpr) -> Result<TExpr, NoMemory>
     ensures { IfOk result (λ node. texpr_tree node ≡ trees.Unary pos op (texpr_tree e)) }
 {
-    let operand = Box::new(alloc, e)?;
+    let operand = boxed(alloc, e)?;
     Ok(TExpr::Unary { pos, op, operand })
 }
 
@@ -39,8 +40,8 @@ pub fn binary_node(
 ) -> Result<TExpr, NoMemory>
     ensures { IfOk result (λ node. texpr_tree node ≡ trees.Binary pos op (texpr_tree a) (texpr_tree b)) }
 {
-    let left = Box::new(alloc, a)?;
-    let right = Box::new(alloc, b)?;
+    let left = boxed(alloc, a)?;
+    let right = boxed(alloc, b)?;
     Ok(TExpr::Binary {
         pos,
         op,

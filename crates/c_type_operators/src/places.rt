@@ -10,6 +10,7 @@ ghost use Rattle.c_typing.specs.Rows as rows;
 
 use crate::plus_row;
 use c_syntax::{CType, DerefKind, Pos, StructDefs, TExpr, TLvalue, Target};
+use c_written::boxed;
 use std::alloc::{AllocError as NoMemory, Global};
 use std::rc::Rc;
 
@@ -52,7 +53,7 @@ fn pointed(
         | CType::Struct(_)
         | CType::Function(_) => {
             let ty = to.ty.copy()?;
-            let pointer = Box::new(alloc, e)?;
+            let pointer = boxed(alloc, e)?;
             Ok(Some(TLvalue::Deref {
                 pos,
                 kind,
