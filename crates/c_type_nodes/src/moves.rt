@@ -1,5 +1,5 @@
 // Addresses inside objects, and how they move.
-#![tactic(auto, using(c_syntax::proofs::Trees::the_trees))]
+#![tactic(auto)]
 
 ghost use Rattle.std.specs.Prelude.{◌≡◌, ◌&&◌, ◌+ℤ◌, ◌*ℤ◌, ℤ, if◌then◌else◌, int_le, None, Some, map, neg_ℤ, option_map, pos, slice_get};
 ghost use Rattle.c_syntax.specs.Types.{object_tree};
