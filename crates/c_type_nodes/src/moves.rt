@@ -90,7 +90,10 @@ fn at_distance(size: u64, n: u64, offset: u64, distance: i128) -> Option<Address
         then Some (constants.Inside n (pos offset +ℤ distance)) else None) }
 {
     let start = i128::from(offset);
-    if distance < -start || i128::from(size) - start < distance {
+    if distance < -start {
+        return None;
+    }
+    if i128::from(size) - start < distance {
         return None;
     }
     Some(Address::Inside {
