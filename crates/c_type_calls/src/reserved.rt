@@ -15,7 +15,6 @@ use c_syntax::{IntType, Op, Pos, TExpr, TExprs};
 use c_type_declarators::unknown_function;
 use c_type_names::{TypeError, World, no_rule};
 use c_type_operators::{Operand, is_scalar};
-use c_written::boxed;
 use std::alloc::{AllocError as NoMemory, Global};
 
 /// An input, which is read without arguments; with some it is NoRule, with a function's type left.
@@ -64,7 +63,7 @@ fn scalar_told(world: &World, pos: Pos, assumes: bool, e: TExpr) -> Result<Opera
 fn told_node(alloc: Global, pos: Pos, assumes: bool, e: TExpr) -> Result<TExpr, NoMemory>
     ensures { IfOk result (λ node. texpr_tree node ≡ (if assumes then trees.Assume pos (texpr_tree e) else trees.Assert pos (texpr_tree e))) }
 {
-    let operand = boxed(alloc, e)?;
+    let operand = Box::new(alloc, e)?;
     if assumes {
         Ok(TExpr::Assume { pos, operand })
     } else {

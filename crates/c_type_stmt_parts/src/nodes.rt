@@ -10,7 +10,6 @@ ghost use Rattle.c_type_decls.specs.MadeViews.{made_tree};
 
 use c_syntax::{BlockKind, Numbers, Pos, TExpr, TStmt, TStmts};
 use c_type_decls::Made;
-use c_written::boxed;
 use std::alloc::{AllocError as NoMemory, Global};
 
 /// `;`
@@ -62,8 +61,8 @@ pub fn if_node(
 ) -> Result<TStmt, NoMemory>
     ensures { IfOk result (λ node. tstmt_tree node ≡ trees.If pos (texpr_tree condition) (tstmt_tree first) (tstmt_tree second)) }
 {
-    let then = boxed(alloc, first)?;
-    let otherwise = boxed(alloc, second)?;
+    let then = Box::new(alloc, first)?;
+    let otherwise = Box::new(alloc, second)?;
     Ok(TStmt::If {
         pos,
         condition,
@@ -76,7 +75,7 @@ pub fn if_node(
 pub fn while_node(alloc: Global, pos: Pos, condition: TExpr, body: TStmt) -> Result<TStmt, NoMemory>
     ensures { IfOk result (λ node. tstmt_tree node ≡ trees.While pos (texpr_tree condition) (tstmt_tree body)) }
 {
-    let body = boxed(alloc, body)?;
+    let body = Box::new(alloc, body)?;
     Ok(TStmt::While {
         pos,
         condition,
@@ -93,7 +92,7 @@ pub fn do_while_node(
 ) -> Result<TStmt, NoMemory>
     ensures { IfOk result (λ node. tstmt_tree node ≡ trees.DoWhile pos (tstmt_tree body) (texpr_tree condition)) }
 {
-    let body = boxed(alloc, body)?;
+    let body = Box::new(alloc, body)?;
     Ok(TStmt::DoWhile {
         pos,
         body,
@@ -114,7 +113,7 @@ pub fn for_node(
         (option_map texpr_tree step) (tstmt_tree body)) }
 {
     let Made { objects, items } = start;
-    let body = boxed(alloc, body)?;
+    let body = Box::new(alloc, body)?;
     Ok(TStmt::For {
         pos,
         objects: Numbers::from_vec(objects),
