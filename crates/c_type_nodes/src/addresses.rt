@@ -1,5 +1,5 @@
 // The addresses that expressions are.
-#![tactic(auto, using(c_syntax::proofs::Trees::the_trees, crate::proofs::Equations::the_addresses, c_syntax::proofs::Sizes::the_typed_sizes))]
+#![tactic(auto, using(c_syntax::proofs::TypedExprTrees::typed_expr_trees, crate::proofs::Equations::the_addresses, c_syntax::proofs::Sizes::the_typed_sizes))]
 
 ghost use Rattle.std.specs.Prelude.{◌≡◌, IfOk, map, option_map};
 ghost use Rattle.c_syntax.specs.Types.{object_tree};
@@ -19,23 +19,14 @@ pub fn static_address(objects: &[Object], e: &TExpr) -> Result<Option<Address>, 
 {
     match e {
         TExpr::Null { .. } => Ok(Some(Address::Nowhere)),
-        TExpr::AddressOf { place, .. } => {
-            let address = static_place(objects, place)?;
-            Ok(address)
-        }
-        TExpr::Decay { place, .. } => {
-            let address = static_place(objects, place)?;
-            Ok(address)
-        }
+        TExpr::AddressOf { place, .. } => { static_place(objects, place) }
+        TExpr::Decay { place, .. } => { static_place(objects, place) }
         TExpr::Binary {
             op,
             left,
             right,
             ..
-        } => {
-            let address = moved_address(objects, *op, left, right)?;
-            Ok(address)
-        }
+        } => { moved_address(objects, *op, left, right) }
         TExpr::Convert { ty, operand, .. } => {
             let address = static_address(objects, operand)?;
             if is_pointer(ty) {
@@ -106,10 +97,7 @@ pub fn static_place(objects: &[Object], place: &TLvalue) -> Result<Option<Addres
 {
     match place {
         TLvalue::Var { object, .. } => Ok(static_object(objects, *object)),
-        TLvalue::Deref { pointer, .. } => {
-            let address = static_address(objects, pointer)?;
-            Ok(address)
-        }
+        TLvalue::Deref { pointer, .. } => { static_address(objects, pointer) }
         TLvalue::Member { offset, place, .. } => {
             let address = static_place(objects, place)?;
             Ok(moved(objects, address, Some(i128::from(*offset))))

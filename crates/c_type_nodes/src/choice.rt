@@ -17,6 +17,7 @@ use crate::given::given;
 use c_syntax::{Op, Pos, StructDefs, TExpr};
 use c_type_names::{TypeError, no_rule};
 use c_type_operators::{Operand, cond_row, is_scalar};
+use c_written::boxed;
 use std::alloc::{AllocError as NoMemory, Global};
 
 /// A condition, which is to be a scalar (C11 6.8.4.1p1, 6.8.5p2). Where it is none it is NoRule with Op `test`.
@@ -84,7 +85,7 @@ pub fn sequenced(alloc: Global, pos: Pos, a: TExpr, b: TExpr) -> Result<Operand,
 fn comma_node(alloc: Global, pos: Pos, a: TExpr, b: TExpr) -> Result<TExpr, NoMemory>
     ensures { IfOk result (λ node. texpr_tree node ≡ trees.Comma pos (texpr_tree a) (texpr_tree b)) }
 {
-    let left = Box::new(alloc, a)?;
-    let right = Box::new(alloc, b)?;
+    let left = boxed(alloc, a)?;
+    let right = boxed(alloc, b)?;
     Ok(TExpr::Comma { pos, left, right })
 }

@@ -1,5 +1,5 @@
 // Addresses inside objects, and how they move.
-#![tactic(auto, using(c_syntax::proofs::Trees::the_trees))]
+#![tactic(auto)]
 
 ghost use Rattle.std.specs.Prelude.{◌≡◌, ◌&&◌, ◌+ℤ◌, ◌*ℤ◌, ℤ, if◌then◌else◌, int_le, None, Some, map, neg_ℤ, option_map, pos, slice_get};
 ghost use Rattle.c_syntax.specs.Types.{object_tree};
@@ -90,7 +90,10 @@ fn at_distance(size: u64, n: u64, offset: u64, distance: i128) -> Option<Address
         then Some (constants.Inside n (pos offset +ℤ distance)) else None) }
 {
     let start = i128::from(offset);
-    if distance < -start || i128::from(size) - start < distance {
+    if distance < -start {
+        return None;
+    }
+    if i128::from(size) - start < distance {
         return None;
     }
     Some(Address::Inside {

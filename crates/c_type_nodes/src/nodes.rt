@@ -9,7 +9,7 @@ ghost use Rattle.c_typing.specs.World.{World};
 ghost use Rattle.c_type_operators.specs.OperandViews.{operand_tree};
 ghost use Rattle.c_type_names.specs.Views.{Answers};
 
-use crate::rows::{arrow_row, member_row};
+use crate::rows::{arrow_row, member_in};
 use c_syntax::{Op, Pos, TExpr};
 use c_type_names::{Structs, TypeError, no_rule};
 use c_type_operators::{Operand, value_type};
@@ -30,13 +30,10 @@ pub fn member(
     let shown = value_type(alloc, &operand)?;
     match operand {
         Operand::Value(_value) => Err(no_rule(alloc, &structs.defs, pos, Op::Dot, shown, None)),
-        Operand::Place(place) => {
-            let ty = place.ty().copy()?;
-            match member_row(alloc, structs, pos, name, &ty, place)? {
-                None => Err(no_rule(alloc, &structs.defs, pos, Op::Dot, shown, None)),
-                Some(member) => Ok(Operand::Place(member)),
-            }
-        }
+        Operand::Place(place) => match member_in(alloc, structs, pos, name, place)? {
+            None => Err(no_rule(alloc, &structs.defs, pos, Op::Dot, shown, None)),
+            Some(member) => Ok(Operand::Place(member)),
+        },
     }
 }
 

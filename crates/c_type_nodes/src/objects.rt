@@ -26,6 +26,7 @@ pub fn object_named(objects: &[Object], pos: Pos, n: u64) -> Result<Operand, Typ
     }
 }
 
+#[tactic(auto)]
 fn numbered_place(objects: &[Object], pos: Pos, n: u64) -> Result<Option<TLvalue>, NoMemory>
     ensures { IfOk result (λ place. option_map tlvalue_tree place
         ≡ option_map (nodes.object_place pos n) (slice_get (map object_tree objects.now) n)) }

@@ -13,9 +13,10 @@ ghost use Rattle.c_typing.specs.World.{World};
 ghost use Rattle.c_type_operators.specs.OperandViews.{operand_tree};
 ghost use Rattle.c_type_operators.specs.StoreViews.{stored_tree};
 
-use c_syntax::{CType, Pos, StepTime, StepWay, Stride, TBinaryOp, TExpr, TLvalue};
+use c_syntax::{CType, Extent, Pos, StepTime, StepWay, Stride, TBinaryOp, TExpr, TLvalue};
 use c_type_names::TypeError;
 use c_type_operators::{Operand, Stored};
+use c_written::boxed;
 use std::alloc::{AllocError as NoMemory, Global};
 
 /// The place of an operand that may be changed, or NotLvalue.
@@ -63,22 +64,36 @@ pub(crate) fn store_node(
     ensures { IfOk result (λ node. texpr_tree node ≡ nodes.store_node pos (stored_tree stored) (tlvalue_tree place)) }
 {
     match stored {
-        Stored::Scalar(value) => {
-            let place = Box::new(alloc, place)?;
-            let value = Box::new(alloc, value)?;
-            Ok(TExpr::Assign { pos, place, value })
-        }
-        Stored::Copied(extent, source) => {
-            let place = Box::new(alloc, place)?;
-            let source = Box::new(alloc, source)?;
-            Ok(TExpr::AssignStruct {
-                pos,
-                extent,
-                place,
-                source,
-            })
-        }
+        Stored::Scalar(value) => assign_node(alloc, pos, place, value),
+        Stored::Copied(extent, source) => copy_node(alloc, pos, extent, place, source),
     }
+}
+
+fn assign_node(alloc: Global, pos: Pos, place: TLvalue, value: TExpr) -> Result<TExpr, NoMemory>
+    ensures { IfOk result (λ node. texpr_tree node ≡ trees.Assign pos (tlvalue_tree place) (texpr_tree value)) }
+{
+    let place = boxed(alloc, place)?;
+    let value = boxed(alloc, value)?;
+    Ok(TExpr::Assign { pos, place, value })
+}
+
+fn copy_node(
+    alloc: Global,
+    pos: Pos,
+    extent: Extent,
+    place: TLvalue,
+    source: TExpr,
+) -> Result<TExpr, NoMemory>
+    ensures { IfOk result (λ node. texpr_tree node ≡ trees.AssignStruct pos extent (tlvalue_tree place) (texpr_tree source)) }
+{
+    let place = boxed(alloc, place)?;
+    let source = boxed(alloc, source)?;
+    Ok(TExpr::AssignStruct {
+        pos,
+        extent,
+        place,
+        source,
+    })
 }
 
 pub(crate) fn compound_node(
@@ -90,8 +105,8 @@ pub(crate) fn compound_node(
 ) -> Result<TExpr, NoMemory>
     ensures { IfOk result (λ node. texpr_tree node ≡ trees.Compound pos op (tlvalue_tree place) (texpr_tree value)) }
 {
-    let place = Box::new(alloc, place)?;
-    let value = Box::new(alloc, value)?;
+    let place = boxed(alloc, place)?;
+    let value = boxed(alloc, value)?;
     Ok(TExpr::Compound {
         pos,
         op,
@@ -110,7 +125,7 @@ pub(crate) fn step_node(
 ) -> Result<TExpr, NoMemory>
     ensures { IfOk result (λ node. texpr_tree node ≡ trees.Step pos time way stride (tlvalue_tree place)) }
 {
-    let place = Box::new(alloc, place)?;
+    let place = boxed(alloc, place)?;
     Ok(TExpr::Step {
         pos,
         time,

@@ -2,7 +2,7 @@
 #![tactic(auto)]
 
 ghost use Rattle.std.specs.Prelude.{◌≡◌, map};
-ghost use Rattle.c_syntax.specs.TypedExpr.{texpr_tree, tlvalue_tree};
+ghost use Rattle.c_syntax.specs.TypedExpr.{tlvalue_tree};
 ghost use Rattle.c_syntax.specs.TypedParts.{texpr_type};
 ghost use Rattle.c_syntax.specs.Program.{structdef_tree};
 ghost use Rattle.c_typing.specs.Nodes as nodes;
@@ -17,6 +17,7 @@ use crate::given::{given, given_place};
 use c_syntax::{DerefKind, Op, Pos, StructDefs, TExpr, TLvalue, UnaryOp};
 use c_type_names::{TypeError, no_rule};
 use c_type_operators::{Operand, Sign, is_unsized, not_row, star_row, unary_row, value_of};
+use c_written::boxed;
 use std::alloc::Global;
 
 /// A prefix operator on a typed operand. `&` of what is no place is NotLvalue; where no row has the operand's
@@ -33,26 +34,18 @@ pub fn unary(
 {
     match op {
         UnaryOp::AddressOf => address(alloc, structs, pos, operand),
-        UnaryOp::Deref => {
-            let e = value_of(alloc, operand)?;
-            pointed(alloc, structs, pos, e)
-        }
-        UnaryOp::Plus => {
-            let e = value_of(alloc, operand)?;
-            signed(alloc, structs, pos, Op::Plus, Sign::Plus, e)
-        }
-        UnaryOp::Minus => {
-            let e = value_of(alloc, operand)?;
-            signed(alloc, structs, pos, Op::Minus, Sign::Minus, e)
-        }
-        UnaryOp::Complement => {
-            let e = value_of(alloc, operand)?;
-            signed(alloc, structs, pos, Op::Complement, Sign::Complement, e)
-        }
-        UnaryOp::Not => {
-            let e = value_of(alloc, operand)?;
-            negated(alloc, structs, pos, e)
-        }
+        UnaryOp::Deref => pointed(alloc, structs, pos, operand),
+        UnaryOp::Plus => signed(alloc, structs, pos, Op::Plus, Sign::Plus, operand),
+        UnaryOp::Minus => signed(alloc, structs, pos, Op::Minus, Sign::Minus, operand),
+        UnaryOp::Complement => signed(
+            alloc,
+            structs,
+            pos,
+            Op::Complement,
+            Sign::Complement,
+            operand,
+        ),
+        UnaryOp::Not => negated(alloc, structs, pos, operand),
     }
 }
 
@@ -87,16 +80,22 @@ fn address_of(
     if is_unsized(&ty) {
         return Err(no_rule(alloc, structs, pos, Op::BitAnd, ty, None));
     }
-    let place = Box::new(alloc, place)?;
+    let place = boxed(alloc, place)?;
     Ok(Operand::Value(TExpr::AddressOf { pos, place }))
 }
 
 // `*`
-fn pointed(alloc: Global, structs: &StructDefs, pos: Pos, e: TExpr) -> Result<Operand, TypeError>
-    ensures { (w : World) → w.structs ≡ map structdef_tree structs.now
-        → Answers (λ out. out ≡ nodes.given_place (nodes.no_row w pos Op.Multiply (texpr_tree e))
-        (rows.star_row DerefKind.Star pos (texpr_type (texpr_tree e)) (texpr_tree e)) w) operand_tree w result }
+fn pointed(
+    alloc: Global,
+    structs: &StructDefs,
+    pos: Pos,
+    operand: Operand,
+) -> Result<Operand, TypeError>
+    ensures { let e = operands.value_of (operand_tree operand) in (w : World) → w.structs ≡ map structdef_tree structs.now
+        → Answers (λ out. out ≡ nodes.given_place (nodes.no_row w pos Op.Multiply e)
+        (rows.star_row DerefKind.Star pos (texpr_type e) e) w) operand_tree w result }
 {
+    let e = value_of(alloc, operand)?;
     let ty = e.ty()?;
     let row = star_row(alloc, DerefKind::Star, pos, &ty, e)?;
     given_place(alloc, structs, pos, Op::Multiply, ty, None, row)
@@ -109,23 +108,30 @@ fn signed(
     pos: Pos,
     op: Op,
     sign: Sign,
-    e: TExpr,
+    operand: Operand,
 ) -> Result<Operand, TypeError>
-    ensures { (w : World) → w.structs ≡ map structdef_tree structs.now
-        → Answers (λ out. out ≡ nodes.given (nodes.no_row w pos op (texpr_tree e))
-        (rows.unary_row (sign_at sign) pos (texpr_type (texpr_tree e)) (texpr_tree e)) w) operand_tree w result }
+    ensures { let e = operands.value_of (operand_tree operand) in (w : World) → w.structs ≡ map structdef_tree structs.now
+        → Answers (λ out. out ≡ nodes.given (nodes.no_row w pos op e)
+        (rows.unary_row (sign_at sign) pos (texpr_type e) e) w) operand_tree w result }
 {
+    let e = value_of(alloc, operand)?;
     let ty = e.ty()?;
     let row = unary_row(alloc, sign, pos, &ty, e)?;
     given(alloc, structs, pos, op, ty, None, row)
 }
 
 // `!`
-fn negated(alloc: Global, structs: &StructDefs, pos: Pos, e: TExpr) -> Result<Operand, TypeError>
-    ensures { (w : World) → w.structs ≡ map structdef_tree structs.now
-        → Answers (λ out. out ≡ nodes.given (nodes.no_row w pos Op.Not (texpr_tree e))
-        (rows.not_row pos (texpr_type (texpr_tree e)) (texpr_tree e)) w) operand_tree w result }
+fn negated(
+    alloc: Global,
+    structs: &StructDefs,
+    pos: Pos,
+    operand: Operand,
+) -> Result<Operand, TypeError>
+    ensures { let e = operands.value_of (operand_tree operand) in (w : World) → w.structs ≡ map structdef_tree structs.now
+        → Answers (λ out. out ≡ nodes.given (nodes.no_row w pos Op.Not e)
+        (rows.not_row pos (texpr_type e) e) w) operand_tree w result }
 {
+    let e = value_of(alloc, operand)?;
     let ty = e.ty()?;
     let row = not_row(alloc, pos, &ty, e)?;
     given(alloc, structs, pos, Op::Not, ty, None, row)

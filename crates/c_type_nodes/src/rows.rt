@@ -5,6 +5,7 @@ ghost use Rattle.std.specs.Prelude.{◌≡◌, ◌<◌, IfOk, IfSome, length, ma
 ghost use Rattle.std.specs.Str.{bytes_eq};
 ghost use Rattle.c_syntax.specs.Types.{ctype_tree};
 ghost use Rattle.c_syntax.specs.TypedExpr.{texpr_tree, tlvalue_tree};
+ghost use Rattle.c_syntax.specs.TypedParts.{tlvalue_type};
 ghost use Rattle.c_syntax.specs.Program.{member_tree, structdef_tree};
 ghost use Rattle.c_layout.specs.Layout as layout;
 ghost use Rattle.c_typing.specs.Rows as typing;
@@ -12,6 +13,7 @@ ghost use Rattle.c_typing.specs.Rows as typing;
 use c_syntax::{CType, DerefKind, Member, Pos, StructDefs, TExpr, TLvalue};
 use c_type_names::Structs;
 use c_type_operators::star_row;
+use c_written::boxed;
 use std::alloc::{AllocError as NoMemory, Global};
 
 /// `.`: the member of this name of a struct in a place (C11 6.5.2.3p1 and p3).
@@ -27,13 +29,25 @@ pub fn member_row(
         ≡ typing.member_row (map structdef_tree structs.now.defs) pos name.now (ctype_tree ty.now) (tlvalue_tree place)) }
 {
     match ty {
-        CType::Struct(n) => {
-            let row = member_named(alloc, structs, *n, pos, name, place)?;
-            Ok(row)
-        }
+        CType::Struct(n) => member_named(alloc, structs, *n, pos, name, place),
         CType::Void | CType::Int(_) | CType::Pointer(_) | CType::Array(_, _) | CType::Function(_) =>
             Ok(None),
     }
+}
+
+/// The same, by the type of the place.
+pub(crate) fn member_in(
+    alloc: Global,
+    structs: &Structs,
+    pos: Pos,
+    name: &[u8],
+    place: TLvalue,
+) -> Result<Option<TLvalue>, NoMemory>
+    ensures { IfOk result (λ row. option_map tlvalue_tree row ≡ typing.member_row (map structdef_tree structs.now.defs) pos name.now
+        (tlvalue_type (tlvalue_tree place)) (tlvalue_tree place)) }
+{
+    let ty = place.ty().copy()?;
+    member_row(alloc, structs, pos, name, &ty, place)
 }
 
 /// `->`, as `.` behind `*` (C11 6.5.2.3p2 and p4).
@@ -50,11 +64,7 @@ pub fn arrow_row(
 {
     match star_row(alloc, DerefKind::Arrow, pos, ty, e)? {
         None => Ok(None),
-        Some(place) => {
-            let ty = place.ty().copy()?;
-            let row = member_row(alloc, structs, pos, name, &ty, place)?;
-            Ok(row)
-        }
+        Some(place) => member_in(alloc, structs, pos, name, place),
     }
 }
 
@@ -73,10 +83,7 @@ fn member_named(
 {
     match structs.place_of(n, name) {
         None => Ok(None),
-        Some(k) => {
-            let row = member_at(alloc, members_of(&structs.defs, n), pos, k, place)?;
-            Ok(row)
-        }
+        Some(k) => member_at(alloc, members_of(&structs.defs, n), pos, k, place),
     }
 }
 
@@ -120,7 +127,7 @@ fn member_node(
 {
     let is_const = place.is_const();
     let ty = member.ty.copy()?;
-    let place = Box::new(alloc, place)?;
+    let place = boxed(alloc, place)?;
     Ok(TLvalue::Member {
         pos,
         member: k,

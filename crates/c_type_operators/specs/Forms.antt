@@ -1,13 +1,14 @@
 -- What the rows make of their operands, told by the types alone.
-use Rattle.std.specs.Prelude.{Option, Some, None, option_map}
+use Rattle.std.specs.Prelude.{Bool, ◌||◌, Option, Some, None, option_map}
 use Rattle.c_written.specs.declared.place.Pos.{Pos}
 use Rattle.c_written.specs.declared.int_type.IntType.{IntType}
 use Rattle.c_syntax.specs.declared.operator.Comparison.{Comparison}
 use Rattle.c_syntax.specs.declared.operator.Extent.{Extent}
 use Rattle.c_syntax.specs.declared.operator.TBinaryOp.TheVariants as binaries
-use Rattle.c_syntax.specs.Types.{CTypeTree, Void, Int}
+use Rattle.c_syntax.specs.Types.{CTypeTree, Void, Int, Pointer}
 use Rattle.c_syntax.specs.TypedExpr.{TExprTree, Null, Binary, Convert}
 use Rattle.c_layout.specs.Conversion.{promoted, balanced}
+use Rattle.c_layout.specs.RowTypes.{has_const_target}
 use Rattle.c_syntax.specs.TypedParts.{not_used}
 use Rattle.c_typing.specs.Operands.{as_int, as_type, as_null}
 use Rattle.c_typing.specs.Rows.{CompoundTree, Stored, Scalar, Copied, cast_node, store_row}
@@ -15,6 +16,8 @@ use Rattle.c_type_operators.specs.declared.forms.Form.{Form}
 use Rattle.c_type_operators.specs.declared.forms.Form.TheVariants as forms
 use Rattle.c_type_operators.specs.declared.equality.Equal.{Equal}
 use Rattle.c_type_operators.specs.declared.equality.Equal.TheVariants as equals
+use Rattle.c_type_operators.specs.declared.choice.Common.{Common}
+use Rattle.c_type_operators.specs.declared.choice.Common.TheVariants as commons
 use Rattle.c_type_operators.specs.declared.store.Store.{Store}
 use Rattle.c_type_operators.specs.declared.store.Store.TheVariants as stores
 use Rattle.c_type_operators.specs.declared.cast.Cast.{Cast}
@@ -40,6 +43,13 @@ equal_of (equals.Ints t u) op at left right a b =
 equal_of equals.Pointers op at left right a b = Binary at (binaries.ComparePointers op) a b
 equal_of equals.RightNull op at left right a b = Binary at (binaries.ComparePointers op) a (as_null left b)
 equal_of equals.LeftNull op at left right a b = Binary at (binaries.ComparePointers op) (as_null right a) b
+
+-- the type of two pointers to these targets
+abbrev pub common_of : Common → CTypeTree → Bool → CTypeTree → Bool → CTypeTree
+common_of commons.Target s c t d = Pointer s (has_const_target (Pointer s c) || has_const_target (Pointer t d))
+common_of commons.Left s c t d = Pointer s c
+common_of commons.Right s c t d = Pointer t d
+common_of commons.Void s c t d = Pointer Void (has_const_target (Pointer s c) || has_const_target (Pointer t d))
 
 -- a value that is stored as this type
 abbrev pub store_of : Store → CTypeTree → TExprTree → TExprTree

@@ -1,5 +1,5 @@
 // Operators between two values.
-#![tactic(auto, using(c_syntax::proofs::Trees::the_trees))]
+#![tactic(auto, using(c_syntax::proofs::TypeTrees::type_trees))]
 
 ghost use Rattle.std.specs.Prelude.{◌≡◌, IfOk, map, option_map};
 ghost use Rattle.c_syntax.specs.Types.{ctype_tree};
@@ -31,8 +31,7 @@ pub fn arithmetic_row(
         ≡ rows.balanced_row (TBinaryOp.Arithmetic op) pos (ctype_tree left.now) (ctype_tree right.now) (texpr_tree a) (texpr_tree b)) }
 {
     let form = arithmetic_form(op, left, right);
-    let row = row_of(alloc, pos, form, a, b)?;
-    Ok(row)
+    row_of(alloc, pos, form, a, b)
 }
 
 fn arithmetic_form(op: Arithmetic, left: &CType, right: &CType) -> Option<Form>
@@ -59,8 +58,7 @@ pub fn comparison_row(
         ≡ rows.balanced_row (TBinaryOp.CompareInts comparison) pos (ctype_tree left.now) (ctype_tree right.now) (texpr_tree a) (texpr_tree b)) }
 {
     let form = comparison_form(comparison, left, right);
-    let row = row_of(alloc, pos, form, a, b)?;
-    Ok(row)
+    row_of(alloc, pos, form, a, b)
 }
 
 /// What `comparison_row` makes of values of these types.
@@ -92,8 +90,7 @@ pub fn shift_row(
         ≡ rows.shift_row way pos (ctype_tree left.now) (ctype_tree right.now) (texpr_tree a) (texpr_tree b)) }
 {
     let form = shift_form(way, left, right);
-    let row = row_of(alloc, pos, form, a, b)?;
-    Ok(row)
+    row_of(alloc, pos, form, a, b)
 }
 
 fn shift_form(way: Shift, left: &CType, right: &CType) -> Option<Form>
@@ -120,8 +117,7 @@ pub fn plus_row(
         ≡ rows.plus_row (map structdef_tree structs.now) pos (ctype_tree left.now) (ctype_tree right.now) (texpr_tree a) (texpr_tree b)) }
 {
     let form = plus_form(structs, left, right);
-    let row = row_of(alloc, pos, form, a, b)?;
-    Ok(row)
+    row_of(alloc, pos, form, a, b)
 }
 
 fn plus_form(structs: &StructDefs, left: &CType, right: &CType) -> Option<Form>
@@ -169,8 +165,7 @@ pub fn minus_row(
         ≡ rows.minus_row (map structdef_tree structs.now) pos (ctype_tree left.now) (ctype_tree right.now) (texpr_tree a) (texpr_tree b)) }
 {
     let form = minus_form(structs, left, right);
-    let row = row_of(alloc, pos, form, a, b)?;
-    Ok(row)
+    row_of(alloc, pos, form, a, b)
 }
 
 fn minus_form(structs: &StructDefs, left: &CType, right: &CType) -> Option<Form>

@@ -1,5 +1,5 @@
 // Casts.
-#![tactic(auto, using(c_syntax::proofs::Trees::the_trees))]
+#![tactic(auto, using(c_syntax::proofs::TypeTrees::type_trees))]
 
 ghost use Rattle.std.specs.Prelude.{◌≡◌, IfOk, option_map};
 ghost use Rattle.c_syntax.specs.Types.{ctype_tree};
@@ -7,7 +7,8 @@ ghost use Rattle.c_syntax.specs.TypedExpr.{texpr_tree};
 ghost use Rattle.c_typing.specs.Rows as rows;
 ghost use Rattle.c_type_operators.specs.Forms.{cast_of};
 
-use crate::{convert_node, is_null_constant, is_same};
+use crate::conversions::cast_node;
+use crate::{convert_node, is_null_constant};
 use c_syntax::{CType, Pos, TExpr};
 use std::alloc::{AllocError as NoMemory, Global};
 
@@ -43,6 +44,7 @@ enum Cast {
 }
 
 // The value that is cast to this type.
+#[tactic(auto, using(c_syntax::proofs::Trees::the_trees))]
 fn cast_as(alloc: Global, pos: Pos, form: Cast, target: &CType, e: TExpr) -> Result<TExpr, NoMemory>
     ensures { IfOk result (λ node. texpr_tree node ≡ cast_of form pos (ctype_tree target.now) (texpr_tree e)) }
 {
@@ -81,19 +83,6 @@ fn cast_form(target: &CType, ty: &CType, e: &TExpr) -> Result<Option<Cast>, NoMe
         },
         CType::Array(_, _) | CType::Struct(_) | CType::Function(_) => Ok(None),
     }
-}
-
-// A cast between types of one kind, which is a node only where the type changes.
-fn cast_node(alloc: Global, pos: Pos, target: &CType, e: TExpr) -> Result<TExpr, NoMemory>
-    ensures { IfOk result (λ node. texpr_tree node ≡ rows.cast_node pos (ctype_tree target.now) (texpr_tree e)) }
-{
-    let ty = e.ty()?;
-    if is_same(target, &ty) {
-        return Ok(e);
-    }
-    let target = target.copy()?;
-    let node = convert_node(alloc, pos, target, e)?;
-    Ok(node)
 }
 
 /// Whether a cast to the first type from the second is one between a pointer and an integer (this profile).

@@ -1,5 +1,5 @@
 // `?:`, whose parts come to one type.
-#![tactic(auto, using(c_syntax::proofs::Trees::the_trees))]
+#![tactic(auto, using(c_syntax::proofs::TypeTrees::type_trees))]
 
 ghost use Rattle.std.specs.Prelude.{◌≡◌, IfOk, if◌then◌else◌, None, Some, option_map};
 ghost use Rattle.c_syntax.specs.Types.{ctype_tree};
@@ -10,10 +10,12 @@ ghost use Rattle.c_layout.specs.RowTypes as row_types;
 ghost use Rattle.c_typing.specs.Constants as constants;
 ghost use Rattle.c_typing.specs.Operands as operands;
 ghost use Rattle.c_typing.specs.Rows as rows;
+ghost use Rattle.c_type_operators.specs.Forms.{common_of};
 
 use crate::{as_null, as_type, is_null_constant, is_same_but_const, is_void, pointer_to};
 use c_layout::{balance, has_const_elements};
 use c_syntax::{CType, Pos, TExpr, Target};
+use c_written::boxed;
 use std::alloc::{AllocError as NoMemory, Global};
 use std::rc::Rc;
 
@@ -41,6 +43,7 @@ pub fn cond_row(
     }
 }
 
+#[tactic(auto, using(c_syntax::proofs::Trees::the_trees))]
 fn cond_node(
     alloc: Global,
     pos: Pos,
@@ -51,9 +54,9 @@ fn cond_node(
 ) -> Result<TExpr, NoMemory>
     ensures { IfOk result (λ node. texpr_tree node ≡ trees.Cond pos (ctype_tree ty) (texpr_tree test) (texpr_tree a) (texpr_tree b)) }
 {
-    let condition = Box::new(alloc, test)?;
-    let then = Box::new(alloc, a)?;
-    let otherwise = Box::new(alloc, b)?;
+    let condition = boxed(alloc, test)?;
+    let then = boxed(alloc, a)?;
+    let otherwise = boxed(alloc, b)?;
     Ok(TExpr::Cond {
         pos,
         ty,
@@ -77,21 +80,12 @@ fn cond_type(
     match left {
         CType::Int(t) => match right {
             CType::Int(u) => Ok(Some(CType::Int(balance(*t, *u)))),
-            CType::Pointer(_) => {
-                let ty = beside_null(right, a)?;
-                Ok(ty)
-            }
+            CType::Pointer(_) => beside_null(right, a),
             CType::Void | CType::Array(_, _) | CType::Struct(_) | CType::Function(_) => Ok(None),
         },
         CType::Pointer(s) => match right {
-            CType::Pointer(t) => {
-                let ty = cond_pointer(alloc, s, t, a, b)?;
-                Ok(ty)
-            }
-            CType::Int(_) => {
-                let ty = beside_null(left, b)?;
-                Ok(ty)
-            }
+            CType::Pointer(t) => cond_pointer(alloc, s, t, a, b),
+            CType::Int(_) => beside_null(left, b),
             CType::Void | CType::Array(_, _) | CType::Struct(_) | CType::Function(_) => Ok(None),
         },
         CType::Void | CType::Struct(_) | CType::Array(_, _) | CType::Function(_) => Ok(same_kind(
@@ -142,8 +136,20 @@ fn beside_null(pointer: &CType, other: &TExpr) -> Result<Option<CType>, NoMemory
     Ok(Some(ty))
 }
 
-// The type of two pointers: to one target, const where either is; of the one beside a null pointer constant; to
-// void where one is.
+/// The type of two pointers.
+#[derive(Clone, Copy)]
+enum Common {
+    /// To the one target of both.
+    Target,
+    /// That of the left, beside a null pointer constant.
+    Left,
+    /// That of the right, beside one.
+    Right,
+    /// To void.
+    Void,
+}
+
+// The type of two pointers to these targets.
 fn cond_pointer(
     alloc: Global,
     s: &Rc<Target>,
@@ -155,22 +161,60 @@ fn cond_pointer(
         ≡ rows.cond_pointer (ctype_tree s.now.value.ty) s.now.value.is_const (ctype_tree t.now.value.ty) t.now.value.is_const
         (texpr_tree a.now) (texpr_tree b.now)) }
 {
+    match common_form(s, t, a, b)? {
+        None => Ok(None),
+        Some(form) => {
+            let ty = common_type(alloc, form, s, t)?;
+            Ok(Some(ty))
+        }
+    }
+}
+
+// To one target, const where either is; the one beside a null pointer constant; to void where one is.
+fn common_form(
+    s: &Rc<Target>,
+    t: &Rc<Target>,
+    a: &TExpr,
+    b: &TExpr,
+) -> Result<Option<Common>, NoMemory>
+    ensures { IfOk result (λ form.
+        option_map (λ f. common_of f (ctype_tree s.now.value.ty) s.now.value.is_const (ctype_tree t.now.value.ty) t.now.value.is_const) form
+        ≡ rows.cond_pointer (ctype_tree s.now.value.ty) s.now.value.is_const (ctype_tree t.now.value.ty) t.now.value.is_const
+        (texpr_tree a.now) (texpr_tree b.now)) }
+{
     if is_same_but_const(&s.ty, &t.ty) {
-        let target = s.ty.copy()?;
-        let ty = pointer_to(alloc, target, is_const_target(s) || is_const_target(t))?;
-        return Ok(Some(ty));
+        return Ok(Some(Common::Target));
     }
     if is_null_constant(b)? {
-        return Ok(Some(CType::Pointer(s.clone()?)));
+        return Ok(Some(Common::Left));
     }
     if is_null_constant(a)? {
-        return Ok(Some(CType::Pointer(t.clone()?)));
+        return Ok(Some(Common::Right));
     }
-    if !(is_void(&s.ty) || is_void(&t.ty)) {
-        return Ok(None);
+    if is_void(&s.ty) || is_void(&t.ty) {
+        return Ok(Some(Common::Void));
     }
-    let ty = pointer_to(alloc, CType::Void, is_const_target(s) || is_const_target(t))?;
-    Ok(Some(ty))
+    Ok(None)
+}
+
+fn common_type(
+    alloc: Global,
+    form: Common,
+    s: &Rc<Target>,
+    t: &Rc<Target>,
+) -> Result<CType, NoMemory>
+    ensures { IfOk result (λ ty. ctype_tree ty
+        ≡ common_of form (ctype_tree s.now.value.ty) s.now.value.is_const (ctype_tree t.now.value.ty) t.now.value.is_const) }
+{
+    match form {
+        Common::Target => {
+            let target = s.ty.copy()?;
+            pointer_to(alloc, target, is_const_target(s) || is_const_target(t))
+        }
+        Common::Left => Ok(CType::Pointer(s.clone()?)),
+        Common::Right => Ok(CType::Pointer(t.clone()?)),
+        Common::Void => pointer_to(alloc, CType::Void, is_const_target(s) || is_const_target(t)),
+    }
 }
 
 // Whether a pointer to this target points to what is const.

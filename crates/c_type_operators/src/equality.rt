@@ -1,5 +1,5 @@
 // Comparisons.
-#![tactic(auto, using(c_syntax::proofs::Trees::the_trees))]
+#![tactic(auto, using(c_syntax::proofs::TypeTrees::type_trees))]
 
 ghost use Rattle.std.specs.Prelude.{◌≡◌, IfOk, option_map};
 ghost use Rattle.c_syntax.specs.Types.{ctype_tree};
@@ -31,8 +31,7 @@ pub fn order_row(
         ≡ rows.order_row op pos (ctype_tree left.now) (ctype_tree right.now) (texpr_tree a) (texpr_tree b)) }
 {
     let form = order_form(op, left, right);
-    let row = row_of(alloc, pos, form, a, b)?;
-    Ok(row)
+    row_of(alloc, pos, form, a, b)
 }
 
 fn order_form(op: Comparison, left: &CType, right: &CType) -> Option<Form>
@@ -136,10 +135,7 @@ fn equality_form(
 {
     match left {
         CType::Pointer(s) => match right {
-            CType::Pointer(t) => {
-                let form = pointers_form(s, t, a, b)?;
-                Ok(form)
-            }
+            CType::Pointer(t) => pointers_form(s, t, a, b),
             CType::Int(_) => if is_null_constant(b)? {
                 Ok(Some(Equal::RightNull))
             } else {

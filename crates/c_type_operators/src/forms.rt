@@ -1,6 +1,6 @@
 // What the operators on two values make of them, told by the types alone, so that only few ways lead out where
 // the values are owned.
-#![tactic(auto, using(c_syntax::proofs::Trees::the_trees))]
+#![tactic(auto, using(c_syntax::proofs::TypeTrees::type_trees))]
 
 ghost use Rattle.std.specs.Prelude.{◌≡◌, IfOk, IfSome, option_map};
 ghost use Rattle.c_syntax.specs.Types.{ctype_tree};
@@ -89,6 +89,5 @@ fn shifted(
 {
     let target = promote(t);
     let a = as_int(alloc, target, t, a)?;
-    let node = binary_node(alloc, pos, TBinaryOp::Shift(way, target), a, b)?;
-    Ok(node)
+    binary_node(alloc, pos, TBinaryOp::Shift(way, target), a, b)
 }

@@ -9,6 +9,7 @@ ghost use Rattle.c_typing.specs.Rows as rows;
 
 use crate::is_scalar;
 use c_syntax::{CType, Pos, TExpr};
+use c_written::boxed;
 use std::alloc::{AllocError as NoMemory, Global};
 
 /// `&&` of two scalars (C11 6.5.13p2).
@@ -26,8 +27,8 @@ pub fn and_row(
     if !(is_scalar(left) && is_scalar(right)) {
         return Ok(None);
     }
-    let left = Box::new(alloc, a)?;
-    let right = Box::new(alloc, b)?;
+    let left = boxed(alloc, a)?;
+    let right = boxed(alloc, b)?;
     Ok(Some(TExpr::And { pos, left, right }))
 }
 
@@ -46,7 +47,7 @@ pub fn or_row(
     if !(is_scalar(left) && is_scalar(right)) {
         return Ok(None);
     }
-    let left = Box::new(alloc, a)?;
-    let right = Box::new(alloc, b)?;
+    let left = boxed(alloc, a)?;
+    let right = boxed(alloc, b)?;
     Ok(Some(TExpr::Or { pos, left, right }))
 }

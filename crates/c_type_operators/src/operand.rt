@@ -10,6 +10,7 @@ ghost use Rattle.c_typing.specs.Operands as operands;
 ghost use Rattle.c_type_operators.specs.OperandViews.{operand_tree};
 
 use c_syntax::{CType, TExpr, TLvalue, Target};
+use c_written::boxed;
 use std::alloc::{AllocError as NoMemory, Global};
 use std::rc::Rc;
 
@@ -40,15 +41,15 @@ fn read(alloc: Global, place: TLvalue) -> Result<TExpr, NoMemory>
     let pos = place.pos();
     match place.ty() {
         CType::Array(_, _) => {
-            let place = Box::new(alloc, place)?;
+            let place = boxed(alloc, place)?;
             Ok(TExpr::Decay { pos, place })
         }
         CType::Struct(_) => {
-            let place = Box::new(alloc, place)?;
+            let place = boxed(alloc, place)?;
             Ok(TExpr::Whole { pos, place })
         }
         CType::Void | CType::Int(_) | CType::Pointer(_) | CType::Function(_) => {
-            let place = Box::new(alloc, place)?;
+            let place = boxed(alloc, place)?;
             Ok(TExpr::Load { pos, place })
         }
     }

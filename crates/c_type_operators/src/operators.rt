@@ -1,5 +1,5 @@
 // Operators on constants: each gives a number where nothing goes wrong.
-#![tactic(auto, using(c_syntax::proofs::Trees::the_trees))]
+#![tactic(auto, using(c_syntax::proofs::TypeTrees::type_trees))]
 
 ghost use Rattle.std.specs.Prelude.{◌≡◌, ◌&&◌, ◌||◌};
 ghost use Rattle.c_syntax.specs.Types.{ctype_tree};

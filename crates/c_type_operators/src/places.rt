@@ -10,6 +10,7 @@ ghost use Rattle.c_typing.specs.Rows as rows;
 
 use crate::plus_row;
 use c_syntax::{CType, DerefKind, Pos, StructDefs, TExpr, TLvalue, Target};
+use c_written::boxed;
 use std::alloc::{AllocError as NoMemory, Global};
 use std::rc::Rc;
 
@@ -24,10 +25,7 @@ pub fn star_row(
     ensures { IfOk result (λ row. option_map tlvalue_tree row ≡ rows.star_row kind pos (ctype_tree ty.now) (texpr_tree e)) }
 {
     match ty {
-        CType::Pointer(to) => {
-            let row = pointed(alloc, kind, pos, to, e)?;
-            Ok(row)
-        }
+        CType::Pointer(to) => pointed(alloc, kind, pos, to, e),
         CType::Void | CType::Int(_) | CType::Array(_, _) | CType::Struct(_) | CType::Function(_) =>
             Ok(None),
     }
@@ -52,7 +50,7 @@ fn pointed(
         | CType::Struct(_)
         | CType::Function(_) => {
             let ty = to.ty.copy()?;
-            let pointer = Box::new(alloc, e)?;
+            let pointer = boxed(alloc, e)?;
             Ok(Some(TLvalue::Deref {
                 pos,
                 kind,
@@ -81,8 +79,7 @@ pub fn index_row(
         None => Ok(None),
         Some(sum) => {
             let ty = sum.ty()?;
-            let row = star_row(alloc, DerefKind::Index, pos, &ty, sum)?;
-            Ok(row)
+            star_row(alloc, DerefKind::Index, pos, &ty, sum)
         }
     }
 }

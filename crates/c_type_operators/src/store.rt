@@ -1,5 +1,5 @@
 // Values that are stored.
-#![tactic(auto, using(c_syntax::proofs::Trees::the_trees))]
+#![tactic(auto, using(c_syntax::proofs::TypeTrees::type_trees))]
 
 ghost use Rattle.std.specs.Prelude.{◌≡◌, ◌||◌, IfOk, map, option_map};
 ghost use Rattle.c_syntax.specs.Types.{ctype_tree};
@@ -79,10 +79,7 @@ fn store_form(target: &CType, ty: &CType, e: &TExpr) -> Result<Option<Store>, No
             | CType::Function(_) => Ok(None),
         },
         CType::Pointer(to) => match ty {
-            CType::Pointer(from) => {
-                let form = pointer_form(target, &to.ty, ty, &from.ty, e)?;
-                Ok(form)
-            }
+            CType::Pointer(from) => pointer_form(target, &to.ty, ty, &from.ty, e),
             CType::Int(_) => if is_null_constant(e)? {
                 Ok(Some(Store::Null))
             } else {
@@ -137,10 +134,7 @@ pub fn stored_row(
 {
     match copied_extent(structs, target, ty) {
         Some(extent) => Ok(Some(Stored::Copied(extent, e))),
-        None => {
-            let row = stored_scalar(alloc, target, ty, e)?;
-            Ok(row)
-        }
+        None => stored_scalar(alloc, target, ty, e),
     }
 }
 

@@ -1,10 +1,11 @@
 // The values of expressions that are constant.
-#![tactic(auto, using(c_syntax::proofs::Trees::the_trees, crate::proofs::Equations::the_values))]
+#![tactic(auto, using(c_syntax::proofs::TypeTrees::type_trees, c_syntax::proofs::TypedExprTrees::typed_expr_trees, crate::proofs::Equations::the_values))]
 
 ghost use Rattle.std.specs.Prelude.{◌≡◌, IfOk};
 ghost use Rattle.c_syntax.specs.Types.{ctype_tree};
 ghost use Rattle.c_syntax.specs.TypedExpr.{texpr_tree};
 ghost use Rattle.c_syntax.specs.TypedExpr as trees;
+ghost use Rattle.c_syntax.specs.TypedParts.{texpr_type};
 ghost use Rattle.c_written.specs.declared.place.Pos.{Pos};
 ghost use Rattle.c_typing.specs.Constants as constants;
 
@@ -12,7 +13,7 @@ use crate::is_void;
 use crate::operators::{
     and_constant, binary_constant, chosen_constant, converted_constant, or_constant, unary_constant,
 };
-use c_syntax::{CType, TExpr};
+use c_syntax::{CType, TBinaryOp, TExpr, TUnaryOp};
 use std::alloc::AllocError as NoMemory;
 
 /// The value of an integer constant expression (C11 6.6p6), or `None` where the expression is none or a node
@@ -24,8 +25,7 @@ pub fn constant_value(e: &TExpr) -> Result<Option<i128>, NoMemory>
         TExpr::Const { value, .. } => Ok(Some(*value)),
         TExpr::Unary { op, operand, .. } => {
             let value = constant_value(operand)?;
-            let ty = operand.ty()?;
-            Ok(unary_constant(*op, &ty, value))
+            unary_value(*op, operand, value)
         }
         TExpr::Binary {
             op,
@@ -35,9 +35,7 @@ pub fn constant_value(e: &TExpr) -> Result<Option<i128>, NoMemory>
         } => {
             let a = constant_value(left)?;
             let b = constant_value(right)?;
-            let t = left.ty()?;
-            let u = right.ty()?;
-            Ok(binary_constant(*op, &t, &u, a, b))
+            binary_value(*op, left, right, a, b)
         }
         TExpr::Convert { ty, operand, .. } => {
             let value = constant_value(operand)?;
@@ -80,6 +78,30 @@ pub fn constant_value(e: &TExpr) -> Result<Option<i128>, NoMemory>
         | TExpr::Assume { .. }
         | TExpr::Assert { .. } => Ok(None),
     }
+}
+
+// An operator on the value of an operand.
+fn unary_value(op: TUnaryOp, operand: &TExpr, value: Option<i128>) -> Result<Option<i128>, NoMemory>
+    ensures { IfOk result (λ n. n ≡ constants.unary_constant op (texpr_type (texpr_tree operand.now)) value) }
+{
+    let ty = operand.ty()?;
+    Ok(unary_constant(op, &ty, value))
+}
+
+// An operator on the values of two operands.
+fn binary_value(
+    op: TBinaryOp,
+    left: &TExpr,
+    right: &TExpr,
+    a: Option<i128>,
+    b: Option<i128>,
+) -> Result<Option<i128>, NoMemory>
+    ensures { IfOk result (λ n. n
+        ≡ constants.binary_constant op (texpr_type (texpr_tree left.now)) (texpr_type (texpr_tree right.now)) a b) }
+{
+    let t = left.ty()?;
+    let u = right.ty()?;
+    Ok(binary_constant(op, &t, &u, a, b))
 }
 
 // Whether it is a constant expression of value 0.
