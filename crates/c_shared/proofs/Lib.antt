@@ -1,5 +1,6 @@
+pub mod For
+pub mod Shapes
 pub mod SharedExprTrees
 pub mod SharedStmtTrees
 pub mod SharedTrees
 mod Shared
-mod Shapes

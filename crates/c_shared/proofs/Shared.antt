@@ -1,22 +1,16 @@
--- A list that is shared item by item, where each share has the tree of what was gone through; and what a `for` is made of.
-use Rattle.std.proofs.Common.{◌≡◌, ℕ, ◌+◌, ◌*◌, ◌<◌, List, [], ◌∷◌, ◌++◌, map, length, take, get_or, refl, sym, ap, ◌∙◌, arith}
-use Rattle.std.specs.Prelude.{Option, option_map}
-use Rattle.std.specs.declared.boxed.Box.{Box}
+-- A list that is shared item by item, where each share has the tree of what was gone through.
+use Rattle.std.proofs.Common.{◌≡◌, ℕ, ◌+◌, ◌<◌, List, [], ◌∷◌, ◌++◌, map, length, take, get_or, refl, sym, ap, ◌∙◌}
 use Rattle.std.specs.declared.rc.Rc.{Rc}
 use Rattle.std.specs.declared.alloc.Global.{Global}
 use Rattle.std.proofs.lemmas.List.{take_more}
-use Rattle.c_written.specs.declared.place.Pos.{Pos}
 use Rattle.c_syntax.specs.declared.typed.TExpr.{TExpr}
 use Rattle.c_syntax.specs.declared.statement.TInit.{TInit}
 use Rattle.c_syntax.specs.declared.statement.TStmt.{TStmt}
-use Rattle.c_syntax.specs.declared.statement.TStmt.TheVariants as sources
-use Rattle.c_syntax.specs.declared.statement.TStmts.{TStmts}
-use Rattle.c_syntax.specs.Sizes.{tstmt_size, tstmts_size}
 use Rattle.c_syntax.specs.TypedExpr.{texpr_tree, texprs_from, texprs_then, more}
-use Rattle.c_syntax.specs.TypedStmt.{TInitTree, TStmtTree, TStmtTrees, tinit_tree, tstmt_tree, tstmts_from, tstmts_then, tstmts_tree}
+use Rattle.c_syntax.specs.TypedStmt.{tinit_tree, tstmt_tree, tstmts_from, tstmts_then}
 use Rattle.c_syntax.specs.TypedStmt as stmts
 use Rattle.c_syntax.proofs.TypedExprTrees.{texprs_push}
-use Rattle.c_syntax.proofs.TypedStmtTrees.{tstmt_for, tstmts_push}
+use Rattle.c_syntax.proofs.TypedStmtTrees.{tstmts_push}
 use Rattle.c_shared.specs.declared.expression.SharedExpr.{SharedExpr}
 use Rattle.c_shared.specs.declared.statement.SharedInit.{SharedInit}
 use Rattle.c_shared.specs.declared.statement.SharedStmt.{SharedStmt}
@@ -67,13 +61,3 @@ pub one_more_init : (shares : List SharedInit) (items : List TInit) (i : ℕ) (s
     → i < length items → inits_from shares ≡ map tinit_tree (take i items) → item ≡ get_or items i item → init_tree share ≡ tinit_tree item
     → inits_from (shares ++ share ∷ []) ≡ map tinit_tree (take (i + 1) items)
 one_more_init = one_more inits_from (map tinit_tree) (λ items last. items ++ last ∷ []) init_tree tinit_tree (map_push init_tree) (map_push tinit_tree)
-
-pub for_tree : (stmt : TStmt) (at : Pos) (objects : List ℕ) (head : TStmts) (condition step : Option TExpr) (body : Box TStmt Global)
-    → stmt ≡ sources.For at objects head condition step body
-    → tstmt_tree stmt ≡ stmts.For at objects (tstmts_tree head) (option_map texpr_tree condition) (option_map texpr_tree step) (tstmt_tree body.value)
-for_tree stmt at objects head condition step body e = ap tstmt_tree e ∙ tstmt_for at objects head condition step body
-
-pub for_falls : (stmt : TStmt) (at : Pos) (objects : List ℕ) (head : TStmts) (condition step : Option TExpr) (body : Box TStmt Global)
-    → stmt ≡ sources.For at objects head condition step body
-    → 4 * (tstmts_size (tstmts_tree head) + tstmt_size (tstmt_tree body.value)) + 3 < 4 * tstmt_size (tstmt_tree stmt)
-for_falls stmt at objects head condition step body e = rw (for_tree stmt at objects head condition step body e) (omega arith)

@@ -1,6 +1,6 @@
 // Typed expressions and places are given parts that are shared, from the leaves up. A node with more
 // than one part has a function of its own.
-#![tactic(auto, using(c_syntax::proofs::Trees::the_trees, c_syntax::proofs::Sizes::the_typed_sizes, crate::proofs::SharedTrees::the_shared_trees))]
+#![tactic(auto, using(crate::proofs::SharedExprTrees::shared_expr_trees))]
 
 ghost use Rattle.std.specs.Prelude.{◌≡◌, IfOk};
 ghost use Rattle.c_syntax.specs.TypedExpr.{texpr_tree, texprs_tree, tlvalue_tree};
@@ -15,6 +15,7 @@ use std::alloc::{AllocError as NoMemory, Global};
 use std::rc::Rc;
 
 /// The expression with parts that are shared.
+#[tactic(auto, using(c_syntax::proofs::TypedExprTrees::typed_expr_trees))]
 #[cycle(shares)]
 pub fn share_expr(alloc: Global, expr: &TExpr) -> Result<SharedExpr, NoMemory>
     ensures { IfOk result (λ node. expr_tree node ≡ texpr_tree expr.now) }
@@ -51,6 +52,7 @@ pub fn share_expr(alloc: Global, expr: &TExpr) -> Result<SharedExpr, NoMemory>
 }
 
 // An expression that holds no other and no place.
+#[tactic(auto, using(c_syntax::proofs::TypedExprTrees::typed_expr_trees, crate::proofs::SharedExprTrees::shared_expr_trees))]
 fn share_leaf(expr: &TExpr) -> Result<SharedExpr, NoMemory>
     requires { IsLeaf (texpr_tree expr.now) }
     ensures { IfOk result (λ node. expr_tree node ≡ texpr_tree expr.now) }
@@ -71,6 +73,7 @@ fn share_leaf(expr: &TExpr) -> Result<SharedExpr, NoMemory>
 }
 
 // An expression that holds one place.
+#[tactic(auto, unfolding(c_syntax::specs::TypedExpr::texpr_tree, crate::specs::Expressions::expr_tree))]
 #[cycle(shares)]
 fn share_use(alloc: Global, expr: &TExpr) -> Result<SharedExpr, NoMemory>
     requires { IsUseOfPlace (texpr_tree expr.now) }
@@ -111,6 +114,7 @@ fn share_use(alloc: Global, expr: &TExpr) -> Result<SharedExpr, NoMemory>
 }
 
 // An expression that holds one other.
+#[tactic(auto, unfolding(c_syntax::specs::TypedExpr::texpr_tree, crate::specs::Expressions::expr_tree))]
 #[cycle(shares)]
 fn share_operation(alloc: Global, expr: &TExpr) -> Result<SharedExpr, NoMemory>
     requires { HasOneOperand (texpr_tree expr.now) }
@@ -136,6 +140,7 @@ fn share_operation(alloc: Global, expr: &TExpr) -> Result<SharedExpr, NoMemory>
 }
 
 // An expression that holds several others.
+#[tactic(auto, using(c_syntax::proofs::TypedExprTrees::typed_expr_trees))]
 #[cycle(shares)]
 fn share_operations(alloc: Global, expr: &TExpr) -> Result<SharedExpr, NoMemory>
     requires { HasOperands (texpr_tree expr.now) }
@@ -163,6 +168,7 @@ fn share_operations(alloc: Global, expr: &TExpr) -> Result<SharedExpr, NoMemory>
 }
 
 // An expression that holds a place and what goes there.
+#[tactic(auto, using(c_syntax::proofs::TypedExprTrees::typed_expr_trees))]
 #[cycle(shares)]
 fn share_assignment(alloc: Global, expr: &TExpr) -> Result<SharedExpr, NoMemory>
     requires { IsAssignment (texpr_tree expr.now) }
@@ -187,6 +193,7 @@ fn share_assignment(alloc: Global, expr: &TExpr) -> Result<SharedExpr, NoMemory>
 }
 
 /// The place with parts that are shared.
+#[tactic(auto, using(c_syntax::proofs::TypedExprTrees::typed_expr_trees, crate::proofs::SharedExprTrees::shared_expr_trees))]
 #[cycle(shares)]
 pub fn share_place(alloc: Global, place: &TLvalue) -> Result<SharedPlace, NoMemory>
     ensures { IfOk result (λ node. place_tree node ≡ tlvalue_tree place.now) }
@@ -284,6 +291,7 @@ fn share_call(
 }
 
 /// The expressions, each shared.
+#[tactic(auto, using(c_syntax::proofs::TypedExprTrees::typed_expr_trees, c_syntax::proofs::Sizes::the_typed_sizes, crate::proofs::SharedExprTrees::shared_expr_trees))]
 #[cycle(shares)]
 pub fn share_exprs(alloc: Global, exprs: &TExprs) -> Result<SharedExprs, NoMemory>
     ensures { IfOk result (λ list. exprs_tree list ≡ texprs_tree exprs.now) }

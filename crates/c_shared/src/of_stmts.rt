@@ -1,5 +1,5 @@
 // Typed statements, and what initialises an object, are given parts that are shared.
-#![tactic(auto, using(c_syntax::proofs::Trees::the_trees, c_syntax::proofs::Sizes::the_typed_sizes, crate::proofs::SharedTrees::the_shared_trees))]
+#![tactic(auto, using(crate::proofs::SharedStmtTrees::shared_stmt_trees))]
 
 ghost use Rattle.std.specs.Prelude.{◌≡◌, IfOk, map, option_map};
 ghost use Rattle.c_syntax.specs.TypedExpr.{texpr_tree};
@@ -17,6 +17,7 @@ use std::alloc::{AllocError as NoMemory, Global};
 use std::rc::Rc;
 
 /// The item with a value that is shared.
+#[tactic(auto, using(c_syntax::proofs::TypedStmtTrees::typed_stmt_trees, crate::proofs::SharedStmtTrees::shared_stmt_trees))]
 pub fn share_init(alloc: Global, init: &TInit) -> Result<SharedInit, NoMemory>
     ensures { IfOk result (λ item. init_tree item ≡ tinit_tree init.now) }
 {
@@ -50,6 +51,7 @@ pub fn share_inits(alloc: Global, inits: &TInits) -> Result<SharedInits, NoMemor
 }
 
 /// The statement with parts that are shared.
+#[tactic(auto, using(c_syntax::proofs::TypedStmtTrees::typed_stmt_trees))]
 #[cycle(shares)]
 pub fn share_stmt(alloc: Global, stmt: &TStmt) -> Result<SharedStmt, NoMemory>
     ensures { IfOk result (λ node. stmt_tree node ≡ tstmt_tree stmt.now) }
@@ -92,6 +94,7 @@ pub fn share_stmt(alloc: Global, stmt: &TStmt) -> Result<SharedStmt, NoMemory>
 }
 
 // A statement that holds no expression and no other statement.
+#[tactic(auto, using(c_syntax::proofs::TypedStmtTrees::typed_stmt_trees, crate::proofs::SharedStmtTrees::shared_stmt_trees))]
 fn share_bare(stmt: &TStmt) -> SharedStmt
     requires { HoldsNothing (tstmt_tree stmt.now) }
     ensures { stmt_tree result ≡ tstmt_tree stmt.now }
@@ -122,6 +125,7 @@ fn share_bare(stmt: &TStmt) -> SharedStmt
 }
 
 // A statement that holds expressions and no other statement.
+#[tactic(auto, using(c_syntax::proofs::TypedStmtTrees::typed_stmt_trees, crate::proofs::SharedStmtTrees::shared_stmt_trees))]
 fn share_plain(alloc: Global, stmt: &TStmt) -> Result<SharedStmt, NoMemory>
     requires { HoldsExpressions (tstmt_tree stmt.now) }
     ensures { IfOk result (λ node. stmt_tree node ≡ tstmt_tree stmt.now) }
@@ -151,6 +155,7 @@ fn share_plain(alloc: Global, stmt: &TStmt) -> Result<SharedStmt, NoMemory>
 }
 
 // A statement that goes by a condition.
+#[tactic(auto, using(c_syntax::proofs::TypedStmtTrees::typed_stmt_trees))]
 #[cycle(shares)]
 fn share_guarded(alloc: Global, stmt: &TStmt) -> Result<SharedStmt, NoMemory>
     requires { IsGuarded (tstmt_tree stmt.now) }
@@ -178,6 +183,7 @@ fn share_guarded(alloc: Global, stmt: &TStmt) -> Result<SharedStmt, NoMemory>
 }
 
 /// The statements, each shared.
+#[tactic(auto, using(c_syntax::proofs::TypedStmtTrees::typed_stmt_trees, c_syntax::proofs::Sizes::the_typed_sizes, crate::proofs::SharedStmtTrees::shared_stmt_trees))]
 #[cycle(shares)]
 pub fn share_stmts(alloc: Global, stmts: &TStmts) -> Result<SharedStmts, NoMemory>
     ensures { IfOk result (λ list. stmts_tree list ≡ tstmts_tree stmts.now) }

@@ -1,5 +1,5 @@
 -- Lists that are settled one by one.
-use Rattle.std.proofs.Common.{◌≡◌, ℕ, ◌+◌, ◌<◌, List, [], ◌∷◌, ◌++◌, refl, sym, ap, ◌∙◌, map, length, take, get_or}
+use Rattle.std.proofs.Common.{◌≡◌, ℕ, ◌+◌, ◌<◌, List, [], ◌∷◌, ◌++◌, refl, sym, ap, ◌∙◌, map, length, take, get_or, arith}
 use Rattle.std.specs.Prelude.{reverse}
 use Rattle.std.proofs.lemmas.List.{reverse-append, reverse-reverse, take_more}
 use Rattle.c_syntax.specs.declared.typed.TExpr.{TExpr}
@@ -97,3 +97,12 @@ list_one_more tree settle done left new x y total e same p =
 pub list_ended : {A T : Type 0} (tree : A → T) (settle : T → T) (done left : List A) (total : List T) → left ≡ []
     → onto tree done (map settle (map tree (reverse left))) ≡ total → map tree done ≡ total
 list_ended tree settle done left total e p = sym (ap (λ xs. onto tree done (map settle (map tree (reverse xs)))) e ∙ onto_none tree done) ∙ p
+
+-- the statements that were settled one by one are a list that is settled
+pub stmts_ended : (objects : List ObjectTree) (done items : List TStmt)
+    → map tstmt_tree done ≡ map (settled_stmt objects) (map tstmt_tree items) → tstmts_from done ≡ settled_stmts objects (tstmts_from items)
+unfolding tstmts_from settled_stmts
+stmts_ended objects [] [] e = refl
+stmts_ended objects [] (item ∷ items) e = absurd (grind (arith, e))
+stmts_ended objects (next ∷ done) [] e = absurd (grind (arith, e))
+stmts_ended objects (next ∷ done) (item ∷ items) e = grind (arith, e, stmts_ended objects done items)

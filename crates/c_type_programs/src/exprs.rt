@@ -1,5 +1,5 @@
 // Expressions and places. A node with more than one part has a function of its own.
-#![tactic(auto, using(c_syntax::proofs::Trees::the_trees, c_syntax::proofs::Sizes::the_typed_sizes, crate::proofs::Lines::the_settled))]
+#![tactic(auto, unfolding(c_syntax::specs::TypedExpr::texpr_tree, c_typing::specs::Settled::settled_expr))]
 
 ghost use Rattle.std.specs.Prelude.{◌≡◌, IfOk, map};
 ghost use Rattle.c_syntax.specs.TypedExpr.{texpr_tree, texprs_tree, tlvalue_tree};
@@ -9,9 +9,11 @@ ghost use Rattle.c_typing.specs.Settled as typing;
 ghost use Rattle.c_shared.specs.Shapes.{HasOneOperand, HasOperands, IsAssignment, IsLeaf, IsUseOfPlace};
 
 use c_syntax::{CType, DerefKind, Extent, Object, Pos, TBinaryOp, TExpr, TExprs, TLvalue};
+use c_written::boxed;
 use std::alloc::{AllocError as NoMemory, Global};
 
 /// The expression with the types that objects have at the end of the file.
+#[tactic(auto, using(c_syntax::proofs::TypedExprTrees::typed_expr_trees))]
 #[cycle(settles)]
 pub fn settled_expr(alloc: Global, objects: &[Object], e: &TExpr) -> Result<TExpr, NoMemory>
     ensures { IfOk result (λ last. texpr_tree last ≡ typing.settled_expr (map object_tree objects.now) (texpr_tree e.now)) }
@@ -48,6 +50,7 @@ pub fn settled_expr(alloc: Global, objects: &[Object], e: &TExpr) -> Result<TExp
 }
 
 // An expression that holds no other and no place, which stays as it is.
+#[tactic(auto, using(c_syntax::proofs::TypedExprTrees::typed_expr_trees, crate::proofs::Lines::the_settled))]
 fn same_leaf(objects: &[Object], e: &TExpr) -> Result<TExpr, NoMemory>
     requires { IsLeaf (texpr_tree e.now) }
     ensures { IfOk result (λ last. texpr_tree last ≡ typing.settled_expr (map object_tree objects.now) (texpr_tree e.now)) }
@@ -135,6 +138,7 @@ fn settled_operation(alloc: Global, objects: &[Object], e: &TExpr) -> Result<TEx
 }
 
 // An expression that holds several others.
+#[tactic(auto, using(c_syntax::proofs::TypedExprTrees::typed_expr_trees))]
 #[cycle(settles)]
 fn settled_operations(alloc: Global, objects: &[Object], e: &TExpr) -> Result<TExpr, NoMemory>
     requires { HasOperands (texpr_tree e.now) }
@@ -162,6 +166,7 @@ fn settled_operations(alloc: Global, objects: &[Object], e: &TExpr) -> Result<TE
 }
 
 // An expression that holds a place and what goes there.
+#[tactic(auto, using(c_syntax::proofs::TypedExprTrees::typed_expr_trees))]
 #[cycle(settles)]
 fn settled_assignment(alloc: Global, objects: &[Object], e: &TExpr) -> Result<TExpr, NoMemory>
     requires { IsAssignment (texpr_tree e.now) }
@@ -186,6 +191,7 @@ fn settled_assignment(alloc: Global, objects: &[Object], e: &TExpr) -> Result<TE
 }
 
 /// The place with the types that objects have at the end of the file.
+#[tactic(auto, unfolding(c_syntax::specs::TypedExpr::tlvalue_tree, c_typing::specs::Settled::settled_place))]
 #[cycle(settles)]
 pub fn settled_place(
     alloc: Global,
@@ -235,6 +241,7 @@ fn last_type(objects: &[Object], object: u64, ty: &CType) -> Result<CType, NoMem
     }
 }
 
+#[tactic(auto, unfolding(c_syntax::specs::TypedExpr::tlvalue_tree, c_typing::specs::Settled::settled_place))]
 #[cycle(settles)]
 fn settled_deref(
     alloc: Global,
@@ -257,6 +264,7 @@ fn settled_deref(
     })
 }
 
+#[tactic(auto, unfolding(c_syntax::specs::TypedExpr::tlvalue_tree, c_typing::specs::Settled::settled_place))]
 #[cycle(settles)]
 fn settled_member(
     alloc: Global,
@@ -281,6 +289,7 @@ fn settled_member(
     })
 }
 
+#[tactic(auto, using(c_syntax::proofs::TypedExprTrees::typed_expr_trees, crate::proofs::Lines::the_settled))]
 #[cycle(settles)]
 fn settled_call(
     alloc: Global,
@@ -304,6 +313,7 @@ fn settled_call(
 }
 
 /// The expressions with the types that objects have at the end of the file.
+#[tactic(auto, using(c_syntax::proofs::TypedExprTrees::typed_expr_trees, c_syntax::proofs::Sizes::the_typed_sizes, crate::proofs::Lines::the_settled))]
 #[cycle(settles)]
 pub fn settled_exprs(alloc: Global, objects: &[Object], list: &TExprs) -> Result<TExprs, NoMemory>
     ensures { IfOk result (λ last. texprs_tree last ≡ typing.settled_exprs (map object_tree objects.now) (texprs_tree list.now)) }
@@ -517,7 +527,7 @@ fn boxed_expr(alloc: Global, objects: &[Object], e: &TExpr) -> Result<Box<TExpr>
     ensures { IfOk result (λ last. texpr_tree last.value ≡ typing.settled_expr (map object_tree objects.now) (texpr_tree e.now)) }
 {
     let last = settled_expr(alloc, objects, e)?;
-    Ok(Box::new(alloc, last)?)
+    boxed(alloc, last)
 }
 
 #[cycle(settles)]
@@ -525,5 +535,5 @@ fn boxed_place(alloc: Global, objects: &[Object], place: &TLvalue) -> Result<Box
     ensures { IfOk result (λ last. tlvalue_tree last.value ≡ typing.settled_place (map object_tree objects.now) (tlvalue_tree place.now)) }
 {
     let last = settled_place(alloc, objects, place)?;
-    Ok(Box::new(alloc, last)?)
+    boxed(alloc, last)
 }

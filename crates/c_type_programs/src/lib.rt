@@ -15,9 +15,9 @@
 //! | statements | `settled_stmt`, `settled_stmts` | `settled_stmt`, `settled_stmts` |
 //! | a function | `settled_function` | `settled_function` |
 //!
-//! A tree is made anew from the one that is there, node by node; a type is shared. The body that a function had is let go of
-//! before the next function is settled, so that one body at most is there twice. Trees nest no deeper than the text does, and
-//! lists are walked by loops.
+//! A tree is made anew from the one that is there, node by node; a type is shared. Each item of the body that a function had
+//! is let go of before the next is settled, so that one item at most is there twice. Trees nest no deeper than the text does,
+//! and lists are walked by loops.
 //!
 //! # The typed program at the end of its file
 //!
@@ -38,11 +38,13 @@
 #![tactic(auto)]
 
 mod exprs;
+mod functions;
 mod initials;
 mod programs;
 mod stmts;
 
 pub use exprs::{settled_expr, settled_exprs, settled_place};
+pub use functions::settled_function;
 pub use initials::static_initials;
 pub use programs::program_of;
-pub use stmts::{settled_function, settled_init, settled_inits, settled_stmt, settled_stmts};
+pub use stmts::{settled_init, settled_inits, settled_stmt, settled_stmts};

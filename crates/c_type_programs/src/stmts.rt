@@ -1,8 +1,7 @@
-// Statements, what initialises objects, and functions. A node with more than one part has a function of its own.
-#![tactic(auto, using(c_syntax::proofs::Trees::the_trees, c_syntax::proofs::Sizes::the_typed_sizes, crate::proofs::StmtLines::the_settled_stmts))]
+// Statements, and what initialises objects. A node with more than one part has a function of its own.
+#![tactic(auto, using(c_syntax::proofs::TypedStmtTrees::typed_stmt_trees, crate::proofs::StmtLines::the_settled_stmts))]
 
 ghost use Rattle.std.specs.Prelude.{◌≡◌, IfOk, map, option_map};
-ghost use Rattle.c_syntax.specs.Program.{tfunction_tree};
 ghost use Rattle.c_syntax.specs.TypedExpr.{texpr_tree};
 ghost use Rattle.c_syntax.specs.TypedStmt.{tinit_tree, tstmt_tree, tstmts_tree};
 ghost use Rattle.c_syntax.specs.TypedStmt as trees;
@@ -11,49 +10,12 @@ ghost use Rattle.c_typing.specs.Settled as typing;
 ghost use Rattle.c_shared.specs.Shapes.{HoldsExpressions, HoldsNothing, IsGuarded};
 
 use crate::exprs::settled_expr;
-use c_syntax::{BlockKind, Numbers, Object, Pos, TExpr, TFunction, TInit, TInits, TStmt, TStmts};
+use c_syntax::{BlockKind, Numbers, Object, Pos, TExpr, TInit, TInits, TStmt, TStmts};
+use c_written::boxed;
 use std::alloc::{AllocError as NoMemory, Global};
 
-/// The function with the types that objects have at the end of the file. The body that it had is let go of.
-pub fn settled_function(
-    alloc: Global,
-    objects: &[Object],
-    function: TFunction,
-) -> Result<TFunction, NoMemory>
-    ensures { IfOk result (λ last. tfunction_tree last ≡ typing.settled_function (map object_tree objects.now) (tfunction_tree function)) }
-{
-    let TFunction {
-        name,
-        pos,
-        params,
-        result,
-        body,
-    } = function;
-    let body = settled_body(alloc, objects, &body)?;
-    Ok(TFunction {
-        name,
-        pos,
-        params,
-        result,
-        body,
-    })
-}
-
-// A body that may be missing.
-fn settled_body(
-    alloc: Global,
-    objects: &[Object],
-    body: &Option<TStmt>,
-) -> Result<Option<TStmt>, NoMemory>
-    ensures { IfOk result (λ last. option_map tstmt_tree last ≡ option_map (typing.settled_stmt (map object_tree objects.now)) (option_map tstmt_tree body.now)) }
-{
-    match body {
-        None => Ok(None),
-        Some(body) => Ok(Some(settled_stmt(alloc, objects, body)?)),
-    }
-}
-
 /// The statement with the types that objects have at the end of the file.
+#[tactic(auto, using(c_syntax::proofs::TypedStmtTrees::typed_stmt_trees))]
 #[cycle(settles)]
 pub fn settled_stmt(alloc: Global, objects: &[Object], stmt: &TStmt) -> Result<TStmt, NoMemory>
     ensures { IfOk result (λ last. tstmt_tree last ≡ typing.settled_stmt (map object_tree objects.now) (tstmt_tree stmt.now)) }
@@ -155,6 +117,7 @@ fn settled_plain(alloc: Global, objects: &[Object], stmt: &TStmt) -> Result<TStm
 }
 
 // A statement that goes by a condition.
+#[tactic(auto, using(c_syntax::proofs::TypedStmtTrees::typed_stmt_trees))]
 #[cycle(settles)]
 fn settled_guarded(alloc: Global, objects: &[Object], stmt: &TStmt) -> Result<TStmt, NoMemory>
     requires { IsGuarded (tstmt_tree stmt.now) }
@@ -305,6 +268,7 @@ fn settled_for(
 }
 
 /// The statements with the types that objects have at the end of the file.
+#[tactic(auto, using(c_syntax::proofs::TypedStmtTrees::typed_stmt_trees, c_syntax::proofs::Sizes::the_typed_sizes, crate::proofs::StmtLines::the_settled_stmts))]
 #[cycle(settles)]
 pub fn settled_stmts(alloc: Global, objects: &[Object], list: &TStmts) -> Result<TStmts, NoMemory>
     ensures { IfOk result (λ last. tstmts_tree last ≡ typing.settled_stmts (map object_tree objects.now) (tstmts_tree list.now)) }
@@ -321,7 +285,7 @@ fn boxed_stmt(alloc: Global, objects: &[Object], stmt: &TStmt) -> Result<Box<TSt
     ensures { IfOk result (λ last. tstmt_tree last.value ≡ typing.settled_stmt (map object_tree objects.now) (tstmt_tree stmt.now)) }
 {
     let last = settled_stmt(alloc, objects, stmt)?;
-    Ok(Box::new(alloc, last)?)
+    boxed(alloc, last)
 }
 
 // An expression that may be missing.

@@ -1,6 +1,6 @@
 use Rattle.std.proofs.Common.{ap, ◌∙◌, arith}
 use Rattle.c_shared.specs.Statements.{stmts_from}
-use Rattle.c_shared.proofs.Shared.{for_falls, for_tree}
+use Rattle.c_shared.proofs.For.{for_falls, for_tree}
 use Rattle.c_shared.proofs.Shared.{one_more_stmt}
 use Rattle.c_shared.proofs.Shapes.{no_guarded}
 use Rattle.c_shared.proofs.of_stmts.+shares.Goals as goal

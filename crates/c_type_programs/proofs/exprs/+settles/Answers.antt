@@ -1,7 +1,7 @@
 use Rattle.std.proofs.Common.{ap, ◌∙◌, arith, map}
 use Rattle.c_syntax.specs.Types.{object_tree}
 use Rattle.c_syntax.specs.TypedExpr.{texprs_from}
-use Rattle.c_type_programs.proofs.Shapes.{no_assignment, no_operation, no_operations, no_use}
+use Rattle.c_shared.proofs.Shapes.{no_assignment, no_operation, no_operations, no_use}
 use Rattle.c_type_programs.proofs.Lists.{one_more_expr}
 use Rattle.c_type_programs.proofs.exprs.+settles.Goals as goal
 

@@ -1,4 +1,4 @@
-use Rattle.c_type_programs.proofs.Shapes.{no_leaf}
+use Rattle.c_shared.proofs.Shapes.{no_leaf}
 use Rattle.c_type_programs.proofs.exprs.same_leaf.Goals as goal
 
 pub unreachable-requires : goal.unreachable-requires

@@ -1,8 +1,8 @@
 use Rattle.std.proofs.Common.{ap, ◌∙◌, arith, map}
 use Rattle.c_syntax.specs.Types.{object_tree}
 use Rattle.c_syntax.specs.TypedStmt.{tstmts_from}
-use Rattle.c_type_programs.proofs.Shapes.{no_guarded}
-use Rattle.c_type_programs.proofs.For.{for_falls, for_tree}
+use Rattle.c_shared.proofs.Shapes.{no_guarded}
+use Rattle.c_shared.proofs.For.{for_falls, for_tree}
 use Rattle.c_type_programs.proofs.Lists.{one_more_stmt}
 use Rattle.c_type_programs.proofs.stmts.+settles.Goals as goal
 

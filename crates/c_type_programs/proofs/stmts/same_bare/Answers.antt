@@ -1,4 +1,4 @@
-use Rattle.c_type_programs.proofs.Shapes.{no_bare}
+use Rattle.c_shared.proofs.Shapes.{no_bare}
 use Rattle.c_type_programs.proofs.stmts.same_bare.Goals as goal
 
 pub unreachable-requires : goal.unreachable-requires

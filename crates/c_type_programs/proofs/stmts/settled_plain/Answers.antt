@@ -1,4 +1,4 @@
-use Rattle.c_type_programs.proofs.Shapes.{no_plain}
+use Rattle.c_shared.proofs.Shapes.{no_plain}
 use Rattle.c_type_programs.proofs.stmts.settled_plain.Goals as goal
 
 pub unreachable-requires : goal.unreachable-requires
