@@ -1,0 +1,146 @@
+-- What is read of the first state is no wider than the plain run's first state.
+use Rattle.std.proofs.Common.{◌≡◌, ℕ, ℤ, pos, zero, suc, ◌+◌, ◌<◌, ◌≤◌, arith, refl, sym, subst, ap, ◌∙◌, Bool, true, false, List, [], ◌∷◌, length, replicate, Option, Some, None, Result, Ok, Err}
+use Rattle.std.specs.Prelude.{All, if◌then◌else◌, not, ◌&&◌, option_map, option_and_then, slice_get, nat_le, ◌==◌}
+use Rattle.std.proofs.lemmas.Bool.{le-leb, eq-eqb}
+use Rattle.std.proofs.lemmas.List.Elements.{All-get_or}
+use Rattle.std.proofs.lemmas.Option.{slice_get_within, get_or_from_slice_get}
+use Rattle.std.specs.Int.{byte_len}
+use Rattle.c_written.specs.declared.int_type.IntType.{IntType}
+use Rattle.c_written.specs.declared.int_type.IntType.TheVariants as ints
+use Rattle.c_written.specs.Integer.{bytes}
+use Rattle.c_syntax.specs.declared.alarm.WrongKind.{WrongKind}
+use Rattle.c_syntax.specs.declared.alarm.WrongKind.TheVariants as kinds
+use Rattle.c_syntax.specs.Types.{ObjectTree, CTypeTree, Int}
+use Rattle.c_syntax.specs.Types as types
+use Rattle.block_mem.specs.declared.types.Scalar.TheVariants as scalars
+use Rattle.block_mem.specs.declared.types.Value.{Value}
+use Rattle.block_mem.specs.declared.types.Value.TheVariants as values
+use Rattle.block_mem.specs.Block.{is_inside, is_aligned}
+use Rattle.block_mem.specs.Blocks.{block_at, wrong_access, after_access, bytes_at, loaded, load}
+use Rattle.block_mem.specs.Bytes.{size_of}
+use Rattle.c_values.specs.Accesses.{ok_of, loaded_value}
+use Rattle.c_values.specs.Memory.{Fits}
+use Rattle.c_values.specs.Places.{ObjectMemory, place_of}
+use Rattle.c_objects.specs.Kept.{AllFit}
+use Rattle.c_objects.specs.Opening.{address}
+use Rattle.num_api.specs.declared.message.Range.{Range}
+use Rattle.num_api.specs.Spans.{point, range_of}
+use Rattle.env_eval.proofs.Parts.{as_wide}
+use Rattle.csharp.specs.Trees.{CsProgramTree}
+use Rattle.csharp.specs.States.{State, first}
+use Rattle.csharp.specs.Actions.{loaded_at}
+use Rattle.plain_runs.specs.States.{Cell, plain_first}
+use Rattle.plain_runs.specs.States as plain_states
+use Rattle.temp_ranges.proofs.Ranged.{and_then_some, map_some}
+use Rattle.object_cells.specs.declared.cells.KnownCell.{KnownCell}
+use Rattle.object_cells.specs.Cells.{cell_of, number_loaded, read_number, number_cell, read_cell, read_at}
+use Rattle.object_cells.specs.Known.{KeepsPlaces, start_of, found_at}
+use Rattle.object_cells.specs.Under.{IsUnderCell, AreUnder, HasOwnSize, HaveOwnSizes}
+use Rattle.object_cells.proofs.Places.{places_start}
+
+-- ---- a load of a whole object passes
+
+size_is : (t : IntType) → bytes t ≡ size_of (scalars.Int t)
+size_is ints.Char = refl
+size_is ints.SChar = refl
+size_is ints.UChar = refl
+size_is ints.Short = refl
+size_is ints.UShort = refl
+size_is ints.Int = refl
+size_is ints.UInt = refl
+size_is ints.Long = refl
+size_is ints.ULong = refl
+size_is ints.LLong = refl
+size_is ints.ULLong = refl
+
+aligned_is : (t : IntType) → is_aligned (Some 0) (size_of (scalars.Int t)) ≡ true
+aligned_is ints.Char = refl
+aligned_is ints.SChar = refl
+aligned_is ints.UChar = refl
+aligned_is ints.Short = refl
+aligned_is ints.UShort = refl
+aligned_is ints.Int = refl
+aligned_is ints.UInt = refl
+aligned_is ints.Long = refl
+aligned_is ints.ULong = refl
+aligned_is ints.LLong = refl
+aligned_is ints.ULLong = refl
+
+nothing_wrong : (live inside aligned read_only : Bool) → live ≡ true → inside ≡ true → aligned ≡ true
+    → (if not live then Some kinds.Dangling else if not inside then Some kinds.Access else if not aligned then Some kinds.Alignment else
+    if false && read_only then Some kinds.ReadOnly else None) ≡ None
+nothing_wrong true true true read_only e f g = refl
+nothing_wrong true true false read_only e f g = absurd (cc)
+nothing_wrong true false aligned read_only e f g = absurd (cc)
+nothing_wrong false inside aligned read_only e f g = absurd (cc)
+
+module _ (objects : List ObjectTree) (m : ObjectMemory) (k : KeepsPlaces objects m) (fits : AllFit objects m) (x : ℕ) (object : ObjectTree)
+    (is : slice_get objects x ≡ Some object) (t : IntType) (size : object.size ≡ bytes t) where
+  -- an access to all of the object
+  access_passes : (b : ℕ) → place_of m x ≡ Some b → wrong_access m.blocks (start_of b) (size_of (scalars.Int t)) (size_of (scalars.Int t)) false ≡ None
+  access_passes b p =
+      let at = k.owned.placed x b p in
+      let f = fits b at.made in
+      let both : Some f.object ≡ Some object = sym f.is ∙ ap (slice_get objects) at.owner ∙ is in
+      let same : f.object ≡ object = cc in
+      let own : length (block_at m.blocks b).bytes ≡ size_of (scalars.Int t) = sym f.size ∙ ap (λ (o : ObjectTree). o.size) same ∙ size ∙ size_is t in
+      nothing_wrong (block_at m.blocks b).live (is_inside (Some 0) (size_of (scalars.Int t)) (length (block_at m.blocks b).bytes))
+      (is_aligned (Some 0) (size_of (scalars.Int t))) (block_at m.blocks b).read_only at.live
+      (le-leb (0 + size_of (scalars.Int t)) (length (block_at m.blocks b).bytes) (omega (arith, own))) (aligned_is t)
+
+  -- what stands in the object is loaded
+  loaded_whole : (v : Value) → option_and_then (loaded_value m (Some (scalars.Int t))) (address m x 0) ≡ Some v
+      → option_and_then (loaded_at m (scalars.Int t)) (address m x 0) ≡ Some v
+  loaded_whole v e = by (place_of m x) refl e where
+    by : (o : Option ℕ) → place_of m x ≡ o → option_and_then (loaded_value m (Some (scalars.Int t))) (option_map (λ b. values.Ptr (start_of b)) o) ≡ Some v
+        → option_and_then (loaded_at m (scalars.Int t)) (option_map (λ b. values.Ptr (start_of b)) o) ≡ Some v
+    by None p f = absurd (cc)
+    by (Some b) p f =
+        ap (λ (w : Option WrongKind). ok_of (after_access w (loaded (scalars.Int t) (bytes_at m.blocks (start_of b) (size_of (scalars.Int t)))))) (access_passes b p) ∙ f
+
+  read_under : object.ty ≡ Int t → (u : IntType) (n : ℤ) (cell : Cell) → option_and_then (loaded_value m (Some (scalars.Int t))) (address m x 0) ≡ Some (values.Int u n)
+      → record { ty = t; numbers = point n; may_be_undefined = false; read_only = object.read_only } ≡ cell
+      → (c : KnownCell) × (read_at objects m x ≡ Some c) × IsUnderCell c cell
+  read_under typed u n cell e same =
+      let own : Cell = record { ty = t; numbers = point n; may_be_undefined = false; read_only = object.read_only } in
+      let loads = loaded_whole (values.Int u n) e in
+      let number : read_number m x t ≡ Some n = ap number_loaded loads in (
+        number_cell object t n,
+        ap (option_and_then (λ (o : ObjectTree). read_cell m x o o.ty)) is ∙ ap (read_cell m x object) typed ∙ ap (option_map (number_cell object t)) number,
+        subst (IsUnderCell (number_cell object t n)) same
+            (record { ty = refl; numbers = as_wide (range_of (point n)); undefined = λ h. h; read_only = refl }),
+      )
+
+some_value : (o : Option Value) (object : ObjectTree) (t : IntType) (cell : Cell) → option_and_then (plain_states.cell_with object t) o ≡ Some cell
+    → (u : IntType) × (n : ℤ) × (o ≡ Some (values.Int u n)) × (record { ty = t; numbers = point n; may_be_undefined = false; read_only = object.read_only } ≡ cell)
+some_value None object t cell e = absurd (cc)
+some_value (Some (values.Int u n)) object t cell e =
+    let own : Cell = record { ty = t; numbers = point n; may_be_undefined = false; read_only = object.read_only } in
+    let same : own ≡ cell = cc in (u, n, refl, same)
+some_value (Some (values.Ptr p)) object t cell e = absurd (cc)
+some_value (Some values.Null) object t cell e = absurd (cc)
+
+module _ (q : CsProgramTree) (cells : List (Option KnownCell)) (count : ℕ) (sizes : HaveOwnSizes q.objects) (fits : AllFit q.objects (first q []).memory)
+    (read : (x : ℕ) → cell_of cells x ≡ read_at q.objects (first q []).memory x) where
+  cell_under : (x : ℕ) (object : ObjectTree) → slice_get q.objects x ≡ Some object → (ty : CTypeTree) → object.ty ≡ ty → (cell : Cell)
+      → (plain_first q).objects x ≡ Some cell → (c : KnownCell) × (cell_of cells x ≡ Some c) × IsUnderCell c cell
+  cell_under x object is (Int t) typed cell g =
+      let h = rw (is, typed) at g in
+      let v = some_value (option_and_then (loaded_value (first q []).memory (Some (scalars.Int t))) (address (first q []).memory x 0)) object t cell h in
+      let own = All-get_or (λ (o : ObjectTree). HasOwnSize o o.ty) q.objects x object (slice_get_within q.objects x object is) sizes in
+      let size : object.size ≡ bytes t = subst (HasOwnSize object) typed (subst (λ (o : ObjectTree). HasOwnSize o o.ty) (get_or_from_slice_get q.objects x object object is) own) in
+      let r = read_under q.objects (first q []).memory (places_start q.objects q.initial) fits x object is t size typed v.0 v.1 cell v.2 v.3 in
+      (r.0, read x ∙ r.1, r.2)
+  cell_under x object is types.Void typed cell g = let h = rw (is, typed) at g in absurd (cc (h))
+  cell_under x object is (types.Pointer to is_const) typed cell g = let h = rw (is, typed) at g in absurd (cc (h))
+  cell_under x object is (types.Array of is_const n) typed cell g = let h = rw (is, typed) at g in absurd (cc (h))
+  cell_under x object is (types.Struct n) typed cell g = let h = rw (is, typed) at g in absurd (cc (h))
+  cell_under x object is (types.Function n) typed cell g = let h = rw (is, typed) at g in absurd (cc (h))
+
+  -- what is read of the first state is under the plain run's first state, where each integer object has its type's size
+  pub start_under : AreUnder cells (replicate count None) (plain_first q)
+  start_under = record { cells_under = λ x cell g. by x (slice_get q.objects x) refl cell g; copies_under = λ d x e. absurd (cc) } where
+    by : (x : ℕ) (o : Option ObjectTree) → slice_get q.objects x ≡ o → (cell : Cell) → (plain_first q).objects x ≡ Some cell
+        → (c : KnownCell) × (cell_of cells x ≡ Some c) × IsUnderCell c cell
+    by x None is cell g = let h = rw is at g in absurd (cc (h))
+    by x (Some object) is cell g = cell_under x object is object.ty refl cell g

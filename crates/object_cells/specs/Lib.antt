@@ -1,0 +1,4 @@
+pub mod Cells
+pub mod Copies
+pub mod Known
+pub mod Under
