@@ -3,7 +3,7 @@ use Rattle.std.proofs.Common.{◌≡◌, ℕ, ℤ, pos, zero, suc, ◌+◌, ◌<
 use Rattle.std.specs.Prelude.{All, if◌then◌else◌, not, ◌&&◌, option_map, option_and_then, slice_get, nat_le, ◌==◌}
 use Rattle.std.proofs.lemmas.Bool.{le-leb, eq-eqb}
 use Rattle.std.proofs.lemmas.List.Elements.{All-get_or}
-use Rattle.std.proofs.lemmas.Option.{slice_get_within, get_or_from_slice_get}
+use Rattle.std.proofs.lemmas.Option.{slice_get_past, slice_get_within, get_or_from_slice_get}
 use Rattle.std.specs.Int.{byte_len}
 use Rattle.c_written.specs.declared.int_type.IntType.{IntType}
 use Rattle.c_written.specs.declared.int_type.IntType.TheVariants as ints
@@ -18,10 +18,15 @@ use Rattle.block_mem.specs.declared.types.Value.TheVariants as values
 use Rattle.block_mem.specs.Block.{is_inside, is_aligned}
 use Rattle.block_mem.specs.Blocks.{block_at, wrong_access, after_access, bytes_at, loaded, load}
 use Rattle.block_mem.specs.Bytes.{size_of}
-use Rattle.c_values.specs.Accesses.{ok_of, loaded_value}
-use Rattle.c_values.specs.Memory.{Fits}
-use Rattle.c_values.specs.Places.{ObjectMemory, place_of}
-use Rattle.c_objects.specs.Kept.{AllFit}
+use Rattle.block_mem.specs.Proper.{IsMade}
+use Rattle.c_syntax.specs.declared.alarm.Spot.{Spot}
+use Rattle.c_values.specs.declared.values.Wrong.{Wrong}
+use Rattle.c_values.specs.Accesses.{ok_of, load_at, loaded_value}
+use Rattle.c_values.specs.Answers.{Answers}
+use Rattle.c_values.proofs.Accesses.{loads}
+use Rattle.c_values.specs.Memory.{Fits, load_outcome}
+use Rattle.c_values.specs.Places.{ObjectMemory, place_of, spot_at}
+use Rattle.c_objects.specs.Kept.{AllFit, FitsAt}
 use Rattle.c_objects.specs.Opening.{address}
 use Rattle.num_api.specs.declared.message.Range.{Range}
 use Rattle.num_api.specs.Spans.{point, range_of}
@@ -111,6 +116,37 @@ module _ (objects : List ObjectTree) (m : ObjectMemory) (k : KeepsPlaces objects
             (record { ty = refl; numbers = as_wide (range_of (point n)); undefined = λ h. h; read_only = refl }),
       )
 
+-- ---- a load in code
+
+abbrev pub value_in : Result Value Wrong → Option Value
+value_in (Ok v) = Some v
+value_in (Err w) = None
+
+settled : (s : Spot) (w : Result Value WrongKind) (r : Result Value Wrong) → Answers r (load_outcome s w) → value_in r ≡ ok_of w
+settled s (Ok u) (Ok v) e = let same : u ≡ v = cc in ap (λ (x : Value). Some x) (sym same)
+settled s (Ok u) (Err w) e = absurd (cc)
+settled s (Err k) (Ok v) e = absurd (cc)
+settled s (Err k) (Err w) e = refl
+
+-- what a load of an object answers is what stands there
+pub value_loads : (objects : List ObjectTree) (m : ObjectMemory) (x : ℕ) (t : IntType) (place : Value) (r : Result Value Wrong) → AllFit objects m
+    → address m x 0 ≡ Some place → IsMade (length m.blocks) place
+    → ((os : List ObjectTree) → FitsAt os m place → Answers r (load_at os m (Some (scalars.Int t)) place)) → number_loaded (value_in r) ≡ read_number m x t
+value_loads objects m x t place r fits at made answer =
+    let b = map_some (λ b. values.Ptr (start_of b)) (place_of m x) place at in
+    let there : IsMade (length m.blocks) (values.Ptr (start_of b.0)) = subst (IsMade (length m.blocks)) (sym b.2) made in
+    let own : Answers r (load_at objects m (Some (scalars.Int t)) (values.Ptr (start_of b.0))) =
+    subst (λ (v : Value). FitsAt objects m v → Answers r (load_at objects m (Some (scalars.Int t)) v)) (sym b.2) (answer objects) (fits b.0 there) in
+    let told : Answers r (load_outcome (spot_at m (start_of b.0)) (load m.blocks (start_of b.0) (scalars.Int t))) =
+    subst (Answers r) (loads objects m (start_of b.0) (scalars.Int t) (fits b.0 there)) own in
+    let is : value_in r ≡ loaded_at m (scalars.Int t) (values.Ptr (start_of b.0)) = settled _ _ r told in
+    ap number_loaded (is ∙ ap (loaded_at m (scalars.Int t)) b.2 ∙ sym (ap (option_and_then (loaded_at m (scalars.Int t))) at))
+
+pub nothing_read : (objects : List ObjectTree) (m : ObjectMemory) (x : ℕ) → length objects ≤ x → read_at objects m x ≡ None
+nothing_read objects m x past = ap (option_and_then (λ (o : ObjectTree). read_cell m x o o.ty)) (slice_get_past objects x past)
+
+-- ---- the plain run's first state
+
 some_value : (o : Option Value) (object : ObjectTree) (t : IntType) (cell : Cell) → option_and_then (plain_states.cell_with object t) o ≡ Some cell
     → (u : IntType) × (n : ℤ) × (o ≡ Some (values.Int u n)) × (record { ty = t; numbers = point n; may_be_undefined = false; read_only = object.read_only } ≡ cell)
 some_value None object t cell e = absurd (cc)
@@ -122,6 +158,10 @@ some_value (Some values.Null) object t cell e = absurd (cc)
 
 module _ (q : CsProgramTree) (cells : List (Option KnownCell)) (count : ℕ) (sizes : HaveOwnSizes q.objects) (fits : AllFit q.objects (first q []).memory)
     (read : (x : ℕ) → cell_of cells x ≡ read_at q.objects (first q []).memory x) where
+  through : (x : ℕ) (cell : Cell) → (c : KnownCell) × (read_at q.objects (first q []).memory x ≡ Some c) × IsUnderCell c cell
+      → (c : KnownCell) × (cell_of cells x ≡ Some c) × IsUnderCell c cell
+  through x cell r = (r.0, read x ∙ r.1, r.2)
+
   cell_under : (x : ℕ) (object : ObjectTree) → slice_get q.objects x ≡ Some object → (ty : CTypeTree) → object.ty ≡ ty → (cell : Cell)
       → (plain_first q).objects x ≡ Some cell → (c : KnownCell) × (cell_of cells x ≡ Some c) × IsUnderCell c cell
   cell_under x object is (Int t) typed cell g =
@@ -129,8 +169,7 @@ module _ (q : CsProgramTree) (cells : List (Option KnownCell)) (count : ℕ) (si
       let v = some_value (option_and_then (loaded_value (first q []).memory (Some (scalars.Int t))) (address (first q []).memory x 0)) object t cell h in
       let own = All-get_or (λ (o : ObjectTree). HasOwnSize o o.ty) q.objects x object (slice_get_within q.objects x object is) sizes in
       let size : object.size ≡ bytes t = subst (HasOwnSize object) typed (subst (λ (o : ObjectTree). HasOwnSize o o.ty) (get_or_from_slice_get q.objects x object object is) own) in
-      let r = read_under q.objects (first q []).memory (places_start q.objects q.initial) fits x object is t size typed v.0 v.1 cell v.2 v.3 in
-      (r.0, read x ∙ r.1, r.2)
+      through x cell (read_under q.objects (first q []).memory (places_start q.objects q.initial) fits x object is t size typed v.0 v.1 cell v.2 v.3)
   cell_under x object is types.Void typed cell g = let h = rw (is, typed) at g in absurd (cc (h))
   cell_under x object is (types.Pointer to is_const) typed cell g = let h = rw (is, typed) at g in absurd (cc (h))
   cell_under x object is (types.Array of is_const n) typed cell g = let h = rw (is, typed) at g in absurd (cc (h))

@@ -113,18 +113,19 @@ module _ (copies : List (Option ℕ)) (ranges : List Range) where
       let a = one_keeps (copy_of copies b) (range_at ranges b) cells x c e in
       ⊎_elim here (λ more. cut_reaches es (cut_one (copy_of copies b) (range_at ranges b) cells) x d a.0 k more f a.1 g) (contains_cases b es d h)
     where
-    here : b ≡ d → NoWider k.range (range_at ranges d)
-    here same =
-        let is : copy_of copies b ≡ Some x = ap (copy_of copies) same ∙ f in
-        let at : cell_of (cut_one (copy_of copies b) (range_at ranges b) cells) x ≡ Some (narrowed (range_at ranges b) c) =
-        subst (λ (o : Option ℕ). cell_of (cut_one o (range_at ranges b) cells) x ≡ Some (narrowed (range_at ranges b) c)) (sym is)
-        (one_reaches (range_at ranges b) cells x c e) in
-        let rest = cut_keeps es (cut_one (copy_of copies b) (range_at ranges b) cells) x (narrowed (range_at ranges b) c) at in
-        let both : Some rest.0 ≡ Some k = sym rest.1 ∙ g in
-        let one : rest.0 ≡ k = cc in
-        subst (λ (i : ℕ). NoWider k.range (range_at ranges i)) same
-        (subst (λ (z : KnownCell). NoWider z.range (range_at ranges b)) one
-        (wider rest.0.range (common c.range (range_at ranges b)) (range_at ranges b) rest.2.range (common_second c.range (range_at ranges b))))
+      here : b ≡ d → NoWider k.range (range_at ranges d)
+      here same =
+          let is : copy_of copies b ≡ Some x = ap (copy_of copies) same ∙ f in
+          let at : cell_of (cut_one (copy_of copies b) (range_at ranges b) cells) x ≡ Some (narrowed (range_at ranges b) c) =
+          subst (λ (o : Option ℕ). cell_of (cut_one o (range_at ranges b) cells) x ≡ Some (narrowed (range_at ranges b) c)) (sym is)
+          (one_reaches (range_at ranges b) cells x c e) in
+          let rest = cut_keeps es (cut_one (copy_of copies b) (range_at ranges b) cells) x (narrowed (range_at ranges b) c) at in
+          let both : Some rest.0 ≡ Some k = sym rest.1 ∙ g in
+          let one : rest.0 ≡ k = cc in
+          subst (λ (i : ℕ). NoWider k.range (range_at ranges i)) same
+          (subst (λ (z : KnownCell). NoWider z.range (range_at ranges b)) one
+          (wider rest.0.range (common c.range (range_at ranges b)) (range_at ranges b) rest.2.range (common_second c.range (range_at ranges b))))
+
 -- ---- the plain run's cuts
 
 abbrev cut_to : Span → Cell → Cell

@@ -49,26 +49,47 @@ in_hull_second r s n i = record {
 
 -- ---- a copy and its object
 
--- the object's number is the copy's
-copied_number : (objects : List ObjectTree) (cells : List (Option KnownCell)) (s : State) (d x : ℕ) (c : KnownCell) → HoldsCell objects s.memory x c
-    → IsCopy objects s d x → (n : ℤ) × (slice_get s.temps d ≡ Some (values.Int c.ty n)) × InRange c.range n
-    × ((h : HoldsCell objects s.memory x c) → found_at s.memory h.block c.ty ≡ Ok (values.Int c.ty n))
-copied_number objects cells s d x c h i =
+-- what a load of the object finds is the value of the copy
+copy_found : (objects : List ObjectTree) (s : State) (d x : ℕ) (i : IsCopy objects s d x) (t : IntType) (b : ℕ) → i.ty ≡ t → place_of s.memory x ≡ Some b
+    → found_at s.memory b t ≡ Ok i.value
+copy_found objects s d x i t b e p = subst (λ (k : ℕ). found_at s.memory k t ≡ Ok i.value) (one_place s.memory x i.block b i.place p)
+    (subst (λ (u : IntType). found_at s.memory i.block u ≡ Ok i.value) e i.found)
+
+copy_type : (objects : List ObjectTree) (s : State) (d x : ℕ) (c : KnownCell) → HoldsCell objects s.memory x c → (i : IsCopy objects s d x) → i.ty ≡ c.ty
+copy_type objects s d x c h i =
     let both : Some h.object ≡ Some i.object = sym h.is ∙ i.is in
     let object : h.object ≡ i.object = cc in
     let ints : Int c.ty ≡ Int i.ty = sym h.typed ∙ ap (λ (o : ObjectTree). o.ty) object ∙ i.typed in
-    let ty : i.ty ≡ c.ty = cc in
-    let found : (b : ℕ) → place_of s.memory x ≡ Some b → found_at s.memory b c.ty ≡ Ok i.value = λ b p.
-    ap (λ (k : ℕ). found_at s.memory k c.ty) (one_place s.memory x b i.block p i.place) ∙ ap (found_at s.memory i.block) (sym ty) ∙ i.found in
-    let n = found_number c i.value (subst (IsFound c) (found h.block h.place) h.found) in
-    (n.0, i.temp ∙ ap (λ (v : Value). Some v) n.1, n.2, λ k. subst (λ (v : Value). found_at s.memory k.block c.ty ≡ Ok v) n.1 (found k.block k.place))
+    cc
+
+-- it is a number in the object's range
+pub record IsNumberCopied (objects : List ObjectTree) (s : State) (d x : ℕ) (c : KnownCell) (h : HoldsCell objects s.memory x c) : Type 0 where
+  pub number : ℤ
+  pub temp : slice_get s.temps d ≡ Some (values.Int c.ty number)
+  pub inside : InRange c.range number
+  pub found : found_at s.memory h.block c.ty ≡ Ok (values.Int c.ty number)
+
+number_copied : (objects : List ObjectTree) (s : State) (d x : ℕ) (c : KnownCell) (h : HoldsCell objects s.memory x c) (v : Value) → slice_get s.temps d ≡ Some v
+    → found_at s.memory h.block c.ty ≡ Ok v → (n : ℤ) × (v ≡ values.Int c.ty n) × InRange c.range n → IsNumberCopied objects s d x c h
+number_copied objects s d x c h v temp found n = record {
+  number = n.0;
+  temp = subst (λ (w : Value). slice_get s.temps d ≡ Some w) n.1 temp;
+  inside = n.2;
+  found = subst (λ (w : Value). found_at s.memory h.block c.ty ≡ Ok w) n.1 found;
+}
+
+copied_number : (objects : List ObjectTree) (s : State) (d x : ℕ) (c : KnownCell) (h : HoldsCell objects s.memory x c) → IsCopy objects s d x
+    → IsNumberCopied objects s d x c h
+copied_number objects s d x c h i =
+    let found = copy_found objects s d x i c.ty h.block (copy_type objects s d x c h i) h.place in
+    number_copied objects s d x c h i.value i.temp found (found_number c i.value (subst (IsFound c) found h.found))
 
 module _ (objects : List ObjectTree) (copies : List (Option ℕ)) (s : State) where
   -- an object of which a copy lies in a range has a number in that range
   held_cut : (x d : ℕ) (r : Range) (c : KnownCell) → HoldsCell objects s.memory x c → IsCopy objects s d x
       → ((v : Value) → slice_get s.temps d ≡ Some v → InRange r (number_of v)) → HoldsCell objects s.memory x (narrowed r c)
   held_cut x d r c h i all =
-      let n = copied_number objects [] s d x c h i in
+      let n = copied_number objects s d x c h i in
       record {
         object = h.object;
         is = h.is;
@@ -76,7 +97,7 @@ module _ (objects : List ObjectTree) (copies : List (Option ℕ)) (s : State) wh
         mark = h.mark;
         block = h.block;
         place = h.place;
-        found = subst (IsFound (narrowed r c)) (sym (n.3 h)) (refl, in_common c.range r n.0 n.2 (all (values.Int c.ty n.0) n.1));
+        found = subst (IsFound (narrowed r c)) (sym n.found) (refl, in_common c.range r n.number n.inside (all (values.Int c.ty n.number) n.temp));
       }
 
   cut_held : (cells : List (Option KnownCell)) (ranges : List Range) (d : ℕ) (o : Option ℕ) → copy_of copies d ≡ o → AreHeld objects cells s.memory
@@ -100,8 +121,8 @@ module _ (objects : List ObjectTree) (copies : List (Option ℕ)) (s : State) wh
       → copy_of copies d ≡ Some x → IsTrue (has_number o)
   number_left cells d x None e k f = refl
   number_left cells d x (Some c) e k f =
-      let n = copied_number objects cells s d x c (k.cells_held x c e) (k.copies_held d x f) in
-      holds_number_from c.range.lo c.range.hi n.0 n.2.low n.2.high
+      let n = copied_number objects s d x c (k.cells_held x c e) (k.copies_held d x f) in
+      holds_number_from c.range.lo c.range.hi n.number n.inside.low n.inside.high
 
   copied_left : (cells : List (Option KnownCell)) (d : ℕ) (o : Option ℕ) → copy_of copies d ≡ o → AreKnown objects cells copies s → IsTrue (copied_has_number cells o)
   copied_left cells d None e k = refl

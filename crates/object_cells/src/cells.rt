@@ -1,10 +1,11 @@
 // What is known of integer objects.
+#![tactic(auto, using(c_syntax::proofs::Trees::the_trees))]
 
 ghost use Rattle.std.specs.Prelude.{◌≡◌, ℕ, List, false, IsTrue, IfOk, None, Some, length, map, option_map, replicate, slice_set};
 ghost use Rattle.c_syntax.specs.Types.{ObjectTree, ctype_tree, object_tree};
 ghost use Rattle.c_objects.specs.Kept.{AllFit};
 ghost use Rattle.num_api.specs.Ranges.{common};
-ghost use Rattle.object_cells.specs.Cells.{cell_of, knows_cells, undefined_cell, narrowed, IsJoined, IsWider, AreWider, opened_cell, opened_at, entered, ended, read_number, read_cell as cell_in, read_at};
+ghost use Rattle.object_cells.specs.Cells.{cell_of, knows_cells, undefined_cell, narrowed, IsJoined, IsWider, AreWider, opened_cell, opened_at, entered, ended, number_loaded, read_number, read_cell as cell_in, read_at};
 
 use block_mem::{Scalar, Value};
 use c_objects::ObjectMemory;
@@ -71,6 +72,26 @@ fn opened_cell(object: &Object) -> Option<KnownCell>
     }
 }
 
+// What is known of an object, by its number, that begins to live.
+fn opened_at(objects: &[Object], x: u64) -> Option<KnownCell>
+    ensures { result ≡ opened_at (map object_tree objects.now) x }
+{
+    match objects.get(x as usize) {
+        Some(object) => opened_cell(object),
+        None => None,
+    }
+}
+
+// The number of a value that is one.
+fn number_of(v: Value) -> Option<i128>
+    ensures { result ≡ number_loaded (Some v) }
+{
+    match v {
+        Value::Int(_, n) => Some(n),
+        Value::Ptr(_) | Value::Null => None,
+    }
+}
+
 // The number that an integer object has in memory, if it has one.
 fn read_number(memory: &ObjectMemory, x: u64, ty: IntType) -> Option<i128>
     requires { (objects : List ObjectTree) × AllFit objects memory.now }
@@ -80,8 +101,8 @@ fn read_number(memory: &ObjectMemory, x: u64, ty: IntType) -> Option<i128>
         return None;
     }
     match memory.load(Scalar::Int(ty), memory.address(x, 0)) {
-        Ok(Value::Int(_, n)) => Some(n),
-        Ok(Value::Ptr(_)) | Ok(Value::Null) | Err(_) => None,
+        Ok(v) => number_of(v),
+        Err(_) => None,
     }
 }
 
@@ -105,6 +126,17 @@ fn read_cell(memory: &ObjectMemory, x: u64, object: &Object) -> Option<KnownCell
         | CType::Array(_, _)
         | CType::Struct(_)
         | CType::Function(_) => None,
+    }
+}
+
+// What an object, by its number, has in memory.
+fn read_at(objects: &[Object], memory: &ObjectMemory, x: u64) -> Option<KnownCell>
+    requires { (known : List ObjectTree) × AllFit known memory.now }
+    ensures { result ≡ read_at (map object_tree objects.now) memory.now x }
+{
+    match objects.get(x as usize) {
+        Some(object) => read_cell(memory, x, object),
+        None => None,
     }
 }
 
@@ -163,8 +195,8 @@ impl Cells {
         ensures read { IfOk result (λ cells. (x : ℕ) → cell_of cells x ≡ read_at (map object_tree objects.now) memory.now x) }
     {
         let mut items = Vec::new(alloc);
-        for (x, object) in objects.iter().enumerate() {
-            items.push(read_cell(memory, x as u64, object))?;
+        for x in 0..objects.len() as u64 {
+            items.push(read_at(objects, memory, x))?;
         }
         Ok(Cells { items })
     }
@@ -255,11 +287,7 @@ impl Cells {
         ensures { self.new ≡ entered (map object_tree objects.now) names.now self.old }
     {
         for name in names {
-            let cell = match objects.get(*name as usize) {
-                Some(object) => opened_cell(object),
-                None => None,
-            };
-            self.set(*name, cell);
+            self.set(*name, opened_at(objects, *name));
         }
     }
 
@@ -276,8 +304,8 @@ impl Cells {
     pub fn forget(&mut self)
         ensures { self.new ≡ replicate (length self.old) None }
     {
-        for cell in self.items.iter_mut() {
-            *cell = None;
+        for x in 0..self.len() as u64 {
+            self.set(x, None);
         }
     }
 
@@ -309,8 +337,8 @@ impl Cells {
     pub fn knows(&self) -> bool
         ensures { result ≡ knows_cells self.now }
     {
-        for cell in &self.items {
-            if cell.is_some() {
+        for x in 0..self.len() as u64 {
+            if self.get(x).is_some() {
                 return true;
             }
         }

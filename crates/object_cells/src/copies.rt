@@ -43,6 +43,18 @@ fn unless(x: u64, copy: Option<u64>) -> Option<u64>
     }
 }
 
+// Whether the first is no copy, or one of the object of which the second is.
+fn covers_one(a: Option<u64>, b: Option<u64>) -> bool
+    ensures yes { IsTrue result → (x : ℕ) → a ≡ Some x → b ≡ Some x }
+    ensures no { result ≡ false → (x : ℕ) × (a ≡ Some x) }
+{
+    match (a, b) {
+        (None, _) => true,
+        (Some(x), Some(y)) => x == y,
+        (Some(_), None) => false,
+    }
+}
+
 impl Copies {
     /// So many temporaries, of which none is a copy.
     pub fn none(alloc: Global, count: usize) -> Result<Copies, NoMemory>
@@ -91,8 +103,9 @@ impl Copies {
     pub fn forget_object(&mut self, object: u64)
         ensures { self.new ≡ without object self.old }
     {
-        for copy in self.items.iter_mut() {
-            *copy = unless(object, *copy);
+        for temp in 0..self.len() as u64 {
+            let copy = unless(object, self.get(temp));
+            self.put(temp, copy);
         }
     }
 
@@ -109,8 +122,8 @@ impl Copies {
     pub fn forget(&mut self)
         ensures { self.new ≡ replicate (length self.old) None }
     {
-        for copy in self.items.iter_mut() {
-            *copy = None;
+        for temp in 0..self.len() as u64 {
+            self.put(temp, None);
         }
     }
 
@@ -131,8 +144,7 @@ impl Copies {
         ensures no { result ≡ false → IsTrue (knows_copies self.now) }
     {
         for temp in 0..self.len() as u64 {
-            let copy = self.get(temp);
-            if copy.is_some() && copy != other.get(temp) {
+            if !covers_one(self.get(temp), other.get(temp)) {
                 return false;
             }
         }
@@ -143,8 +155,8 @@ impl Copies {
     pub fn knows(&self) -> bool
         ensures { result ≡ knows_copies self.now }
     {
-        for copy in &self.items {
-            if copy.is_some() {
+        for temp in 0..self.len() as u64 {
+            if self.get(temp).is_some() {
                 return true;
             }
         }
