@@ -1,8 +1,7 @@
 -- What is read of the first state is no wider than the plain run's first state.
 use Rattle.std.proofs.Common.{◌≡◌, ℕ, ℤ, pos, zero, suc, ◌+◌, ◌<◌, ◌≤◌, arith, refl, sym, subst, ap, ◌∙◌, Bool, true, false, List, [], ◌∷◌, length, replicate, Option, Some, None, Result, Ok, Err}
-use Rattle.std.specs.Prelude.{All, if◌then◌else◌, not, ◌&&◌, option_map, option_and_then, slice_get, nat_le, ◌==◌}
-use Rattle.std.proofs.lemmas.Bool.{le-leb, eq-eqb}
-use Rattle.std.proofs.lemmas.List.Elements.{All-get_or}
+use Rattle.std.specs.Prelude.{IsTrue, if◌then◌else◌, not, ◌&&◌, option_map, option_and_then, slice_get, nat_le, ◌==◌}
+use Rattle.std.proofs.lemmas.Bool.{and_parts, eqb-true, le-leb}
 use Rattle.std.proofs.lemmas.Option.{slice_get_past, slice_get_within, get_or_from_slice_get}
 use Rattle.std.specs.Int.{byte_len}
 use Rattle.c_written.specs.declared.int_type.IntType.{IntType}
@@ -40,7 +39,7 @@ use Rattle.temp_ranges.proofs.Ranged.{and_then_some, map_some}
 use Rattle.object_cells.specs.declared.cells.KnownCell.{KnownCell}
 use Rattle.object_cells.specs.Cells.{cell_of, number_loaded, read_number, number_cell, read_cell, read_at}
 use Rattle.object_cells.specs.Known.{KeepsPlaces, start_of, found_at}
-use Rattle.object_cells.specs.Under.{IsUnderCell, AreUnder, HasOwnSize, HaveOwnSizes}
+use Rattle.object_cells.specs.Under.{IsUnderCell, AreUnder, has_own_size, have_own_sizes}
 use Rattle.object_cells.proofs.Places.{places_start}
 
 -- ---- a load of a whole object passes
@@ -147,6 +146,13 @@ nothing_read objects m x past = ap (option_and_then (λ (o : ObjectTree). read_c
 
 -- ---- the plain run's first state
 
+own_size : (objects : List ObjectTree) (x : ℕ) (object : ObjectTree) → slice_get objects x ≡ Some object → IsTrue (have_own_sizes objects)
+    → has_own_size object object.ty ≡ true
+own_size [] x object e h = absurd (cc)
+own_size (o ∷ os) zero object e h =
+    let same : o ≡ object = cc in subst (λ (i : ObjectTree). has_own_size i i.ty ≡ true) same (and_parts (has_own_size o o.ty) (have_own_sizes os) h).0
+own_size (o ∷ os) (suc x) object e h = own_size os x object e (and_parts (has_own_size o o.ty) (have_own_sizes os) h).1
+
 some_value : (o : Option Value) (object : ObjectTree) (t : IntType) (cell : Cell) → option_and_then (plain_states.cell_with object t) o ≡ Some cell
     → (u : IntType) × (n : ℤ) × (o ≡ Some (values.Int u n)) × (record { ty = t; numbers = point n; may_be_undefined = false; read_only = object.read_only } ≡ cell)
 some_value None object t cell e = absurd (cc)
@@ -156,7 +162,7 @@ some_value (Some (values.Int u n)) object t cell e =
 some_value (Some (values.Ptr p)) object t cell e = absurd (cc)
 some_value (Some values.Null) object t cell e = absurd (cc)
 
-module _ (q : CsProgramTree) (cells : List (Option KnownCell)) (count : ℕ) (sizes : HaveOwnSizes q.objects) (fits : AllFit q.objects (first q []).memory)
+module _ (q : CsProgramTree) (cells : List (Option KnownCell)) (count : ℕ) (sizes : IsTrue (have_own_sizes q.objects)) (fits : AllFit q.objects (first q []).memory)
     (read : (x : ℕ) → cell_of cells x ≡ read_at q.objects (first q []).memory x) where
   through : (x : ℕ) (cell : Cell) → (c : KnownCell) × (read_at q.objects (first q []).memory x ≡ Some c) × IsUnderCell c cell
       → (c : KnownCell) × (cell_of cells x ≡ Some c) × IsUnderCell c cell
@@ -167,8 +173,8 @@ module _ (q : CsProgramTree) (cells : List (Option KnownCell)) (count : ℕ) (si
   cell_under x object is (Int t) typed cell g =
       let h = rw (is, typed) at g in
       let v = some_value (option_and_then (loaded_value (first q []).memory (Some (scalars.Int t))) (address (first q []).memory x 0)) object t cell h in
-      let own = All-get_or (λ (o : ObjectTree). HasOwnSize o o.ty) q.objects x object (slice_get_within q.objects x object is) sizes in
-      let size : object.size ≡ bytes t = subst (HasOwnSize object) typed (subst (λ (o : ObjectTree). HasOwnSize o o.ty) (get_or_from_slice_get q.objects x object object is) own) in
+      let own = own_size q.objects x object is sizes in
+      let size : object.size ≡ bytes t = eqb-true object.size (bytes t) (subst (λ (ty : CTypeTree). has_own_size object ty ≡ true) typed own) in
       through x cell (read_under q.objects (first q []).memory (places_start q.objects q.initial) fits x object is t size typed v.0 v.1 cell v.2 v.3)
   cell_under x object is types.Void typed cell g = let h = rw (is, typed) at g in absurd (cc (h))
   cell_under x object is (types.Pointer to is_const) typed cell g = let h = rw (is, typed) at g in absurd (cc (h))

@@ -1,5 +1,5 @@
 -- When what is known of objects and copies is no wider than a plain state.
-use Rattle.std.specs.Prelude.{ℕ, ◌≡◌, true, List, All, Option, Some, None}
+use Rattle.std.specs.Prelude.{ℕ, ◌≡◌, ◌==◌, ◌&&◌, Bool, true, List, [], ◌∷◌, Option, Some}
 use Rattle.c_syntax.specs.Types.{ObjectTree, CTypeTree, Int}
 use Rattle.c_written.specs.Integer.{bytes}
 use Rattle.num_api.specs.Ranges.{NoWider}
@@ -29,9 +29,10 @@ pub record AreUnder (cells : List (Option KnownCell)) (copies : List (Option ℕ
   pub copies_under : AreCopiesUnder copies p.copies
 
 -- an integer object has as many bytes as its type
-abbrev pub HasOwnSize : ObjectTree → CTypeTree → Type 0
-HasOwnSize object (Int t) = object.size ≡ bytes t
-HasOwnSize object ty = Unit {0}
+abbrev pub has_own_size : ObjectTree → CTypeTree → Bool
+has_own_size object (Int t) = object.size == bytes t
+has_own_size object ty = true
 
-abbrev pub HaveOwnSizes : List ObjectTree → Type 0
-HaveOwnSizes objects = All (λ object. HasOwnSize object object.ty) objects
+abbrev pub have_own_sizes : List ObjectTree → Bool
+have_own_sizes [] = true
+have_own_sizes (object ∷ objects) = has_own_size object object.ty && have_own_sizes objects

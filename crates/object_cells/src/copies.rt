@@ -1,10 +1,13 @@
 // Temporaries that are copies of objects.
+#![tactic(auto, using(csharp::proofs::CodeTrees::the_code_trees))]
 
 ghost use Rattle.std.specs.Prelude.{◌≡◌, ℕ, false, IsTrue, IfOk, None, Some, length, replicate, slice_set};
 ghost use Rattle.plain_runs.specs.States.{agreed};
 ghost use Rattle.plain_runs.specs.Changes.{unless};
-ghost use Rattle.object_cells.specs.Copies.{copy_of, knows_copies, without, without_all};
+ghost use Rattle.csharp.specs.Trees.{csexpr_tree};
+ghost use Rattle.object_cells.specs.Copies.{copy_of, knows_copies, source_in, without, without_all};
 
+use csharp::CsExpr;
 use std::alloc::{AllocError as NoMemory, Global};
 use std::marker::Model;
 
@@ -86,6 +89,21 @@ impl Copies {
         match self.items.get(temp as usize) {
             Some(copy) => *copy,
             None => None,
+        }
+    }
+
+    /// The object of which an expression is a copy: a temporary is of what that is.
+    pub fn source(&self, e: &CsExpr) -> Option<u64>
+        ensures { result ≡ source_in self.now (csexpr_tree e.now) }
+    {
+        match e {
+            CsExpr::Temp { temp } => self.get(*temp),
+            CsExpr::Const { .. }
+            | CsExpr::Null
+            | CsExpr::Address { .. }
+            | CsExpr::Unary { .. }
+            | CsExpr::Binary { .. }
+            | CsExpr::Convert { .. } => None,
         }
     }
 

@@ -7,6 +7,7 @@
 //! | What | Stated in `specs/` |
 //! |---|---|
 //! | lists of cells and copies, and what statements make of them | `Cells`, `Copies` |
+//! | accesses to objects by their names | `Accesses` |
 //! | when they hold in a state | `Known` |
 //! | when they are no wider than a plain state | `Under` |
 //!
@@ -14,10 +15,12 @@
 //! `Hulls` and `Beginning` for plain states.
 #![tactic(auto)]
 
+mod accesses;
 mod cells;
 mod copies;
 mod cuts;
 
+pub use accesses::{KnownObject, accessed};
 pub use cells::{Cells, KnownCell};
 pub use copies::Copies;
 pub use cuts::{are_left, cut_cells};
