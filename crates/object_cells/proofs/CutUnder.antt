@@ -10,8 +10,11 @@ use Rattle.num_api.specs.declared.message.Range.{Range}
 use Rattle.num_api.specs.Ranges.{NoWider, common, holds_some}
 use Rattle.num_api.specs.Spans.{Span, range_of}
 use Rattle.env_eval.proofs.Parts.{wider, as_wide}
-use Rattle.plain_runs.specs.States.{Cell, Plain}
-use Rattle.plain_runs.specs.Changes.{within, has_numbers, has_values, cut_by_copies, with_cuts, source_in, are_left}
+use Rattle.num_api.specs.Plain.{excludes}
+use Rattle.machine_nums.specs.MExprs.{MExprTree}
+use Rattle.machine_nums.specs.Rule.{value_span, tested}
+use Rattle.plain_runs.specs.States.{Cell, Plain, given}
+use Rattle.plain_runs.specs.Changes.{within, has_numbers, has_values, between, cut_by_copies, with_cuts, cut_temps, behind_test, source_in, are_left}
 use Rattle.temp_ranges.specs.Ranges.{range_at}
 use Rattle.object_cells.specs.declared.cells.KnownCell.{KnownCell}
 use Rattle.object_cells.specs.Cells.{cell_of, narrowed, cut_one, cut_by, has_number, copied_has_number, are_cells_left}
@@ -223,3 +226,31 @@ module _ (cells : List (Option KnownCell)) (copies : List (Option ℕ)) (ranges 
   -- where numbers are left of the objects and of the temporaries, the plain run goes on
   pub left_under : ((d : ℕ) → Contains ds d → IsTrue (has_numbers (p.temps d))) → IsTrue (are_cells_left copies es cells) → IsTrue (are_left p ds)
   left_under temps e = all_left ds (λ d h. h) temps e
+
+-- ---- tests
+
+-- the numbers of temporaries behind a test
+abbrev pub behind : Plain → MExprTree → Bool → ℕ → Span
+behind p m truth d = between (tested (given p) m truth d).lo (tested (given p) m truth d).hi (p.temps d)
+
+module _ (cells : List (Option KnownCell)) (copies : List (Option ℕ)) (ranges : List Range) (p : Plain) (k : AreUnder cells copies p) (m : MExprTree) (truth : Bool)
+    (es : List ℕ) (among : (d : ℕ) → Contains (cut_temps (given p) m truth) d → Contains es d) where
+  after_test : (b c : Bool) (r : Plain) → b ≡ false → c ≡ true → (if b then None else (if c then Some r else None)) ≡ Some r
+  after_test true c r e f = absurd (cc)
+  after_test false true r e f = refl
+  after_test false false r e f = absurd (cc)
+
+  -- behind a test that the plain run does not exclude, and that leaves numbers of the temporaries and of the objects of which they are copies, the plain run
+  -- goes on, and the objects are under it
+  pub test_under : excludes truth (value_span (given p) m) ≡ false
+      → ((d : ℕ) → Contains (cut_temps (given p) m truth) d → NoWider (range_at ranges d) (range_of (behind p m truth d)) × IsTrue (holds_some (range_at ranges d)))
+      → IsTrue (are_cells_left copies es (cut_by copies ranges es cells))
+      → (behind_test p truth m ≡ Some (with_cuts p (behind p m truth) (cut_temps (given p) m truth)))
+      × AreUnder (cut_by copies ranges es cells) copies (with_cuts p (behind p m truth) (cut_temps (given p) m truth))
+  test_under reached all left =
+      let ds = cut_temps (given p) m truth in
+      let r = with_cuts p (behind p m truth) ds in
+      let under : AreUnder (cut_by copies ranges es cells) copies r = cut_under cells copies ranges p k ds es among (behind p m truth) (λ d h. (all d h).0) in
+      let some : IsTrue (are_left r ds) = left_under (cut_by copies ranges es cells) copies ranges r under ds es among
+          (λ d h. numbers_under (range_at ranges d) (behind p m truth d) (all d h).0 (all d h).1) left in
+      (after_test (excludes truth (value_span (given p) m)) (are_left r ds) r reached some, under)

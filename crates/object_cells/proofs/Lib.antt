@@ -8,3 +8,4 @@ pub mod Beneath
 pub mod CutUnder
 pub mod Hulls
 pub mod Beginning
+pub mod Passing
