@@ -1,9 +1,8 @@
 -- What is read of the first state is no wider than the plain run's first state.
-use Rattle.std.proofs.Common.{◌≡◌, ℕ, ℤ, pos, zero, suc, ◌+◌, ◌<◌, ◌≤◌, arith, refl, sym, subst, ap, ◌∙◌, Bool, true, false, List, [], ◌∷◌, length, replicate, Option, Some, None, Result, Ok, Err}
-use Rattle.std.specs.Prelude.{IsTrue, if◌then◌else◌, not, ◌&&◌, option_map, option_and_then, slice_get, nat_le, ◌==◌}
+use Rattle.std.proofs.Common.{◌≡◌, ℕ, ℤ, zero, suc, ◌+◌, ◌≤◌, arith, refl, sym, subst, ap, ◌∙◌, Bool, true, false, List, [], ◌∷◌, length, replicate, Option, Some, None, Result, Ok, Err}
+use Rattle.std.specs.Prelude.{IsTrue, if◌then◌else◌, not, ◌&&◌, option_map, option_and_then, slice_get}
 use Rattle.std.proofs.lemmas.Bool.{and_parts, eqb-true, le-leb}
-use Rattle.std.proofs.lemmas.Option.{slice_get_past, slice_get_within, get_or_from_slice_get}
-use Rattle.std.specs.Int.{byte_len}
+use Rattle.std.proofs.lemmas.Option.{slice_get_past}
 use Rattle.c_written.specs.declared.int_type.IntType.{IntType}
 use Rattle.c_written.specs.declared.int_type.IntType.TheVariants as ints
 use Rattle.c_written.specs.Integer.{bytes}
@@ -23,22 +22,21 @@ use Rattle.c_values.specs.declared.values.Wrong.{Wrong}
 use Rattle.c_values.specs.Accesses.{ok_of, load_at, loaded_value}
 use Rattle.c_values.specs.Answers.{Answers}
 use Rattle.c_values.proofs.Accesses.{loads}
-use Rattle.c_values.specs.Memory.{Fits, load_outcome}
+use Rattle.c_values.specs.Memory.{load_outcome}
 use Rattle.c_values.specs.Places.{ObjectMemory, place_of, spot_at}
 use Rattle.c_objects.specs.Kept.{AllFit, FitsAt}
 use Rattle.c_objects.specs.Opening.{address}
-use Rattle.num_api.specs.declared.message.Range.{Range}
 use Rattle.num_api.specs.Spans.{point, range_of}
 use Rattle.env_eval.proofs.Parts.{as_wide}
 use Rattle.csharp.specs.Trees.{CsProgramTree}
-use Rattle.csharp.specs.States.{State, first}
+use Rattle.csharp.specs.States.{first}
 use Rattle.csharp.specs.Actions.{loaded_at}
 use Rattle.plain_runs.specs.States.{Cell, plain_first}
 use Rattle.plain_runs.specs.States as plain_states
-use Rattle.temp_ranges.proofs.Ranged.{and_then_some, map_some}
+use Rattle.temp_ranges.proofs.Ranged.{map_some}
 use Rattle.object_cells.specs.declared.cells.KnownCell.{KnownCell}
 use Rattle.object_cells.specs.Cells.{cell_of, number_loaded, read_number, number_cell, read_cell, read_at}
-use Rattle.object_cells.specs.Known.{KeepsPlaces, start_of, found_at}
+use Rattle.object_cells.specs.Known.{KeepsPlaces, start_of}
 use Rattle.object_cells.specs.Under.{IsUnderCell, AreUnder, has_own_size, have_own_sizes}
 use Rattle.object_cells.proofs.Places.{places_start}
 

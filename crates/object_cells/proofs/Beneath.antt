@@ -1,35 +1,31 @@
 -- What each statement leaves of what is no wider than a plain state.
-use Rattle.std.proofs.Common.{◌≡◌, ◌≢◌, ◌⊎◌, inl, inr, ℕ, ◌<◌, arith, refl, sym, subst, ap, ◌∙◌, ⊎_elim, Bool, true, false, List, [], ◌∷◌, length, length-set, map, Option, Some, None, Ok}
-use Rattle.std.specs.Prelude.{All, IsTrue, Contains, ◌==◌, ◌&&◌, ◌||◌, if◌then◌else◌, option_map, option_and_then, slice_get, slice_set}
-use Rattle.std.proofs.lemmas.Bool.{and_from, and_parts, cases_eq, cond-true, cond-false, eq-eqb, ne_eqb}
-use Rattle.std.proofs.lemmas.List.{length-map}
+use Rattle.std.proofs.Common.{◌≡◌, ℕ, ◌<◌, refl, sym, subst, ap, ◌∙◌, ⊎_elim, Bool, true, false, List, [], ◌∷◌, length, length-set, Option, Some, None}
+use Rattle.std.specs.Prelude.{All, ◌==◌, if◌then◌else◌, option_map, option_and_then, slice_get, slice_set}
+use Rattle.std.proofs.lemmas.Bool.{cases_eq, cond-true, cond-false, eq-eqb, ne_eqb}
 use Rattle.std.proofs.lemmas.List.Elements.{All-head, All-tail}
 use Rattle.c_written.specs.declared.int_type.IntType.{IntType}
 use Rattle.c_syntax.specs.Types.{ObjectTree, CTypeTree, Int}
 use Rattle.c_syntax.specs.Types as types
 use Rattle.block_mem.specs.declared.types.Scalar.{Scalar}
 use Rattle.block_mem.specs.declared.types.Scalar.TheVariants as scalars
-use Rattle.ext_int.proofs.Ends.{greater_first, greater_second, lesser_first, lesser_second, greater_least, lesser_greatest}
 use Rattle.num_api.specs.declared.message.Range.{Range}
-use Rattle.num_api.specs.Ranges.{NoWider, common, hull, holds_some}
+use Rattle.num_api.specs.Ranges.{NoWider}
 use Rattle.num_api.specs.Spans.{Span, range_of}
-use Rattle.env_eval.proofs.Parts.{wider, as_wide}
+use Rattle.env_eval.proofs.Parts.{as_wide}
 use Rattle.machine_nums.specs.Rule.{type_span, converted}
 use Rattle.csharp.specs.Trees.{CsExprTree, Const, Null, Temp, Address, Unary, Binary, Convert}
-use Rattle.plain_runs.specs.States.{Cell, Plain, agreed, span_of, hull_span, hull_cell, on_both_sides}
-use Rattle.plain_runs.specs.States as plain_states
+use Rattle.plain_runs.specs.States.{Cell, Plain, span_of}
 use Rattle.plain_runs.specs.Changes.{with_temp, with_object, unless, if_passed, source_of, cell_at, declared}
 use Rattle.plain_runs.specs.Changes as plains
 use Rattle.plain_runs.specs.SameExprs.{is_same_type}
 use Rattle.temp_ranges.specs.Operators.{LiesIn}
-use Rattle.temp_ranges.specs.Ranges.{range_at}
 use Rattle.temp_ranges.proofs.Ranged.{and_then_some, map_some}
 use Rattle.object_cells.specs.declared.cells.KnownCell.{KnownCell}
-use Rattle.object_cells.specs.Cells.{cell_of, stored_cell, undefined_cell, narrowed, merged, IsJoined, opened_cell, opened_at, entered, ended, cut_one, cut_by, has_number, copied_has_number, are_cells_left}
+use Rattle.object_cells.specs.Cells.{cell_of, stored_cell, undefined_cell, opened_cell, opened_at, entered, ended}
 use Rattle.object_cells.specs.Copies.{copy_of, without, without_all, source_in}
-use Rattle.object_cells.specs.Under.{IsUnderCell, AreCellsUnder, AreCopiesUnder, AreUnder}
+use Rattle.object_cells.specs.Under.{IsUnderCell, AreUnder}
 use Rattle.object_cells.proofs.Lists.{entry_within, put_at, put_apart, unless_some, unless_keeps, without_at}
-use Rattle.object_cells.proofs.Types.{one_type, same_type, lies_converted}
+use Rattle.object_cells.proofs.Types.{one_type, lies_converted}
 
 -- ---- temporaries
 
@@ -90,7 +86,8 @@ module _ (cells : List (Option KnownCell)) (copies : List (Option ℕ)) (p : Pla
     pub own : ty ≡ scalars.Int c.ty
     pub under : IsUnderCell c cell
 
-  accessed : (ty : Scalar) (x : ℕ) (cell : Cell) → cell_at p ty x ≡ Some cell → IsAccessed ty x cell
+  -- one that the plain run accesses at its own type is known
+  pub accessed : (ty : Scalar) (x : ℕ) (cell : Cell) → cell_at p ty x ≡ Some cell → IsAccessed ty x cell
   accessed (scalars.Int t) x cell g =
       let o = and_then_some (λ (was : Cell). if is_same_type t was.ty then Some was else None) (p.objects x) cell g in
       let w = own_some t o.0 cell o.2 in

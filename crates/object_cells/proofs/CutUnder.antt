@@ -1,10 +1,8 @@
 -- Cuts by copies leave objects no wider than the plain run's cuts do.
-use Rattle.std.proofs.Common.{◌≡◌, ◌≢◌, ◌⊎◌, inl, inr, ℕ, zero, suc, ◌<◌, arith, refl, sym, subst, ap, ◌∙◌, ⊎_elim, Bool, true, false, List, [], ◌∷◌, length, Option, Some, None}
+use Rattle.std.proofs.Common.{◌≡◌, ◌⊎◌, inl, inr, ℕ, zero, suc, ◌<◌, arith, refl, sym, subst, ap, ◌∙◌, ⊎_elim, Bool, true, false, List, [], ◌∷◌, length, Option, Some, None}
 use Rattle.std.specs.Prelude.{IsTrue, Contains, ◌==◌, ◌&&◌, if◌then◌else◌, option_map, slice_index_or, slice_set}
 use Rattle.std.proofs.lemmas.Bool.{and_from, cases_eq, eqb-true}
-use Rattle.c_written.specs.declared.int_type.IntType.{IntType}
 use Rattle.ext_int.specs.declared.Ext.TheVariants.{Fin}
-use Rattle.ext_int.specs.Ext.{Below, Above}
 use Rattle.ext_int.proofs.Ends.{AtMost_trans, AtMost-from_below, AtMost-from_above, int_le-true, number_between, greater_first, greater_second, lesser_first, lesser_second, greater_least, lesser_greatest}
 use Rattle.num_api.specs.declared.message.Range.{Range}
 use Rattle.num_api.specs.Ranges.{NoWider, common, holds_some}
@@ -252,5 +250,5 @@ module _ (cells : List (Option KnownCell)) (copies : List (Option ℕ)) (ranges 
       let r = with_cuts p (behind p m truth) ds in
       let under : AreUnder (cut_by copies ranges es cells) copies r = cut_under cells copies ranges p k ds es among (behind p m truth) (λ d h. (all d h).0) in
       let some : IsTrue (are_left r ds) = left_under (cut_by copies ranges es cells) copies ranges r under ds es among
-          (λ d h. numbers_under (range_at ranges d) (behind p m truth d) (all d h).0 (all d h).1) left in
+      (λ d h. numbers_under (range_at ranges d) (behind p m truth d) (all d h).0 (all d h).1) left in
       (after_test (excludes truth (value_span (given p) m)) (are_left r ds) r reached some, under)

@@ -1,19 +1,18 @@
 -- Objects cut to the ranges of their copies, and what holds on either of two ways.
-use Rattle.std.proofs.Common.{◌≡◌, ◌≢◌, ◌⊎◌, inl, inr, ℕ, ℤ, refl, sym, subst, ap, ◌∙◌, Bool, true, false, List, [], ◌∷◌, Option, Some, None, Result, Ok, Err}
-use Rattle.std.specs.Prelude.{IsTrue, ◌||◌, ◌==◌, if◌then◌else◌, option_map, slice_get, slice_set}
+use Rattle.std.proofs.Common.{◌≡◌, ◌⊎◌, inl, inr, ℕ, ℤ, refl, sym, subst, ap, ◌∙◌, Bool, true, false, List, [], ◌∷◌, Option, Some, None, Result, Ok, Err}
+use Rattle.std.specs.Prelude.{IsTrue, ◌==◌, if◌then◌else◌, option_map, slice_get}
 use Rattle.std.proofs.lemmas.Bool.{eqb-true, or_left, or_right}
 use Rattle.c_written.specs.declared.int_type.IntType.{IntType}
 use Rattle.c_syntax.specs.declared.alarm.WrongKind.{WrongKind}
 use Rattle.c_syntax.specs.declared.alarm.WrongKind.TheVariants as kinds
-use Rattle.c_syntax.specs.Types.{ObjectTree, CTypeTree, Int}
+use Rattle.c_syntax.specs.Types.{ObjectTree, Int}
 use Rattle.block_mem.specs.declared.types.Value.{Value}
 use Rattle.block_mem.specs.declared.types.Value.TheVariants as values
 use Rattle.c_values.specs.Places.{ObjectMemory, place_of}
-use Rattle.ext_int.specs.Ext.{Below, Above}
 use Rattle.ext_int.specs.declared.Ext.TheVariants.{Fin}
 use Rattle.ext_int.proofs.Ends.{AtMost-from_below, AtMost-from_above, Below-from_at_most, Above-from_at_most, AtMost_trans, greater_least, lesser_greatest, lesser_first, lesser_second, greater_first, greater_second, holds_number_from}
 use Rattle.num_api.specs.declared.message.Range.{Range}
-use Rattle.num_api.specs.Ranges.{InRange, common, hull, holds_some}
+use Rattle.num_api.specs.Ranges.{InRange, common, hull}
 use Rattle.csharp.specs.States.{State}
 use Rattle.plain_runs.specs.States.{agreed}
 use Rattle.temp_ranges.specs.Values.{number_of}

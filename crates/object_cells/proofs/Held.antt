@@ -1,6 +1,6 @@
 -- What memory says of one object: as it was, with a number, or without a value.
-use Rattle.std.proofs.Common.{◌≡◌, ◌≢◌, ◌⊎◌, inl, inr, ℕ, ℤ, zero, suc, pos, ◌<◌, ◌≤◌, arith, refl, sym, subst, ap, ◌∙◌, ⊎_elim, Bool, true, false, List, [], ◌∷◌, length, take, Option, Some, None, Result, Ok, Err}
-use Rattle.std.specs.Prelude.{if◌then◌else◌, option_map, option_and_then, replicate, slice_get, slice_set}
+use Rattle.std.proofs.Common.{◌≡◌, ◌⊎◌, inl, inr, ℕ, ℤ, zero, suc, pos, ◌<◌, refl, sym, subst, ap, ◌∙◌, ⊎_elim, Bool, true, false, List, [], length, take, Option, Some, None, Err}
+use Rattle.std.specs.Prelude.{if◌then◌else◌, replicate, slice_get, slice_set}
 use Rattle.std.specs.Option.{ok_or}
 use Rattle.std.proofs.lemmas.Bool.{cases_eq}
 use Rattle.std.proofs.Math.Seq.{get_or-append_seam}
@@ -9,20 +9,17 @@ use Rattle.std.proofs.lemmas.Option.{slice_get_within}
 use Rattle.c_written.specs.declared.int_type.IntType.{IntType}
 use Rattle.c_written.specs.declared.int_type.IntType.TheVariants as ints
 use Rattle.c_written.specs.Integer.{HasNumber}
-use Rattle.c_syntax.specs.declared.alarm.WrongKind.{WrongKind}
 use Rattle.c_syntax.specs.declared.alarm.WrongKind.TheVariants as kinds
 use Rattle.c_syntax.specs.Types.{ObjectTree, CTypeTree, Int}
 use Rattle.c_syntax.specs.Types as types
 use Rattle.block_mem.specs.declared.types.Byte.{Byte}
 use Rattle.block_mem.specs.declared.types.Byte.TheVariants.{Undef}
-use Rattle.block_mem.specs.declared.types.Scalar.{Scalar}
 use Rattle.block_mem.specs.declared.types.Scalar.TheVariants as scalars
-use Rattle.block_mem.specs.declared.types.Value.{Value}
 use Rattle.block_mem.specs.declared.types.Value.TheVariants as values
 use Rattle.block_mem.specs.Block.{BlockView, new_block}
-use Rattle.block_mem.specs.Blocks.{no_block, block_at, loaded, store, with_undefined, wrong_access}
+use Rattle.block_mem.specs.Blocks.{no_block, block_at, loaded, with_undefined, wrong_access}
 use Rattle.block_mem.specs.Bytes.{size_of, has_undef, value_of}
-use Rattle.block_mem.specs.Numbers.{number_in, bits_in}
+use Rattle.block_mem.specs.Numbers.{number_in}
 use Rattle.block_mem.specs.Pieces.{get_bytes}
 use Rattle.block_mem.proofs.Copies.{bytes-same}
 use Rattle.block_mem.proofs.StoreLaws.{passing, loaded-store}

@@ -1,11 +1,11 @@
 -- Joins are under what both sides are under, and what is under a side of a hull is under the hull.
-use Rattle.std.proofs.Common.{◌≡◌, ◌⊎◌, inl, inr, ℕ, refl, sym, subst, ap, ◌∙◌, ⊎_elim, Bool, true, false, List, Option, Some, None}
-use Rattle.std.specs.Prelude.{◌==◌, ◌||◌, if◌then◌else◌}
+use Rattle.std.proofs.Common.{◌≡◌, ℕ, refl, sym, subst, ap, ◌∙◌, ⊎_elim, List, Option, Some, None}
+use Rattle.std.specs.Prelude.{◌==◌}
 use Rattle.std.proofs.lemmas.Bool.{cond-true, eq-eqb, or_cases, or_left, or_right}
 use Rattle.ext_int.specs.declared.Ext.TheVariants.{Fin}
 use Rattle.ext_int.proofs.Ends.{lesser_first, lesser_second, greater_first, greater_second, lesser_greatest, greater_least}
 use Rattle.num_api.specs.declared.message.Range.{Range}
-use Rattle.num_api.specs.Ranges.{NoWider, hull}
+use Rattle.num_api.specs.Ranges.{NoWider}
 use Rattle.num_api.specs.Spans.{Span, range_of}
 use Rattle.env_eval.proofs.Parts.{wider}
 use Rattle.plain_runs.specs.States.{Cell, Plain, agreed, hull_span, hull_cell, on_both_sides}

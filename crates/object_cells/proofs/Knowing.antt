@@ -1,5 +1,5 @@
 -- What each statement leaves of what is known of objects and copies.
-use Rattle.std.proofs.Common.{◌≡◌, ◌≢◌, ◌⊎◌, inl, inr, ℕ, ℤ, pos, ◌<◌, arith, refl, sym, subst, ap, ◌∙◌, ⊎_elim, Bool, true, false, List, [], ◌∷◌, length, replicate, Option, Some, None, Result, Ok, Err}
+use Rattle.std.proofs.Common.{◌≡◌, ◌≢◌, ◌⊎◌, inl, inr, ℕ, ℤ, ◌<◌, refl, sym, subst, ap, ◌∙◌, ⊎_elim, Bool, true, false, List, [], ◌∷◌, length, replicate, Option, Some, None, Result, Ok, Err}
 use Rattle.std.specs.Option.{ok_or}
 use Rattle.std.specs.Prelude.{All, if◌then◌else◌, option_map, option_and_then, slice_get, slice_set}
 use Rattle.std.proofs.lemmas.Bool.{cases_eq}
@@ -8,23 +8,26 @@ use Rattle.c_written.specs.declared.int_type.IntType.{IntType}
 use Rattle.c_written.specs.Integer.{wrapped}
 use Rattle.c_syntax.specs.declared.alarm.WrongKind.{WrongKind}
 use Rattle.c_syntax.specs.declared.alarm.WrongKind.TheVariants as kinds
+use Rattle.c_syntax.specs.Operand.{Operand, Mark, HasValue}
+use Rattle.c_syntax.specs.Operand as operands
 use Rattle.c_syntax.specs.Types.{ObjectTree, CTypeTree, Int}
 use Rattle.c_syntax.specs.Types as types
+use Rattle.block_mem.specs.declared.types.Byte.{Byte}
 use Rattle.block_mem.specs.declared.types.Scalar.{Scalar}
 use Rattle.block_mem.specs.declared.types.Scalar.TheVariants as scalars
 use Rattle.block_mem.specs.declared.types.Value.{Value}
 use Rattle.block_mem.specs.declared.types.Value.TheVariants as values
 use Rattle.block_mem.specs.Blocks as blocks
 use Rattle.block_mem.specs.Blocks.{after_access, bytes_at, loaded}
-use Rattle.block_mem.specs.Bytes.{size_of, has_undef}
+use Rattle.block_mem.specs.Bytes.{size_of, has_undef, mark_of, value_or_broken}
+use Rattle.block_mem.specs.Bytes.{value_of as of_bytes}
 use Rattle.block_mem.specs.Numbers.{number_in, number_of}
-use Rattle.c_values.specs.Accesses.{ok_of}
+use Rattle.c_values.specs.Accesses.{mark, ok_of}
 use Rattle.c_values.specs.Places.{ObjectMemory, place_of}
-use Rattle.c_objects.specs.Opening.{address, opened, open_all, shut, shut_all, undefined}
+use Rattle.c_objects.specs.Opening.{address, opened, shut, undefined}
 use Rattle.c_objects.specs.Writing.{with_blocks, stored_at, copied_at}
 use Rattle.num_api.specs.declared.message.Range.{Range}
 use Rattle.num_api.specs.Ranges.{InRange}
-use Rattle.num_api.specs.Spans.{range_of, point}
 use Rattle.env_eval.proofs.Parts.{in_point}
 use Rattle.machine_nums.proofs.Wrapped.{inside_has}
 use Rattle.csharp.specs.Trees.{CsExprTree, Const, Null, Temp, Address, Unary, Binary, Convert, CsProgramTree}
@@ -36,7 +39,7 @@ use Rattle.temp_ranges.proofs.Ranged.{and_then_some, map_some}
 use Rattle.object_cells.specs.declared.cells.KnownCell.{KnownCell}
 use Rattle.object_cells.specs.Cells.{cell_of, stored_cell, undefined_cell, opened_at, entered, ended, number_loaded, read_number, number_cell, read_cell, read_at}
 use Rattle.object_cells.specs.Copies.{copy_of, without, without_all, source_in}
-use Rattle.object_cells.specs.Known.{KeepsPlaces, start_of, found_at, IsFound, HoldsCell, AreHeld, IsCopy, AreCopies, AreKnown}
+use Rattle.object_cells.specs.Known.{KeepsPlaces, start_of, found_at, IsFound, HoldsCell, IsCopy, AreKnown}
 use Rattle.object_cells.proofs.Lists.{put_here, put_apart, nothing_at, get_apart, get_here}
 use Rattle.object_cells.proofs.Places.{ChangesOnly, changes_bytes, changes_opened, changes_shut, given, places_stored, places_copied, places_undefined, places_opened, places_shut, places_start}
 use Rattle.object_cells.proofs.Held.{held_put, copies_without, held_stored, held_undefined, held_opened}
@@ -270,6 +273,30 @@ module _ (objects : List ObjectTree) (cells : List (Option KnownCell)) (copies :
       (subst (λ (y : ObjectMemory). ChangesOnly s.memory y x) b.2 (changes_bytes (length objects) s.memory k.places.owned x b.0 _ b.1))
       (λ d q. let c = map_some undefined_cell (cell_of cells x) d q in
       subst (HoldsCell objects m.0 x) c.2 (held_undefined objects s.memory m.0 x c.0 k.places (k.cells_held x c.0 c.1) b.0 b.1 (sym b.2))))
+
+-- ---- what a check of a load looks at
+
+-- the bytes of an object that is known have a value, or none where that may be
+marked : (c : KnownCell) (bs : List Byte) (undef : Bool) (o : Option Value) → has_undef bs ≡ undef → of_bytes (scalars.Int c.ty) bs ≡ o
+    → IsFound c (if undef then Err kinds.Indeterminate else ok_or o kinds.Fragment) → ((mark_of (scalars.Int c.ty) bs ≡ operands.Undef) × (c.may_be_undefined ≡ true))
+    ⊎ (mark_of (scalars.Int c.ty) bs ≡ HasValue)
+marked c bs true o e f h = inl (ap (λ (u : Bool). if u then operands.Undef else value_or_broken (of_bytes (scalars.Int c.ty) bs)) e, h)
+marked c bs false None e f h = absurd h
+marked c bs false (Some v) e f h = inr
+    (ap (λ (u : Bool). if u then operands.Undef else value_or_broken (of_bytes (scalars.Int c.ty) bs)) e ∙ ap value_or_broken f)
+
+pub mark_known : (objects : List ObjectTree) (cells : List (Option KnownCell)) (copies : List (Option ℕ)) (s : State) → AreKnown objects cells copies s → (x : ℕ)
+    (c : KnownCell) (v : Value) (o : Operand) → cell_of cells x ≡ Some c → value_of (Address x) s ≡ Some v → mark s.memory (Some (scalars.Int c.ty)) v ≡ Some o
+    → ((o ≡ Mark operands.Undef) × (c.may_be_undefined ≡ true)) ⊎ (o ≡ Mark HasValue)
+mark_known objects cells copies s k x c v o e f g =
+    let b = map_some (λ b. values.Ptr (start_of b)) (place_of s.memory x) v f in
+    let h = k.cells_held x c e in
+    let bs = bytes_at s.memory.blocks (start_of b.0) (size_of (scalars.Int c.ty)) in
+    let found : IsFound c (found_at s.memory b.0 c.ty) = subst (λ (i : ℕ). IsFound c (found_at s.memory i c.ty)) (one_place s.memory x h.block b.0 h.place b.1) h.found in
+    let is : mark s.memory (Some (scalars.Int c.ty)) (values.Ptr (start_of b.0)) ≡ Some o = ap (mark s.memory (Some (scalars.Int c.ty))) b.2 ∙ g in
+    let same : Mark (mark_of (scalars.Int c.ty) bs) ≡ o = cc in
+    ⊎_elim (λ u. inl (sym same ∙ ap Mark u.0, u.1)) (λ w. inr (sym same ∙ ap Mark w))
+    (marked c bs (has_undef bs) (of_bytes (scalars.Int c.ty) bs) refl refl found)
 
 -- ---- inputs
 

@@ -1,5 +1,5 @@
 -- Types by their numbers, and the ranges of their numbers.
-use Rattle.std.proofs.Common.{◌≡◌, ℕ, true, refl, sym, subst, ap, ◌∙◌, List, [], ◌∷◌, Some}
+use Rattle.std.proofs.Common.{◌≡◌, true, refl, sym, subst, ap, ◌∙◌, List, [], ◌∷◌, Some}
 use Rattle.std.specs.Prelude.{slice_index_or}
 use Rattle.std.proofs.lemmas.Bool.{eqb-true, eq-eqb}
 use Rattle.c_written.specs.declared.int_type.IntType.{IntType}
