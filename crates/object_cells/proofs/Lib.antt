@@ -1,0 +1,11 @@
+pub mod Lists
+pub mod Types
+pub mod Places
+pub mod Held
+pub mod Knowing
+pub mod Cutting
+pub mod Beneath
+pub mod CutUnder
+pub mod Hulls
+pub mod Beginning
+pub mod Passing
