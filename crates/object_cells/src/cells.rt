@@ -1,10 +1,14 @@
 // What is known of integer objects.
 #![tactic(auto, using(c_syntax::proofs::Trees::the_trees))]
 
-ghost use Rattle.std.specs.Prelude.{◌≡◌, ℕ, List, false, IsTrue, IfOk, None, Some, length, map, option_map, replicate, slice_set};
+ghost use Rattle.std.specs.Prelude.{◌≡◌, ℕ, List, false, IsTrue, IfOk, IfSome, None, Some, length, map, option_map, replicate, slice_set};
 ghost use Rattle.c_syntax.specs.Types.{ObjectTree, ctype_tree, object_tree};
+ghost use Rattle.c_written.specs.declared.int_type.IntType.{IntType};
+ghost use Rattle.c_written.specs.Integer.{HasNumber};
+ghost use Rattle.block_mem.specs.Bytes.{IsOf};
 ghost use Rattle.c_objects.specs.Kept.{AllFit};
 ghost use Rattle.num_api.specs.Ranges.{common};
+ghost use Rattle.temp_ranges.specs.Operators.{LiesIn};
 ghost use Rattle.object_cells.specs.Cells.{cell_of, knows_cells, undefined_cell, narrowed, IsJoined, IsWider, AreWider, opened_cell, opened_at, entered, ended, number_loaded, read_number, read_cell as cell_in, read_at};
 
 use block_mem::{Scalar, Value};
@@ -84,7 +88,8 @@ fn opened_at(objects: &[Object], x: u64) -> Option<KnownCell>
 
 // The number of a value that is one.
 fn number_of(v: Value) -> Option<i128>
-    ensures { result ≡ number_loaded (Some v) }
+    ensures number { result ≡ number_loaded (Some v) }
+    ensures typed { (t : IntType) → IsOf (Scalar.Int t) v → IfSome result (HasNumber t) }
 {
     match v {
         Value::Int(_, n) => Some(n),
@@ -95,7 +100,8 @@ fn number_of(v: Value) -> Option<i128>
 // The number that an integer object has in memory, if it has one.
 fn read_number(memory: &ObjectMemory, x: u64, ty: IntType) -> Option<i128>
     requires { (objects : List ObjectTree) × AllFit objects memory.now }
-    ensures { result ≡ read_number memory.now x ty }
+    ensures number { result ≡ read_number memory.now x ty }
+    ensures typed { IfSome result (HasNumber ty) }
 {
     if memory.place(x).is_none() {
         return None;
@@ -109,7 +115,8 @@ fn read_number(memory: &ObjectMemory, x: u64, ty: IntType) -> Option<i128>
 // What an integer object has in memory.
 fn read_cell(memory: &ObjectMemory, x: u64, object: &Object) -> Option<KnownCell>
     requires { (objects : List ObjectTree) × AllFit objects memory.now }
-    ensures { result ≡ cell_in memory.now x (object_tree object.now) (ctype_tree object.now.ty) }
+    ensures cell { result ≡ cell_in memory.now x (object_tree object.now) (ctype_tree object.now.ty) }
+    ensures inside { IfSome result (λ c. LiesIn c.ty c.range) }
 {
     match &object.ty {
         CType::Int(ty) => match read_number(memory, x, *ty) {
@@ -132,7 +139,8 @@ fn read_cell(memory: &ObjectMemory, x: u64, object: &Object) -> Option<KnownCell
 // What an object, by its number, has in memory.
 fn read_at(objects: &[Object], memory: &ObjectMemory, x: u64) -> Option<KnownCell>
     requires { (known : List ObjectTree) × AllFit known memory.now }
-    ensures { result ≡ read_at (map object_tree objects.now) memory.now x }
+    ensures cell { result ≡ read_at (map object_tree objects.now) memory.now x }
+    ensures inside { IfSome result (λ c. LiesIn c.ty c.range) }
 {
     match objects.get(x as usize) {
         Some(object) => read_cell(memory, x, object),
@@ -193,6 +201,7 @@ impl Cells {
         requires { AllFit (map object_tree objects.now) memory.now }
         ensures size { IfOk result (λ cells. length cells ≡ length objects.now) }
         ensures read { IfOk result (λ cells. (x : ℕ) → cell_of cells x ≡ read_at (map object_tree objects.now) memory.now x) }
+        ensures inside { IfOk result (λ cells. (x : ℕ) → IfSome (cell_of cells x) (λ c. LiesIn c.ty c.range)) }
     {
         let mut items = Vec::new(alloc);
         for x in 0..objects.len() as u64 {

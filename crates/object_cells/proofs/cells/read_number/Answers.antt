@@ -5,12 +5,12 @@ use Rattle.object_cells.specs.Cells.{number_loaded}
 use Rattle.object_cells.proofs.Beginning.{value_in, value_loads}
 use Rattle.object_cells.proofs.cells.read_number.Goals as goal
 
-pub returns-in-Ok : goal.returns-in-Ok
-returns-in-Ok c = c.number_of.ensures ∙ ap (λ (r : Result Value Wrong). number_loaded (value_in r)) (sym c.in-Ok.is)
+pub returns-in-Ok-clause-number : goal.returns-in-Ok-clause-number
+returns-in-Ok-clause-number c = c.number_of.ensures.number ∙ ap (λ (r : Result Value Wrong). number_loaded (value_in r)) (sym c.in-Ok.is)
     ∙ value_loads c.requires.0 c.args.memory.now c.args.x c.args.ty c.address.result c.load.result c.requires.1 c.address.ensures.address c.address.ensures.made
     c.load.ensures.answer
 
-pub returns-in-Err : goal.returns-in-Err
-returns-in-Err c = ap (λ (r : Result Value Wrong). number_loaded (value_in r)) (sym c.in-Err.is)
+pub returns-in-Err-clause-number : goal.returns-in-Err-clause-number
+returns-in-Err-clause-number c = ap (λ (r : Result Value Wrong). number_loaded (value_in r)) (sym c.in-Err.is)
     ∙ value_loads c.requires.0 c.args.memory.now c.args.x c.args.ty c.address.result c.load.result c.requires.1 c.address.ensures.address c.address.ensures.made
     c.load.ensures.answer
