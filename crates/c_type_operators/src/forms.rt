@@ -71,23 +71,11 @@ fn formed(alloc: Global, pos: Pos, form: Form, a: TExpr, b: TExpr) -> Result<TEx
 {
     match form {
         Form::Balanced(op, t, u) => balanced(alloc, pos, op, (t, a), (u, b)),
-        Form::Shifted(way, t) => shifted(alloc, way, pos, t, a, b),
+        Form::Shifted(way, t) => {
+            let target = promote(t);
+            let a = as_int(alloc, target, t, a)?;
+            binary_node(alloc, pos, TBinaryOp::Shift(way, target), a, b)
+        }
         Form::Plain(op) => binary_node(alloc, pos, op, a, b),
     }
-}
-
-// A shift of a value of this type.
-fn shifted(
-    alloc: Global,
-    way: Shift,
-    pos: Pos,
-    t: IntType,
-    a: TExpr,
-    b: TExpr,
-) -> Result<TExpr, NoMemory>
-    ensures { IfOk result (λ node. texpr_tree node ≡ binary_of (Form.Shifted way t) pos (texpr_tree a) (texpr_tree b)) }
-{
-    let target = promote(t);
-    let a = as_int(alloc, target, t, a)?;
-    binary_node(alloc, pos, TBinaryOp::Shift(way, target), a, b)
 }

@@ -1,13 +1,11 @@
 // Values that are stored.
 #![tactic(auto, using(c_syntax::proofs::TypeTrees::type_trees))]
 
-ghost use Rattle.std.specs.Prelude.{◌≡◌, ◌||◌, IfOk, map, option_map};
+ghost use Rattle.std.specs.Prelude.{◌≡◌, IfOk, map, option_map};
 ghost use Rattle.c_syntax.specs.Types.{ctype_tree};
 ghost use Rattle.c_syntax.specs.TypedExpr.{TExprTree, texpr_tree};
 ghost use Rattle.c_syntax.specs.Program.{structdef_tree};
-ghost use Rattle.c_layout.specs.RowTypes as row_types;
 ghost use Rattle.c_typing.specs.Rows as rows;
-ghost use Rattle.c_typing.specs.SameTypes as same;
 ghost use Rattle.c_type_operators.specs.Forms.{store_of, stored_of};
 ghost use Rattle.c_type_operators.specs.StoreViews.{stored_tree};
 
@@ -91,7 +89,8 @@ fn store_form(target: &CType, ty: &CType, e: &TExpr) -> Result<Option<Store>, No
     }
 }
 
-// A pointer of type `ty`, to `from`, that is stored as one of type `target`, to `to`.
+// A pointer of type `ty`, to `from`, that is stored as one of type `target`, to `to`: both point to one type, or
+// one points to void.
 fn pointer_form(
     target: &CType,
     to: &CType,
@@ -105,19 +104,12 @@ fn pointer_form(
     if is_null_constant(e)? {
         return Ok(Some(Store::Null));
     }
-    if agree(to, from) && keeps_const(ty, target) {
+    let agree = is_same_but_const(to, from) || (is_void(to) || is_void(from));
+    if agree && keeps_const(ty, target) {
         Ok(Some(Store::Pointer))
     } else {
         Ok(None)
     }
-}
-
-// Whether a pointer to the one is stored as a pointer to the other: both are one type, or one is void.
-fn agree(to: &CType, from: &CType) -> bool
-    ensures { result ≡ (same.is_same_but_const (ctype_tree to.now) (ctype_tree from.now)
-        || (row_types.is_void (ctype_tree to.now) || row_types.is_void (ctype_tree from.now))) }
-{
-    is_same_but_const(to, from) || (is_void(to) || is_void(from))
 }
 
 /// A value of type `ty` that is stored in a place of type `target`, by `=` or an initialiser: a scalar as by

@@ -1,9 +1,8 @@
 // Operators on one value.
 #![tactic(auto, using(c_syntax::proofs::Trees::the_trees))]
 
-ghost use Rattle.std.specs.Prelude.{◌≡◌, IfOk, Some, option_map};
+ghost use Rattle.std.specs.Prelude.{◌≡◌, IfOk, option_map};
 ghost use Rattle.c_syntax.specs.Types.{ctype_tree};
-ghost use Rattle.c_syntax.specs.Types as types;
 ghost use Rattle.c_syntax.specs.TypedExpr.{texpr_tree};
 ghost use Rattle.c_typing.specs.Rows as rows;
 ghost use Rattle.c_type_operators.specs.ArithmeticViews.{sign_at};
@@ -46,7 +45,9 @@ pub fn unary_row(
 {
     match ty {
         CType::Int(t) => {
-            let node = signed(alloc, sign, pos, *t, e)?;
+            let target = promote(*t);
+            let e = as_int(alloc, target, *t, e)?;
+            let node = unary_node(alloc, pos, op_at(sign, target), e)?;
             Ok(Some(node))
         }
         CType::Void
@@ -55,15 +56,6 @@ pub fn unary_row(
         | CType::Struct(_)
         | CType::Function(_) => Ok(None),
     }
-}
-
-// An operator on a value of this type.
-fn signed(alloc: Global, sign: Sign, pos: Pos, t: IntType, e: TExpr) -> Result<TExpr, NoMemory>
-    ensures { IfOk result (λ node. Some (texpr_tree node) ≡ rows.unary_row (sign_at sign) pos (types.Int t) (texpr_tree e)) }
-{
-    let target = promote(t);
-    let e = as_int(alloc, target, t, e)?;
-    unary_node(alloc, pos, op_at(sign, target), e)
 }
 
 /// `!` on a scalar (C11 6.5.3.3p1 and p5).
