@@ -1,0 +1,5 @@
+mod Inputs
+mod Moves
+mod Operands
+mod Tests
+mod Alone
