@@ -1,6 +1,5 @@
 -- What shows one operand shows no other.
-use Rattle.std.proofs.Common.{◌≡◌, ◌^◌, ◌<◌, ◌≤◌, ℕ, ℤ, pos, neg_ℤ, ◌+ℤ◌, ◌*ℤ◌, ◌≤ℤ◌, ◌<ℤ◌, FitsSigned, Bool, true, false, refl, sym, subst, ap, ◌∙◌, arith, List, length, Option, Some, None}
-use Rattle.std.specs.Int.{w64}
+use Rattle.std.proofs.Common.{◌≡◌, ℤ, pos, Bool, true, false, refl, sym, ap, ◌∙◌, arith, List, Some}
 use Rattle.std.proofs.lemmas.Int.{ints as int_facts}
 use Rattle.c_syntax.specs.declared.alarm.Pointers.{Pointers}
 use Rattle.c_syntax.specs.declared.alarm.Shown.TheVariants as shows
@@ -9,10 +8,9 @@ use Rattle.c_syntax.specs.declared.alarm.Spot.TheVariants as spots
 use Rattle.c_syntax.specs.Types.{ObjectTree}
 use Rattle.c_syntax.specs.Operand.{Operand, Number, Point, Points, Mark, End, LoadMark, Undef, HasValue, Broken, CallEnd}
 use Rattle.c_syntax.specs.Operand as operands
-use Rattle.c_syntax.specs.Admission.{IsInShown, IsModerate, IsProperRange}
+use Rattle.c_syntax.specs.Admission.{IsInShown, IsModerate}
 use Rattle.c_values.specs.Typed.{IsNear}
 use Rattle.shown_sets.specs.Sets.{HasAlone, IsModerateSpot}
-use Rattle.mem_api.specs.Showing.{IsAlone}
 use Rattle.one_state.specs.Seen.{ShowsAlone}
 
 -- ---- numbers

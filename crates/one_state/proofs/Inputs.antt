@@ -1,6 +1,6 @@
 -- No value and no operand of a check looks at the inputs that are left.
-use Rattle.std.proofs.Common.{◌≡◌, ℕ, refl, sym, ap, ◌∙◌, Bool, true, List, [], ◌∷◌, Option, Some, None}
-use Rattle.std.specs.Prelude.{option_and_then, option_map, ◌&&◌, not, is_some}
+use Rattle.std.proofs.Common.{◌≡◌, refl, ap, ◌∙◌, List, [], ◌∷◌, Option}
+use Rattle.std.specs.Prelude.{option_and_then}
 use Rattle.c_syntax.specs.declared.alarm.WrongKind.{WrongKind}
 use Rattle.c_syntax.specs.declared.alarm.WrongKind.TheVariants as kinds
 use Rattle.c_syntax.specs.Operand.{Operand}
@@ -9,10 +9,10 @@ use Rattle.block_mem.specs.declared.types.Scalar.{Scalar}
 use Rattle.block_mem.specs.declared.types.Scalar.TheVariants as scalars
 use Rattle.block_mem.specs.declared.types.Value.{Value}
 use Rattle.c_values.specs.Values.{converted_to}
-use Rattle.c_values.specs.Places.{ObjectMemory, place_of, spot, point}
+use Rattle.c_values.specs.Places.{ObjectMemory, spot, point}
 use Rattle.c_values.specs.Operators.{binary_result, unary_result, number, exact_binary, unary_operand, pair_operand}
 use Rattle.c_values.specs.Accesses.{mark, test_operand}
-use Rattle.c_values.specs.Looks.{Judged, judge}
+use Rattle.c_values.specs.Looks.{judge}
 use Rattle.c_objects.specs.Opening.{address}
 use Rattle.csharp.specs.Trees.{CsExprTree, Const, Null, Temp, Address, Unary, Binary, Convert, CsCheckTree}
 use Rattle.csharp.specs.States.{State, value_of, if_taken, on_both, exact_of, end_of, pointed, of_one, of_value, operand_of, look_of}

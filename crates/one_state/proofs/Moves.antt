@@ -1,5 +1,5 @@
 -- An action that takes no input takes states that are the same but for their inputs to such states.
-use Rattle.std.proofs.Common.{◌≡◌, ℕ, refl, sym, subst, ap, ◌∙◌, List, [], ◌∷◌, Option, Some, None, map}
+use Rattle.std.proofs.Common.{◌≡◌, ℕ, refl, sym, subst, ap, ◌∙◌, List, Option, Some, None}
 use Rattle.std.specs.Prelude.{option_and_then, option_map, IfSome, IfOk, IsOkAnd, slice_set, Result, Ok, Err}
 use Rattle.c_syntax.specs.Types.{ObjectTree}
 use Rattle.block_mem.specs.declared.types.Scalar.{Scalar}

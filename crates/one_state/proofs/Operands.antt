@@ -1,6 +1,6 @@
 -- The operand that is found of a check is one of its kind, and its pointers lead into objects of the program.
 use Rattle.std.proofs.Common.{◌≡◌, ℕ, ℤ, pos, ◌<◌, ◌≤◌, Bool, true, false, refl, sym, subst, ap, ◌∙◌, List, [], ◌∷◌, length, Option, Some, None, inl, inr, ◌⊎◌}
-use Rattle.std.specs.Prelude.{option_map, option_and_then, if◌then◌else◌, slice_get}
+use Rattle.std.specs.Prelude.{option_map, option_and_then, if◌then◌else◌}
 use Rattle.std.specs.Ordering.{int_eq}
 use Rattle.std.proofs.lemmas.Bool.{cases_lt}
 use Rattle.std.proofs.lemmas.List.{get_or_past}
