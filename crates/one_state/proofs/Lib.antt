@@ -1,5 +1,9 @@
 mod Inputs
 mod Moves
+mod Held
 mod Operands
-mod Tests
+mod Findings
 mod Alone
+mod Numbers
+mod Told
+mod Listing

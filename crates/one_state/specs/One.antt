@@ -1,8 +1,10 @@
 -- The one state of a run without inputs, where it is known.
 use Rattle.std.specs.Prelude.{◌≡◌, ℕ, ◌<◌, List, length, All, Option, Some, None, IfSome}
 use Rattle.c_syntax.specs.Types.{ObjectTree}
+use Rattle.c_values.specs.Places.{ObjectMemory}
 use Rattle.csharp.specs.States.{State}
 use Rattle.csharp_acts.specs.Belongs.{Belongs, HasObjects}
+use Rattle.mem_api.specs.Owned.{IsOwned}
 use Rattle.csharp_acts.specs.declared.state.Step.{Step}
 use Rattle.csharp_acts.specs.declared.state.Step.TheVariants as steps
 
@@ -19,9 +21,13 @@ IsOf one s = IfSome one (λ t. IsSame t s)
 abbrev pub IsFor : List ObjectTree → Option State → Type 0
 IsFor objects one = IfSome one (λ s. Belongs objects s.memory)
 
--- where it is known, its memory is that of some program's objects
+-- memory of some program's objects: each block is that of one of them, and what lives has a block that does
+abbrev pub IsProgramMemory : ObjectMemory → Type 0
+IsProgramMemory m = HasObjects m × IsOwned (length m.places) m
+
+-- where it is known, its memory is such a one
 abbrev pub IsHeld : Option State → Type 0
-IsHeld one = IfSome one (λ s. HasObjects s.memory)
+IsHeld one = IfSome one (λ s. IsProgramMemory s.memory)
 
 -- these names are numbers of the objects for which it is
 abbrev pub AreNamesOf : List ℕ → Option State → Type 0

@@ -16,10 +16,12 @@
 //! | the actions | `Actions` of csharp | `set`, `load`, `store`, `copy_bytes`, `undefine`, `enter`, `leave` |
 //! | tests and checks | `value_of` and `look_of` of csharp, `judge` of c_values | `assume`, `pass`, `operand` |
 //! | what shows one operand alone | `Seen` | `show`, `shown_alone` |
+//! | the numbers of whole objects | `Telling`; `FactsOf` of mem_api | `facts` |
 #![tactic(auto)]
 
 mod changes;
 mod checks;
+mod facts;
 mod shows;
 mod state;
 

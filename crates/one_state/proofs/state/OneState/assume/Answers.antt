@@ -3,7 +3,7 @@ use Rattle.csharp.specs.Trees.{csexpr_tree}
 use Rattle.csharp.specs.States.{value_of}
 use Rattle.one_state.specs.One.{IsOf}
 use Rattle.one_state.proofs.Inputs.{value_same}
-use Rattle.one_state.proofs.Tests.{truth_kept}
+use Rattle.one_state.proofs.Findings.{truth_kept}
 use Rattle.one_state.proofs.state.OneState.assume.Goals as goal
 
 pub returns-in-Ok-Some-clause-stands : goal.returns-in-Ok-Some-clause-stands

@@ -1,6 +1,6 @@
 use Rattle.std.proofs.Common.{sym, ◌∙◌}
 use Rattle.csharp.specs.Trees.{cscheck_tree}
-use Rattle.one_state.proofs.Tests.{below_found, shape_found, stands_found}
+use Rattle.one_state.proofs.Findings.{below_found, shape_found, stands_found}
 use Rattle.one_state.proofs.state.OneState.operand.Goals as goal
 
 pub returns-in-Ok-clause-stands : goal.returns-in-Ok-clause-stands

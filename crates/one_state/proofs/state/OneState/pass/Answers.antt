@@ -2,7 +2,7 @@ use Rattle.std.proofs.Common.{sym, ap, ◌∙◌, map}
 use Rattle.c_syntax.specs.Types.{object_tree}
 use Rattle.csharp.specs.Trees.{cscheck_tree}
 use Rattle.csharp_acts.specs.Answers.{judged, operand_of}
-use Rattle.one_state.proofs.Tests.{passes_not}
+use Rattle.one_state.proofs.Findings.{passes_not}
 use Rattle.one_state.proofs.state.OneState.pass.Goals as goal
 
 pub returns-in-Ok-Fails-clause-stands : goal.returns-in-Ok-Fails-clause-stands
