@@ -1,5 +1,5 @@
-mod Inputs
-mod Moves
+pub mod Inputs
+pub mod Moves
 mod Held
 mod Operands
 mod Findings

@@ -63,6 +63,29 @@ enters objects xs t s h = record { temps = h.temps; memory = ap (λ (m : ObjectM
 pub leaves : (xs : List ℕ) (t s : State) → IsSame t s → IsSame (acts.leave xs t) (acts.leave xs s)
 leaves xs t s h = record { temps = h.temps; memory = ap (λ (m : ObjectMemory). shut_all m xs) h.memory }
 
+-- ---- none of them takes an input
+
+inputs_by : {A : Type 0} (f : A → State) (o : Option A) (s t : State) → ((a : A) → (f a).inputs ≡ s.inputs) → option_map f o ≡ Some t → t.inputs ≡ s.inputs
+inputs_by f None s t each h = absurd (cc)
+inputs_by f (Some a) s t each h = let same : f a ≡ t = cc in sym (ap (λ (u : State). u.inputs) same) ∙ each a
+
+pub sets_inputs : (d : ℕ) (e : CsExprTree) (s t : State) → acts.set d e s ≡ Some t → t.inputs ≡ s.inputs
+sets_inputs d e s t h = inputs_by (put s d) (value_of e s) s t (λ v. refl) h
+
+pub loads_inputs : (d : ℕ) (ty : Scalar) (e : CsExprTree) (s t : State) → acts.load d ty e s ≡ Some t → t.inputs ≡ s.inputs
+loads_inputs d ty e s t h = inputs_by (put s d) (option_and_then (loaded_at s.memory ty) (value_of e s)) s t (λ v. refl) h
+
+pub stores_inputs : (ty : Scalar) (e f : CsExprTree) (s t : State) → acts.store ty e f s ≡ Some t → t.inputs ≡ s.inputs
+stores_inputs ty e f s t h =
+    inputs_by (λ (m : ObjectMemory). record s { memory = m }) (on_both e f s (stored_at s.memory ty)) s t (λ m. refl) h
+
+pub copies_inputs : (n : ℕ) (e f : CsExprTree) (s t : State) → acts.copy_bytes n e f s ≡ Some t → t.inputs ≡ s.inputs
+copies_inputs n e f s t h =
+    inputs_by (λ (m : ObjectMemory). record s { memory = m }) (on_both e f s (λ v w. copied_at s.memory v w n)) s t (λ m. refl) h
+
+pub undefines_inputs : (x : ℕ) (s t : State) → acts.undefine x s ≡ Some t → t.inputs ≡ s.inputs
+undefines_inputs x s t h = inputs_by (λ (m : ObjectMemory). record s { memory = m }) (undefined s.memory x) s t (λ m. refl) h
+
 -- ---- what is left of the one state
 
 -- the state behind the action, where there is one

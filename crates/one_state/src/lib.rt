@@ -24,6 +24,8 @@ mod checks;
 mod facts;
 mod shows;
 mod state;
+#[cfg(test)]
+mod tests;
 
 pub use shows::shown_alone;
 pub use state::OneState;
