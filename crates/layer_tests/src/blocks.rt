@@ -51,6 +51,18 @@ fn reads_a_number_by_its_bytes(rt: HostRuntime) -> Result<(), NoMemory> {
     Ok(())
 }
 
+#[test]
+fn a_copy_of_memory_loads_the_same(rt: HostRuntime) -> Result<(), NoMemory> {
+    let mut memory = Memory::new(rt.alloc());
+    let block = memory.alloc_block(4, false)?;
+    let at = Pointer { block, offset: 0 };
+    let stored = memory.store(at, INT, Value::Int(IntType::Int, 7));
+    assert!(rt; stored.is_ok());
+    let copy = memory.try_clone()?;
+    loads(&rt, &copy, at, INT, Ok(Value::Int(IntType::Int, 7)));
+    Ok(())
+}
+
 // An access: its offset, size and alignment, and whether it writes; and what is wrong with it.
 type Row = (i64, u64, u64, bool, Option<WrongKind>);
 

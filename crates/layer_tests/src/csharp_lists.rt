@@ -106,3 +106,13 @@ fn memory_of_a_state(rt: HostRuntime) {
     let state = first_state(rt.alloc(), &program, &[]).expect(&rt, "a state");
     assert_eq!(rt; state.memory().place(0), None);
 }
+
+#[test]
+fn copy_of_a_state(rt: HostRuntime) -> Result<(), AllocError> {
+    let program = empty_program(rt.alloc());
+    let state = first_state(rt.alloc(), &program, &[7]).expect(&rt, "a state");
+    let copy = state.try_clone()?;
+    assert_eq!(rt; copy.memory().count(), 0);
+    assert_eq!(rt; copy.temp(0), None);
+    Ok(())
+}
