@@ -1,6 +1,6 @@
 // The one state, and what makes it.
 
-ghost use Rattle.std.specs.Prelude.{◌≡◌, ℤ, List, [], None, Some, IfOk, is_some};
+ghost use Rattle.std.specs.Prelude.{◌≡◌, ℤ, List, [], None, Some, IfOk, MatchOption, is_some};
 ghost use Rattle.csharp.specs.Trees.{csprogram_tree};
 ghost use Rattle.csharp.specs.States as states;
 ghost use Rattle.one_state.specs.One.{IsFor, IsOf};
@@ -67,6 +67,16 @@ impl OneState {
         ensures { result ≡ is_some self.now }
     {
         self.state.is_some()
+    }
+
+    /// The state, where it is known.
+    pub fn known(&self) -> Option<&State>
+        ensures { MatchOption result (self.now ≡ None) (λ s. self.now ≡ Some s.now) }
+    {
+        match &self.state {
+            Some(state) => Some(state),
+            None => None,
+        }
     }
 
     /// From now on nothing is known.
