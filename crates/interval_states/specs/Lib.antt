@@ -1,0 +1,11 @@
+pub mod Laws
+pub mod Codes
+pub mod Passed
+pub mod Known
+pub mod Under
+pub mod Passing
+pub mod Placed
+pub mod AloneOr
+pub mod Sets
+pub mod Marked
+pub mod SetLaws
