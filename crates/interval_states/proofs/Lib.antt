@@ -21,3 +21,4 @@ pub mod OneShown
 pub mod Alones
 pub mod SetShown
 pub mod InSteps
+pub mod Examples

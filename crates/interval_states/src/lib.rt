@@ -26,5 +26,7 @@ mod passed;
 mod shows;
 mod states;
 mod temps;
+#[cfg(test)]
+mod tests;
 
 pub use states::IntervalStates;

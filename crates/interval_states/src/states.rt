@@ -35,12 +35,12 @@ use temp_ranges::{Ranges, exact_range, passes_one, passes_two, value_range};
 /// one state of a run without inputs.
 #[derive(Drop)]
 pub struct IntervalStates {
-    alloc: Global,
-    objects: Declared,
-    temps: Temps,
-    cells: Cells,
-    copies: Copies,
-    one: OneState,
+    pub(crate) alloc: Global,
+    pub(crate) objects: Declared,
+    pub(crate) temps: Temps,
+    pub(crate) cells: Cells,
+    pub(crate) copies: Copies,
+    pub(crate) one: OneState,
 }
 
 impl IntervalStates {
