@@ -1,6 +1,6 @@
 -- What calls of functions do, each after those that it calls.
 use Rattle.std.proofs.Common.{◌≡◌, ◌≢◌, true, false, ◌⊎◌, inl, inr, ℕ, ◌<◌, List, [], ◌∷◌, ◌++◌, length, get_or, set, take, Some, None, refl, sym, subst, ap, ◌∙◌, arith}
-use Rattle.std.specs.Prelude.{◌↔◌, Option, option_and_then, option_map, unwrap_or, All, Contains, IfSome, IsSome, IsSomeAnd, slice_get}
+use Rattle.std.specs.Prelude.{◌↔◌, Err, IfOk, Ok, Option, Result, option_and_then, option_map, unwrap_or, All, Contains, IfSome, IsSome, IsSomeAnd, slice_get}
 use Rattle.std.proofs.Common.{get_or-set_other, get_or-set_same}
 use Rattle.std.proofs.Math.ListN.{length-set}
 use Rattle.std.proofs.lemmas.Bool.{cases_eq, cases_lt}
@@ -63,34 +63,29 @@ module _ (program : TProgramTree) (f : ℕ) (known : List Effects) (calls : List
       let r : IsCalledWrite program h.0.callee t = ((callee_is h.0 h.1).writes t).0 h.2 in
       record { chain = h.0 ∷ r.chain; calls = (subst (λ xs. Contains xs h.0) same h.1, r.calls); made = r.made; seen = r.seen }
 
-  pub closed_one : (own result : Effects) (reads writes : List Touch) → own ≡ body_effects program f
-      → ((t : Touch) → Contains reads t ↔ (Contains own.reads t × IsSeenObject program.objects t))
-      → ((t : Touch) → Contains writes t ↔ (Contains own.writes t × IsSeenObject program.objects t))
-      → ((t : Touch) → Contains result.reads t ↔ (Contains reads t ⊎ HasCalledReads known calls t))
-      → ((t : Touch) → Contains result.writes t ↔ (Contains writes t ⊎ HasCalledWrites known calls t))
+  closed_one : (own result : Effects) → own ≡ body_effects program f
+      → ((t : Touch) → Contains result.reads t ↔ ((Contains own.reads t × IsSeenObject program.objects t) ⊎ HasCalledReads known calls t))
+      → ((t : Touch) → Contains result.writes t ↔ ((Contains own.writes t × IsSeenObject program.objects t) ⊎ HasCalledWrites known calls t))
       → IsEffectsOf program f result
-  closed_one own result reads writes is own_reads own_writes all_reads all_writes = record {
+  closed_one own result is reads writes = record {
     reads = λ t. (
-      λ c. read_by t (elim ((all_reads t).0 c) [
-        | inl r ↦ inl (subst (λ (e : Effects). Contains e.reads t × IsSeenObject program.objects t) is ((own_reads t).0 r))
-        | inr h ↦ inr h
-      ]),
-      λ r. (all_reads t).1 (elim (read_from t r.chain r.calls r.made r.seen) [
-        | inl o ↦ inl ((own_reads t).1 (subst (λ (e : Effects). Contains e.reads t × IsSeenObject program.objects t) (sym is) o))
-        | inr h ↦ inr h
-      ]),
+      λ c. read_by t (subst (λ (e : Effects). (Contains e.reads t × IsSeenObject program.objects t) ⊎ HasCalledReads known calls t) is ((reads t).0 c)),
+      λ r. (reads t).1 (subst (λ (e : Effects). (Contains e.reads t × IsSeenObject program.objects t) ⊎ HasCalledReads known calls t) (sym is)
+          (read_from t r.chain r.calls r.made r.seen)),
     );
     writes = λ t. (
-      λ c. write_by t (elim ((all_writes t).0 c) [
-        | inl r ↦ inl (subst (λ (e : Effects). Contains e.writes t × IsSeenObject program.objects t) is ((own_writes t).0 r))
-        | inr h ↦ inr h
-      ]),
-      λ r. (all_writes t).1 (elim (write_from t r.chain r.calls r.made r.seen) [
-        | inl o ↦ inl ((own_writes t).1 (subst (λ (e : Effects). Contains e.writes t × IsSeenObject program.objects t) (sym is) o))
-        | inr h ↦ inr h
-      ]),
+      λ c. write_by t (subst (λ (e : Effects). (Contains e.writes t × IsSeenObject program.objects t) ⊎ HasCalledWrites known calls t) is ((writes t).0 c)),
+      λ r. (writes t).1 (subst (λ (e : Effects). (Contains e.writes t × IsSeenObject program.objects t) ⊎ HasCalledWrites known calls t) (sym is)
+          (write_from t r.chain r.calls r.made r.seen)),
     );
   }
+
+  pub closed_told : {E : Type 0} (own : Effects) (r : Result Effects E) → own ≡ body_effects program f
+      → IfOk r (λ all. (t : Touch) → Contains all.reads t ↔ ((Contains own.reads t × IsSeenObject program.objects t) ⊎ HasCalledReads known calls t))
+      → IfOk r (λ all. (t : Touch) → Contains all.writes t ↔ ((Contains own.writes t × IsSeenObject program.objects t) ⊎ HasCalledWrites known calls t))
+      → IfOk r (IsEffectsOf program f)
+  closed_told own (Ok all) is reads writes = closed_one own all is reads writes
+  closed_told own (Err e) is reads writes = tt
 
 -- ---- functions without a body
 

@@ -27,6 +27,15 @@ unfolding or_first
 or_joined known None xs ys = ap (λ all. slice_get all 0) (filter-append (clashes known) xs ys) ∙ after_front known (filter (clashes known) xs) ys
 or_joined known (Some c) xs ys = refl
 
+pub or_then : (known : Known) (old so_far new : Option Comparison) (xs ys : List Comparison) → so_far ≡ or_first known old xs → new ≡ or_first known so_far ys
+    → new ≡ or_first known old (xs ++ ys)
+or_then known old so_far new xs ys front now = now ∙ ap (λ found. or_first known found ys) front ∙ sym (or_joined known old xs ys)
+
+pub or_then_both : (known : Known) (old so_far new : Option Comparison) (xs ys zs : List Comparison) → so_far ≡ or_first known old xs
+    → new ≡ or_first known so_far (ys ++ zs) → new ≡ or_first known old (xs ++ ys ++ zs)
+or_then_both known old so_far new xs ys zs front now =
+    or_then known old so_far new xs (ys ++ zs) front now ∙ ap (or_first known old) (sym (append_assoc xs ys zs))
+
 pub ruleset the_firsts = (or_none, or_joined)
 
 -- ---- one comparison

@@ -3,14 +3,11 @@ use Rattle.std.proofs.Common.{◌≡◌, ◌⊎◌, inl, inr, ℕ, ◌+◌, ◌<
 use Rattle.std.specs.Prelude.{◌↔◌, Contains, Err, IfOk, Ok, Result}
 use Rattle.std.proofs.lemmas.List.{take_more}
 use Rattle.std.proofs.lemmas.List.Elements.{Contains-append_left, Contains-push, Contains-push_cases}
-use Rattle.c_syntax.specs.declared.types.Object.{Object}
-use Rattle.c_syntax.specs.Types.{object_tree}
 use Rattle.c_calls.specs.declared.call.Call.{Call}
 use Rattle.c_calls.specs.Placed.{placed}
 use Rattle.c_layout.specs.Calls.{PlacedCall}
 use Rattle.c_effects.specs.declared.touch.Touch.{Touch}
 use Rattle.c_effects.specs.Held.{Adds}
-use Rattle.c_sides.specs.Gathered.{IsSeenObject}
 
 -- one item more of a list
 front_is : {A : Type 0} (items : List A) (i : ℕ) (item : A) → i < length items → item ≡ get_or items i item → take (i + 1) items ≡ take i items ++ item ∷ []
@@ -124,13 +121,14 @@ with_one Seen list touch (Err e) s h = tt
 
 -- ---- lists by other names
 
-pub seen_so : (list touches of_touches : List Touch) (objects of_objects : List Object) → touches ≡ of_touches → objects ≡ of_objects
-    → ((t : Touch) → Contains list t ↔ (Contains touches t × IsSeenObject (map object_tree objects) t))
-    → (t : Touch) → Contains list t ↔ (Contains of_touches t × IsSeenObject (map object_tree of_objects) t)
-seen_so list touches of_touches objects of_objects e f h t =
-    subst (λ os. Contains list t ↔ (Contains of_touches t × IsSeenObject (map object_tree os) t)) f
-    (subst (λ xs. Contains list t ↔ (Contains xs t × IsSeenObject (map object_tree objects) t)) e (h t))
+pub seen_so : (Seen Called : Touch → Type 0) (list touches of_touches : List Touch) → touches ≡ of_touches
+    → ((t : Touch) → Contains list t ↔ ((Contains touches t × Seen t) ⊎ Called t))
+    → (t : Touch) → Contains list t ↔ ((Contains of_touches t × Seen t) ⊎ Called t)
+seen_so Seen Called list touches of_touches e h t = subst (λ xs. Contains list t ↔ ((Contains xs t × Seen t) ⊎ Called t)) e (h t)
 
-pub all_so : (Called : Touch → Type 0) (list of_list more : List Touch) → list ≡ of_list → ((t : Touch) → Contains of_list t ↔ (Contains more t ⊎ Called t))
-    → (t : Touch) → Contains list t ↔ (Contains more t ⊎ Called t)
-all_so Called list of_list more e h t = subst (λ xs. Contains xs t ↔ (Contains more t ⊎ Called t)) (sym e) (h t)
+pub gathered : (Seen Called : Touch → Type 0) (touches list more all : List Touch) → all ≡ more → ((t : Touch) → Contains list t ↔ (Contains touches t × Seen t))
+    → ((t : Touch) → Contains more t ↔ (Contains list t ⊎ Called t)) → (t : Touch) → Contains all t ↔ ((Contains touches t × Seen t) ⊎ Called t)
+gathered Seen Called touches list more all e seen called t = subst (λ xs. Contains xs t ↔ ((Contains touches t × Seen t) ⊎ Called t)) (sym e) (
+  λ c. elim ((called t).0 c) [ inl l ↦ inl ((seen t).0 l) | inr h ↦ inr h ],
+  λ h. (called t).1 (elim h [ inl s ↦ inl ((seen t).1 s) | inr k ↦ inr k ]),
+)

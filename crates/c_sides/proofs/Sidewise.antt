@@ -1,6 +1,6 @@
 -- What several sides do, and the store that an `=` ends with.
-use Rattle.std.proofs.Common.{◌≡◌, ℕ, ◌+◌, ◌-◌, ◌<◌, ◌≤◌, Bool, true, false, List, [], ◌∷◌, ◌++◌, length, get_or, take, refl, sym, ap, ◌∙◌, arith, append_assoc, append-nil, length-append}
-use Rattle.std.specs.Prelude.{◌==◌, not}
+use Rattle.std.proofs.Common.{◌≡◌, ℕ, ◌+◌, ◌-◌, ◌<◌, ◌≤◌, Bool, true, false, List, [], ◌∷◌, ◌++◌, length, get_or, take, refl, sym, subst, ap, ◌∙◌, arith, append_assoc, append-nil, length-append}
+use Rattle.std.specs.Prelude.{◌==◌, ◌||◌, not, Err, IfOk, Ok, Result}
 use Rattle.std.specs.List.{list_any}
 use Rattle.std.proofs.lemmas.Bool.Decides.{nat_tests}
 use Rattle.std.proofs.lemmas.Option.{unwrap_or-slice_get}
@@ -22,6 +22,8 @@ use Rattle.c_effects.specs.Joined.{nothing}
 use Rattle.c_effects.proofs.Joins.{joined_nothing, three}
 use Rattle.c_effects.specs.Met.{met}
 use Rattle.c_sides.specs.declared.side.Side.{Side}
+use Rattle.c_sides.specs.declared.known.Known.{Known}
+use Rattle.c_sides.specs.Firsts.{all_effects, all_reads, all_writes, effects_write_into, writes_into}
 use Rattle.c_sides.specs.Made.{all_joined, no_side, sides_joined}
 use Rattle.c_sides.specs.Sides.{made_beside, side_of, store_of}
 
@@ -104,6 +106,23 @@ told_so told taken of_taken reads of_reads writes of_writes made of_made e f g h
     ∙ ap (λ xs. list_any (λ s. list_any (met of_taken s) (xs ++ writes)) made) f
     ∙ ap (λ xs. list_any (λ s. list_any (met of_taken s) (of_reads ++ xs)) made) g
     ∙ ap (list_any (λ s. list_any (met of_taken s) (of_reads ++ of_writes))) h
+
+-- ---- what a side does by another name
+
+abbrev effects : List Touch → List Touch → Effects
+effects reads writes = record { reads = reads; writes = writes }
+
+pub clash_so : {E : Type 0} (known : Known) (left right : Side) (a : Effects) (r : Result Bool E) → a.reads ≡ all_reads known.functions.items left
+    → a.writes ≡ all_writes known.functions.items left
+    → IfOk r (λ found. found ≡ effects_write_into known a (all_effects known.functions.items right)
+    || effects_write_into known (all_effects known.functions.items right) a)
+    → IfOk r (λ found. found ≡ writes_into known left right || writes_into known right left)
+clash_so known left right a r e f h =
+    let functions = known.functions.items in
+    let same : a ≡ all_effects functions left =
+    ap (λ xs. effects xs a.writes) e ∙ ap (λ ys. effects (all_reads functions left) ys) f in
+    subst (λ (x : Effects). IfOk r (λ found. found ≡ effects_write_into known x (all_effects functions right)
+    || effects_write_into known (all_effects functions right) x)) same h
 
 -- ---- what functions write
 

@@ -31,6 +31,13 @@ all_touches known side = all_reads known side ++ all_writes known side
 abbrev pub writes_into : Known → Side → Side → Bool
 writes_into known a b = list_any (λ s. list_any (met known.taken.items s) (all_touches known.functions.items b)) (all_writes known.functions.items a)
 
+-- the same of what two do, all calls included
+abbrev pub all_effects : List Effects → Side → Effects
+all_effects known side = record { reads = all_reads known side; writes = all_writes known side }
+
+abbrev pub effects_write_into : Known → Effects → Effects → Bool
+effects_write_into known a b = list_any (λ s. list_any (met known.taken.items s) (b.reads ++ b.writes)) a.writes
+
 abbrev pub clashes : Known → Comparison → Bool
 clashes known c = writes_into known c.left c.right || writes_into known c.right c.left
 

@@ -8,7 +8,7 @@ ghost use Rattle.c_effects.specs.declared.touch.Touch.{Touch as Touching};
 ghost use Rattle.c_effects.specs.Effects.{called};
 ghost use Rattle.c_effects.specs.Held.{Holds};
 ghost use Rattle.c_effects.specs.Met.{met};
-ghost use Rattle.c_sides.specs.Firsts.{all_reads, all_writes, called_reads, called_writes, writes_into};
+ghost use Rattle.c_sides.specs.Firsts.{all_effects, all_reads, all_writes, called_reads, called_writes, effects_write_into, writes_into};
 
 use crate::known::Known;
 use crate::side::Side;
@@ -54,10 +54,26 @@ pub(crate) fn clash(
     if !has_writes(known, left) && !has_writes(known, right) {
         return Ok(false);
     }
-    let a = effects_of_side(alloc, known, left)?;
+    let effects = effects_of_side(alloc, known, left)?;
+    clash_with(alloc, known, &effects, right)
+}
+
+// The same of two sides, the first of which has these effects.
+fn clash_with(alloc: Global, known: &Known, a: &Effects, right: &Side) -> Result<bool, NoMemory>
+    ensures { IfOk result
+        (λ found. found ≡ effects_write_into known.now a.now (all_effects known.now.functions.items right.now)
+        || effects_write_into known.now (all_effects known.now.functions.items right.now) a.now) }
+{
     let b = effects_of_side(alloc, known, right)?;
-    let forth = one_writes(alloc, known, &a, &b)?;
-    let back = one_writes(alloc, known, &b, &a)?;
+    either_writes(alloc, known, a, &b)
+}
+
+// The same of two sides with these effects.
+fn either_writes(alloc: Global, known: &Known, a: &Effects, b: &Effects) -> Result<bool, NoMemory>
+    ensures { IfOk result (λ found. found ≡ effects_write_into known.now a.now b.now || effects_write_into known.now b.now a.now) }
+{
+    let forth = one_writes(alloc, known, a, b)?;
+    let back = one_writes(alloc, known, b, a)?;
     Ok(forth || back)
 }
 
@@ -91,7 +107,7 @@ fn function_has_writes(known: &[Effects], function: u64) -> bool
 
 // Whether a write of the first meets a touch of the second.
 fn one_writes(alloc: Global, known: &Known, a: &Effects, b: &Effects) -> Result<bool, NoMemory>
-    ensures { IfOk result (λ found. found ≡ list_any (λ s. list_any (met known.now.taken.items s) (b.now.reads ++ b.now.writes)) a.now.writes) }
+    ensures { IfOk result (λ found. found ≡ effects_write_into known.now a.now b.now) }
 {
     let taken = known.taken.as_slice();
     let mut touched = TouchSet::new(alloc);

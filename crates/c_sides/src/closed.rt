@@ -1,19 +1,22 @@
 // What calls of each function read and write, function by function.
 #![tactic(auto)]
 
-ghost use Rattle.std.specs.Prelude.{◌≡◌, length, map, All, IfOk};
+ghost use Rattle.std.specs.Prelude.{◌≡◌, ◌↔◌, ◌⊎◌, length, map, All, Contains, IfOk};
+ghost use Rattle.c_syntax.specs.Types.{object_tree};
 ghost use Rattle.c_syntax.specs.Program.{tprogram_tree};
 ghost use Rattle.c_layout.specs.Calls.{function_calls};
 ghost use Rattle.c_calls.specs.Graph.{AreDefined, graph_of, IsOrderOf};
 ghost use Rattle.c_calls.specs.Placed.{placed};
+ghost use Rattle.c_effects.specs.declared.touch.Touch.{Touch as Touching};
 ghost use Rattle.c_effects.specs.Effects.{called};
 ghost use Rattle.c_effects.specs.Joined.{nothing};
 ghost use Rattle.c_sides.specs.Closed.{AreClosed, body_effects, IsEffectsOf};
+ghost use Rattle.c_sides.specs.Gathered.{HasCalledReads, HasCalledWrites, IsSeenObject};
 
-use crate::gather::{seen_among, with_reads, with_writes};
+use crate::gather::{seen_reads, seen_writes};
 use c_calls::{Call, CallGraph};
 use c_effects::{Effects, effects_in};
-use c_syntax::{Numbers, TProgram};
+use c_syntax::{Numbers, Object, TProgram};
 use std::alloc::{AllocError as NoMemory, Global};
 
 /// What calls of each function of a program read and write, by its number, where these are its calls and an order in which
@@ -62,13 +65,27 @@ fn function_effects(
     ensures { IfOk result (IsEffectsOf (tprogram_tree program.now) function) }
 {
     let own = own_effects(alloc, program, function)?;
-    let objects = program.objects.as_slice();
-    let reads = seen_among(alloc, objects, own.reads.as_slice())?;
-    let writes = seen_among(alloc, objects, own.writes.as_slice())?;
-    Ok(Effects {
-        reads: with_reads(reads, known, calls)?.into_touches(),
-        writes: with_writes(writes, known, calls)?.into_touches(),
-    })
+    seen_effects(alloc, program.objects.as_slice(), &own, calls, known)
+}
+
+// What a body does that its callers can see, with what the functions do that are called.
+fn seen_effects(
+    alloc: Global,
+    objects: &[Object],
+    own: &Effects,
+    calls: &[Call],
+    known: &[Effects],
+) -> Result<Effects, NoMemory>
+    ensures reads { IfOk result
+        (λ all. (t : Touching) → Contains all.reads t ↔ ((Contains own.now.reads t × IsSeenObject (map object_tree objects.now) t)
+        ⊎ HasCalledReads known.now (map placed calls.now) t)) }
+    ensures writes { IfOk result
+        (λ all. (t : Touching) → Contains all.writes t ↔ ((Contains own.now.writes t × IsSeenObject (map object_tree objects.now) t)
+        ⊎ HasCalledWrites known.now (map placed calls.now) t)) }
+{
+    let reads = seen_reads(alloc, objects, own.reads.as_slice(), known, calls)?;
+    let writes = seen_writes(alloc, objects, own.writes.as_slice(), known, calls)?;
+    Ok(Effects { reads, writes })
 }
 
 // What the body of a function does itself.

@@ -9,10 +9,9 @@ ghost use Rattle.c_sides.specs.Firsts.{or_first};
 ghost use Rattle.c_sides.specs.Made.{all_joined, only, sides_joined, with_call, with_own};
 ghost use Rattle.c_sides.specs.Sides.{all_pairs, compared_among, compared_at, compared_in, side_at, side_of, sides_of, stored_beside, two};
 
-use crate::compare::{compare, compare_all, compare_stored};
+use crate::compare::{compare_all, join_changed, join_compared, join_stored};
 use crate::known::Known;
-use crate::side::{Comparison, Side, all_joined};
-use c_effects::place_of;
+use crate::side::{Comparison, Side, called_with};
 use c_syntax::{Pos, TExpr, TExprs, TLvalue};
 use std::alloc::{AllocError as NoMemory, Global};
 
@@ -106,7 +105,7 @@ fn walk_read(
     ensures found { OnOk result (found.new ≡ or_first known.now found.old (compared_at (tlvalue_tree place.now))) }
 {
     let mut side = walk_place(alloc, known, place, found)?;
-    side.read(place_of(alloc, place)?)?;
+    side.read(alloc, place)?;
     Ok(side)
 }
 
@@ -121,7 +120,7 @@ fn walk_step(
     ensures found { OnOk result (found.new ≡ or_first known.now found.old (compared_at (tlvalue_tree place.now))) }
 {
     let mut side = walk_place(alloc, known, place, found)?;
-    side.change(alloc, place_of(alloc, place)?)?;
+    side.change(alloc, place)?;
     Ok(side)
 }
 
@@ -137,9 +136,25 @@ fn walk_both(
     ensures found { OnOk result (found.new ≡ or_first known.now found.old (compared_in (texpr_tree left.now) ++ compared_in (texpr_tree right.now))) }
 {
     let mut side = walk_expr(alloc, known, left, found)?;
-    let other = walk_expr(alloc, known, right, found)?;
-    side.join(alloc, &other)?;
+    add_expr(alloc, known, right, &mut side, found)?;
     Ok(side)
+}
+
+// What a side does, and then what an expression does.
+#[cycle(sides)]
+fn add_expr(
+    alloc: Global,
+    known: &Known,
+    expr: &TExpr,
+    side: &mut Side,
+    found: &mut Option<Comparison>,
+) -> Result<(), NoMemory>
+    ensures side { OnOk result (side.new ≡ sides_joined side.old (side_of (texpr_tree expr.now))) }
+    ensures found { OnOk result
+        (found.new ≡ or_first known.now found.old (compared_in (texpr_tree expr.now))) }
+{
+    let other = walk_expr(alloc, known, expr, found)?;
+    side.join(alloc, &other)
 }
 
 // Operands whose order nothing fixes.
@@ -158,10 +173,26 @@ fn walk_operands(
         ++ two pos (side_of (texpr_tree left.now)) (side_of (texpr_tree right.now)))) }
 {
     let mut side = walk_expr(alloc, known, left, found)?;
-    let other = walk_expr(alloc, known, right, found)?;
-    compare(alloc, known, pos, &side, &other, found)?;
-    side.join(alloc, &other)?;
+    add_operand(alloc, known, pos, right, &mut side, found)?;
     Ok(side)
+}
+
+// The other operand, beside one that does this.
+#[cycle(sides)]
+fn add_operand(
+    alloc: Global,
+    known: &Known,
+    pos: Pos,
+    operand: &TExpr,
+    side: &mut Side,
+    found: &mut Option<Comparison>,
+) -> Result<(), NoMemory>
+    ensures side { OnOk result (side.new ≡ sides_joined side.old (side_of (texpr_tree operand.now))) }
+    ensures found { OnOk result
+        (found.new ≡ or_first known.now found.old (compared_in (texpr_tree operand.now) ++ two pos side.old (side_of (texpr_tree operand.now)))) }
+{
+    let other = walk_expr(alloc, known, operand, found)?;
+    join_compared(alloc, known, pos, &other, side, found)
 }
 
 #[cycle(sides)]
@@ -181,12 +212,29 @@ fn walk_store(
         ++ two pos (side_at (tlvalue_tree place.now)) (side_of (texpr_tree value.now)) ++ stored_beside pos (tlvalue_tree place.now) (texpr_tree value.now))) }
 {
     let mut side = walk_place(alloc, known, place, found)?;
-    let right = walk_expr(alloc, known, value, found)?;
-    compare(alloc, known, pos, &side, &right, found)?;
-    compare_stored(alloc, known, pos, place, value, &right, found)?;
-    side.join(alloc, &right)?;
-    side.write(place_of(alloc, place)?)?;
+    add_stored(alloc, known, pos, place, value, &mut side, found)?;
     Ok(side)
+}
+
+// The right side of an `=`, beside a place whose naming does this, and the store.
+#[cycle(sides)]
+fn add_stored(
+    alloc: Global,
+    known: &Known,
+    pos: Pos,
+    place: &TLvalue,
+    value: &TExpr,
+    side: &mut Side,
+    found: &mut Option<Comparison>,
+) -> Result<(), NoMemory>
+    ensures side { OnOk result (side.new ≡ with_own (sides_joined side.old (side_of (texpr_tree value.now))) (write_at (place_of (tlvalue_tree place.now)))) }
+    ensures found { OnOk result
+        (found.new ≡ or_first known.now found.old (compared_in (texpr_tree value.now) ++ two pos side.old (side_of (texpr_tree value.now))
+        ++ stored_beside pos (tlvalue_tree place.now) (texpr_tree value.now))) }
+{
+    let right = walk_expr(alloc, known, value, found)?;
+    join_stored(alloc, known, pos, place, value, &right, side, found)?;
+    Ok(())
 }
 
 #[cycle(sides)]
@@ -207,13 +255,29 @@ fn walk_change(
         ++ two pos (only (read_at (place_of (tlvalue_tree place.now)))) (side_of (texpr_tree value.now)))) }
 {
     let mut side = walk_place(alloc, known, place, found)?;
-    let right = walk_expr(alloc, known, value, found)?;
-    compare(alloc, known, pos, &side, &right, found)?;
-    let read = Side::reading(alloc, place_of(alloc, place)?)?;
-    compare(alloc, known, pos, &read, &right, found)?;
-    side.join(alloc, &right)?;
-    side.change(alloc, place_of(alloc, place)?)?;
+    add_changed(alloc, known, pos, place, value, &mut side, found)?;
     Ok(side)
+}
+
+// The right side of an `op=`, beside a place whose naming does this, and the change.
+#[cycle(sides)]
+fn add_changed(
+    alloc: Global,
+    known: &Known,
+    pos: Pos,
+    place: &TLvalue,
+    value: &TExpr,
+    side: &mut Side,
+    found: &mut Option<Comparison>,
+) -> Result<(), NoMemory>
+    ensures side { OnOk result (side.new ≡ with_own (sides_joined side.old (side_of (texpr_tree value.now))) (change_at (place_of (tlvalue_tree place.now)))) }
+    ensures found { OnOk result
+        (found.new ≡ or_first known.now found.old (compared_in (texpr_tree value.now) ++ two pos side.old (side_of (texpr_tree value.now))
+        ++ two pos (only (read_at (place_of (tlvalue_tree place.now)))) (side_of (texpr_tree value.now)))) }
+{
+    let right = walk_expr(alloc, known, value, found)?;
+    join_changed(alloc, known, pos, place, &right, side, found)?;
+    Ok(())
 }
 
 #[cycle(sides)]
@@ -232,8 +296,7 @@ fn walk_choice(
         (compared_in (texpr_tree condition.now) ++ compared_in (texpr_tree then.now) ++ compared_in (texpr_tree otherwise.now))) }
 {
     let mut side = walk_both(alloc, known, condition, then, found)?;
-    let other = walk_expr(alloc, known, otherwise, found)?;
-    side.join(alloc, &other)?;
+    add_expr(alloc, known, otherwise, &mut side, found)?;
     Ok(side)
 }
 
@@ -253,9 +316,7 @@ fn walk_call(
 {
     let sides = walk_args(alloc, known, args, found)?;
     compare_all(alloc, known, pos, &sides, found)?;
-    let mut side = all_joined(alloc, &sides)?;
-    side.call(pos, function)?;
-    Ok(side)
+    called_with(alloc, &sides, pos, function)
 }
 
 #[cycle(sides)]

@@ -9,16 +9,46 @@ ghost use Rattle.c_effects.specs.Effects.{called};
 ghost use Rattle.c_sides.specs.Gathered.{HasCalledReads, HasCalledWrites, IsSeenObject};
 
 use c_calls::Call;
-use c_effects::{Effects, Touch, TouchList};
+use c_effects::{Effects, Touch, TouchList, Touches};
 use c_syntax::Object;
 use std::alloc::{AllocError as NoMemory, Global};
 
-// Those of the touches that the callers of a function can see.
-pub(crate) fn seen_among(
+// Those of the touches that the callers of a function can see, with what the functions read that are called.
+pub(crate) fn seen_reads(
     alloc: Global,
     objects: &[Object],
     touches: &[Touch],
-) -> Result<TouchList, NoMemory>
+    known: &[Effects],
+    calls: &[Call],
+) -> Result<Touches, NoMemory>
+    ensures { IfOk result
+        (λ all. (t : Touching) → Contains all t ↔ ((Contains touches.now t × IsSeenObject (map object_tree objects.now) t)
+        ⊎ HasCalledReads known.now (map placed calls.now) t)) }
+{
+    let seen = seen_among(alloc, objects, touches)?;
+    let list = with_reads(seen, known, calls)?;
+    Ok(list.into_touches())
+}
+
+// Those of the touches that the callers of a function can see, with what the functions write that are called.
+pub(crate) fn seen_writes(
+    alloc: Global,
+    objects: &[Object],
+    touches: &[Touch],
+    known: &[Effects],
+    calls: &[Call],
+) -> Result<Touches, NoMemory>
+    ensures { IfOk result
+        (λ all. (t : Touching) → Contains all t ↔ ((Contains touches.now t × IsSeenObject (map object_tree objects.now) t)
+        ⊎ HasCalledWrites known.now (map placed calls.now) t)) }
+{
+    let seen = seen_among(alloc, objects, touches)?;
+    let list = with_writes(seen, known, calls)?;
+    Ok(list.into_touches())
+}
+
+// Those of the touches that the callers of a function can see.
+fn seen_among(alloc: Global, objects: &[Object], touches: &[Touch]) -> Result<TouchList, NoMemory>
     ensures { IfOk result (λ list. (t : Touching) → Contains list t ↔ (Contains touches.now t × IsSeenObject (map object_tree objects.now) t)) }
 {
     let mut list = TouchList::new(alloc);
@@ -52,11 +82,7 @@ fn is_seen(objects: &[Object], touch: &Touch) -> bool
 }
 
 // With what the functions read that are called.
-pub(crate) fn with_reads(
-    list: TouchList,
-    known: &[Effects],
-    calls: &[Call],
-) -> Result<TouchList, NoMemory>
+fn with_reads(list: TouchList, known: &[Effects], calls: &[Call]) -> Result<TouchList, NoMemory>
     ensures { IfOk result (λ more. (t : Touching) → Contains more t ↔ (Contains list t ⊎ HasCalledReads known.now (map placed calls.now) t)) }
 {
     let mut more = list;
@@ -67,11 +93,7 @@ pub(crate) fn with_reads(
 }
 
 // With what the functions write that are called.
-pub(crate) fn with_writes(
-    list: TouchList,
-    known: &[Effects],
-    calls: &[Call],
-) -> Result<TouchList, NoMemory>
+fn with_writes(list: TouchList, known: &[Effects], calls: &[Call]) -> Result<TouchList, NoMemory>
     ensures { IfOk result (λ more. (t : Touching) → Contains more t ↔ (Contains list t ⊎ HasCalledWrites known.now (map placed calls.now) t)) }
 {
     let mut more = list;

@@ -2,11 +2,11 @@
 #![tactic(auto, using(c_effects::proofs::Joins::the_joins))]
 
 ghost use Rattle.std.specs.Prelude.{◌≡◌, ◌++◌, IfOk, OnOk};
-ghost use Rattle.c_sides.specs.Made.{all_joined};
+ghost use Rattle.c_sides.specs.Made.{all_joined, with_call};
 
 use c_calls::{Call, Calls};
-use c_effects::{Effects, Touch, Touches, copy_touch};
-use c_syntax::Pos;
+use c_effects::{Effects, Touch, Touches, copy_touch, place_of};
+use c_syntax::{Pos, TLvalue};
 use std::alloc::{AllocError as NoMemory, Global};
 
 /// What a part of an expression does.
@@ -29,6 +29,8 @@ pub struct Comparison {
 
 impl Side {
     ghost use Rattle.std.specs.Prelude.{◌≡◌, IfOk, OnOk};
+    ghost use Rattle.c_syntax.specs.TypedExpr.{tlvalue_tree};
+    ghost use Rattle.c_effects.specs.Places.{place_of};
     ghost use Rattle.c_effects.specs.Joined.{change_at, read_at, write_at};
     ghost use Rattle.c_sides.specs.Made.{no_side, only, sides_joined, with_call, with_own};
     ghost use Rattle.c_sides.specs.Sides.{writes_alone};
@@ -44,20 +46,20 @@ impl Side {
     }
 
     // It reads one place.
-    pub(crate) fn reading(alloc: Global, touch: Touch) -> Result<Side, NoMemory>
-        ensures { IfOk result (λ side. side ≡ only (read_at touch)) }
+    pub(crate) fn reading(alloc: Global, place: &TLvalue) -> Result<Side, NoMemory>
+        ensures { IfOk result (λ side. side ≡ only (read_at (place_of (tlvalue_tree place.now)))) }
     {
         let mut side = Side::new(alloc);
-        side.own.reads.push(touch)?;
+        side.read(alloc, place)?;
         Ok(side)
     }
 
     // It writes one place.
-    pub(crate) fn writing(alloc: Global, touch: Touch) -> Result<Side, NoMemory>
-        ensures { IfOk result (λ side. side ≡ only (write_at touch)) }
+    pub(crate) fn writing(alloc: Global, place: &TLvalue) -> Result<Side, NoMemory>
+        ensures { IfOk result (λ side. side ≡ only (write_at (place_of (tlvalue_tree place.now)))) }
     {
         let mut side = Side::new(alloc);
-        side.own.writes.push(touch)?;
+        side.write(alloc, place)?;
         Ok(side)
     }
 
@@ -88,27 +90,27 @@ impl Side {
     }
 
     // And reads a place.
-    pub(crate) fn read(&mut self, touch: Touch) -> Result<(), NoMemory>
-        ensures { OnOk result (self.new ≡ with_own self.old (read_at touch)) }
+    pub(crate) fn read(&mut self, alloc: Global, place: &TLvalue) -> Result<(), NoMemory>
+        ensures { OnOk result (self.new ≡ with_own self.old (read_at (place_of (tlvalue_tree place.now)))) }
     {
-        self.own.reads.push(touch)?;
+        self.own.reads.push(place_of(alloc, place)?)?;
         Ok(())
     }
 
     // And writes a place.
-    pub(crate) fn write(&mut self, touch: Touch) -> Result<(), NoMemory>
-        ensures { OnOk result (self.new ≡ with_own self.old (write_at touch)) }
+    pub(crate) fn write(&mut self, alloc: Global, place: &TLvalue) -> Result<(), NoMemory>
+        ensures { OnOk result (self.new ≡ with_own self.old (write_at (place_of (tlvalue_tree place.now)))) }
     {
-        self.own.writes.push(touch)?;
+        self.own.writes.push(place_of(alloc, place)?)?;
         Ok(())
     }
 
     // And reads and writes a place.
-    pub(crate) fn change(&mut self, alloc: Global, touch: Touch) -> Result<(), NoMemory>
-        ensures { OnOk result (self.new ≡ with_own self.old (change_at touch)) }
+    pub(crate) fn change(&mut self, alloc: Global, place: &TLvalue) -> Result<(), NoMemory>
+        ensures { OnOk result (self.new ≡ with_own self.old (change_at (place_of (tlvalue_tree place.now)))) }
     {
-        self.own.reads.push(copy_touch(alloc, &touch)?)?;
-        self.own.writes.push(touch)?;
+        self.read(alloc, place)?;
+        self.write(alloc, place)?;
         Ok(())
     }
 
@@ -140,7 +142,7 @@ fn push_calls(calls: &mut Calls, others: &Calls) -> Result<(), NoMemory>
 }
 
 // What several do, one after the other.
-pub(crate) fn all_joined(alloc: Global, sides: &[Side]) -> Result<Side, NoMemory>
+fn all_joined(alloc: Global, sides: &[Side]) -> Result<Side, NoMemory>
     ensures { IfOk result (λ all. all ≡ all_joined sides.now) }
 {
     let mut all = Side::new(alloc);
@@ -148,4 +150,18 @@ pub(crate) fn all_joined(alloc: Global, sides: &[Side]) -> Result<Side, NoMemory
         all.join(alloc, side)?;
     }
     Ok(all)
+}
+
+// What several do, one after the other, and then a call.
+pub(crate) fn called_with(
+    alloc: Global,
+    sides: &[Side],
+    pos: Pos,
+    callee: u64,
+) -> Result<Side, NoMemory>
+    ensures { IfOk result (λ side. side ≡ with_call (all_joined sides.now) pos callee) }
+{
+    let mut side = all_joined(alloc, sides)?;
+    side.call(pos, callee)?;
+    Ok(side)
 }

@@ -1,21 +1,23 @@
-use Rattle.std.proofs.Common.{map}
+use Rattle.std.proofs.Common.{◌⊎◌, List, map, subst}
+use Rattle.std.specs.Prelude.{◌↔◌, Contains, IfOk}
+use Rattle.c_syntax.specs.declared.types.Object.{Object}
 use Rattle.c_syntax.specs.Program.{tprogram_tree}
+use Rattle.c_syntax.specs.Types.{object_tree}
 use Rattle.c_calls.specs.Placed.{placed}
-use Rattle.c_sides.specs.Gathered.{HasCalledReads, HasCalledWrites}
-use Rattle.c_sides.proofs.Closing.{closed_one}
-use Rattle.c_sides.proofs.Gathering.{all_so, seen_so}
+use Rattle.c_effects.specs.declared.effects.Effects.{Effects}
+use Rattle.c_effects.specs.declared.touch.Touch.{Touch}
+use Rattle.c_sides.specs.Gathered.{HasCalledReads, HasCalledWrites, IsSeenObject}
+use Rattle.c_sides.proofs.Closing.{closed_told}
 use Rattle.c_sides.proofs.closed.function_effects.Goals as goal
 
 pub returns : goal.returns
 returns c =
-    let program = tprogram_tree c.args.program.now in
-    closed_one program c.args.function c.args.known.now (map placed c.args.calls.now) c.requires.calls c.requires.known c.in_ok-own.own
-    (record { reads = c.into_touches.result; writes = c.into_touches-2.result }) c.in_ok-reads.reads c.in_ok-writes.writes c.in_ok-own.ensures
-    (seen_so c.in_ok-reads.reads c.as_slice.result.now c.in_ok-own.own.reads c.as_slice-objects.result.now c.args.program.now.objects c.as_slice.ensures
-    c.as_slice-objects.ensures c.in_ok-reads.ensures)
-    (seen_so c.in_ok-writes.writes c.as_slice-2.result.now c.in_ok-own.own.writes c.as_slice-objects.result.now c.args.program.now.objects c.as_slice-2.ensures
-    c.as_slice-objects.ensures c.in_ok-writes.ensures)
-    (all_so (HasCalledReads c.args.known.now (map placed c.args.calls.now)) c.into_touches.result c.in_ok-with_reads.field-0 c.in_ok-reads.reads c.into_touches.ensures
-    c.in_ok-with_reads.ensures)
-    (all_so (HasCalledWrites c.args.known.now (map placed c.args.calls.now)) c.into_touches-2.result c.in_ok-with_writes.field-0 c.in_ok-writes.writes
-    c.into_touches-2.ensures c.in_ok-with_writes.ensures)
+    let known = c.args.known.now in
+    let calls = map placed c.args.calls.now in
+    let own = c.in_ok-own.own in
+    let r = c.seen_effects.result in
+    closed_told (tprogram_tree c.args.program.now) c.args.function known calls c.requires.calls c.requires.known own r c.in_ok-own.ensures
+    (subst (λ (objects : List Object). IfOk r (λ (all : Effects). (t : Touch) → Contains all.reads t
+    ↔ ((Contains own.reads t × IsSeenObject (map object_tree objects) t) ⊎ HasCalledReads known calls t))) c.as_slice.ensures c.seen_effects.ensures.reads)
+    (subst (λ (objects : List Object). IfOk r (λ (all : Effects). (t : Touch) → Contains all.writes t
+    ↔ ((Contains own.writes t × IsSeenObject (map object_tree objects) t) ⊎ HasCalledWrites known calls t))) c.as_slice.ensures c.seen_effects.ensures.writes)

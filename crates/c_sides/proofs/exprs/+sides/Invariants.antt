@@ -43,3 +43,15 @@ decreases-walk_call l = 5 * texprs_size (texprs_tree l.args.now) + 3
 
 abbrev pub decreases-walk_args : goal.decreases-walk_args
 decreases-walk_args l = 5 * texprs_size (texprs_tree l.args.now)
+
+abbrev pub decreases-add_expr : goal.decreases-add_expr
+decreases-add_expr l = 5 * texpr_size (texpr_tree l.expr.now) + 1
+
+abbrev pub decreases-add_operand : goal.decreases-add_operand
+decreases-add_operand l = 5 * texpr_size (texpr_tree l.operand.now) + 1
+
+abbrev pub decreases-add_stored : goal.decreases-add_stored
+decreases-add_stored l = 5 * texpr_size (texpr_tree l.value.now) + 1
+
+abbrev pub decreases-add_changed : goal.decreases-add_changed
+decreases-add_changed l = 5 * texpr_size (texpr_tree l.value.now) + 1
