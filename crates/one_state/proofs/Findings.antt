@@ -1,6 +1,6 @@
 -- What is found of a check in the one state is found in each that has its temporaries and its memory.
 use mathlib.Core.Bool.{beq}
-use Rattle.std.proofs.Common.{◌≡◌, Bool, true, false, refl, sym, subst, ap, ◌∙◌, List, [], ◌∷◌, length, Option, Some, None}
+use Rattle.std.proofs.Common.{◌≡◌, Bool, true, false, refl, subst, ap, ◌∙◌, List, [], ◌∷◌, Option, Some, None}
 use Rattle.std.specs.Prelude.{option_map, IfSome, IsTrue}
 use Rattle.c_syntax.specs.declared.alarm.WrongKind.{WrongKind}
 use Rattle.c_syntax.specs.Operand as pure
@@ -8,16 +8,13 @@ use Rattle.c_syntax.specs.Types.{ObjectTree}
 use Rattle.block_mem.specs.declared.types.Value.{Value}
 use Rattle.c_values.specs.Values.{truth}
 use Rattle.c_values.specs.Looks.{Judged, judge, Passes, FailsAs}
-use Rattle.csharp.specs.Trees.{CsCheckTree, CsProgramTree}
-use Rattle.csharp.specs.Formed.{HasOperands}
+use Rattle.csharp.specs.Trees.{CsCheckTree}
 use Rattle.csharp.specs.States.{State, look_of}
 use Rattle.csharp_acts.specs.Answers.{operand_of}
 use Rattle.csharp_acts.specs.declared.sight.Operand.{Operand}
 use Rattle.mem_api.specs.Showing.{looked_at}
-use Rattle.one_state.specs.One.{IsFor, IsOf}
-use Rattle.one_state.specs.Seen.{AreBelow, HasShape}
+use Rattle.one_state.specs.One.{IsOf}
 use Rattle.one_state.proofs.Inputs.{operand_same, judge_same}
-use Rattle.one_state.proofs.Operands.{are_below, has_shape}
 
 found_is : (o : Option Operand) (x : pure.Operand) → option_map operand_of o ≡ Some x → IfSome o (λ y. operand_of y ≡ x)
 found_is None x h = tt
@@ -35,16 +32,6 @@ pub passes_not : (objects : List ObjectTree) (c : CsCheckTree) (old : Option Sta
     → FailsAs k x ≡ judge objects (look_of c t ∷ []) → (s : State) → IsOf old s → judge objects (look_of c s ∷ []) ≡ Passes → ⊥
 passes_not objects c old t k x e is s h g =
     fails_not (judge objects (look_of c s ∷ [])) k x (is ∙ judge_same objects c t s (subst (λ p. IsOf p s) e h)) g
-
-pub shape_found : (q : CsProgramTree) (c : CsCheckTree) (t : State) (o : Option Operand) → option_map operand_of o ≡ looked_at c t
-    → HasOperands q c.check.kind c.operands → IfSome o (λ y. HasShape c.check.kind c.operands (operand_of y))
-shape_found q c t None is given = tt
-shape_found q c t (Some y) is given = has_shape q c.check.kind c.ty c.operands t (operand_of y) given (sym is)
-
-pub below_found : (objects : List ObjectTree) (c : CsCheckTree) (old : Option State) (t : State) (o : Option Operand) → old ≡ Some t
-    → option_map operand_of o ≡ looked_at c t → IsFor objects old → IfSome o (λ y. AreBelow (length objects) (operand_of y))
-below_found objects c old t None e is k = tt
-below_found objects c old t (Some y) e is k = are_below objects t (subst (IsFor objects) e k) c.check.kind c.ty c.operands (operand_of y) (sym is)
 
 same_truth : (b : Bool) → beq b b ≡ true
 same_truth true = refl

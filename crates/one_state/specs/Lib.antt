@@ -1,3 +1,2 @@
 pub mod One
-pub mod Seen
 pub mod Telling

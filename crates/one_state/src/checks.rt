@@ -1,21 +1,19 @@
 // What tests and checks find in the one state.
 
-ghost use Rattle.std.specs.Prelude.{◌≡◌, ◌≢◌, ◌∷◌, [], IfOk, IfSome, IsSomeAnd, IsTrue, List, Some, false, length, map};
+ghost use Rattle.std.specs.Prelude.{◌≡◌, ◌≢◌, ◌∷◌, [], IfOk, IfSome, IsSomeAnd, IsTrue, Some, false, map};
 ghost use Rattle.num_api.specs.Lives.{is_live};
 ghost use Rattle.c_syntax.specs.declared.alarm.WrongKind.{WrongKind};
 ghost use Rattle.c_syntax.specs.Operand as operands;
-ghost use Rattle.c_syntax.specs.Types.{ObjectTree, object_tree};
+ghost use Rattle.c_syntax.specs.Types.{object_tree};
 ghost use Rattle.block_mem.specs.declared.types.Value.{Value};
 ghost use Rattle.c_values.specs.Values.{truth as truth_of};
 ghost use Rattle.c_values.specs.Looks.{judge, Passes, FailsAs};
-ghost use Rattle.csharp.specs.Trees.{CsProgramTree, cscheck_tree, csexpr_tree};
-ghost use Rattle.csharp.specs.Formed.{HasOperands};
+ghost use Rattle.csharp.specs.Trees.{cscheck_tree, csexpr_tree};
 ghost use Rattle.csharp.specs.States as states;
 ghost use Rattle.csharp.specs.States.{look_of, value_of};
-ghost use Rattle.csharp_acts.specs.Answers.{AreNear, operand_of};
+ghost use Rattle.csharp_acts.specs.Answers.{operand_of};
 ghost use Rattle.mem_api.specs.Showing.{looked_at};
-ghost use Rattle.one_state.specs.One.{IsFor, IsOf};
-ghost use Rattle.one_state.specs.Seen.{AreBelow, HasShape};
+ghost use Rattle.one_state.specs.One.{IsOf};
 
 use crate::state::OneState;
 use c_syntax::Object;
@@ -66,11 +64,6 @@ impl OneState {
             → looked_at (cscheck_tree check.now) s ≡ Some x → IfSome found (λ y. operand_of y ≡ x)) }
         ensures sharp { IfOk result (λ found. (s : states.State) (x : operands.Operand) → self.now ≡ Some s
             → looked_at (cscheck_tree check.now) s ≡ Some x → IsSomeAnd found (λ y. operand_of y ≡ x)) }
-        ensures near { IfOk result (λ found. IfSome found AreNear) }
-        ensures form { IfOk result (λ found. (q : CsProgramTree) → HasOperands q check.now.check.kind (cscheck_tree check.now).operands
-            → IfSome found (λ y. HasShape check.now.check.kind (cscheck_tree check.now).operands (operand_of y))) }
-        ensures names { IfOk result (λ found. (objects : List ObjectTree) → IsFor objects self.now
-            → IfSome found (λ y. AreBelow (length objects) (operand_of y))) }
     {
         let Some(state) = &self.state else {
             return Ok(None);

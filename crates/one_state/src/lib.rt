@@ -15,17 +15,14 @@
 //! | states that are the one state but for their inputs | `One` | `start`, each call that changes the state |
 //! | the actions | `Actions` of csharp | `set`, `load`, `store`, `copy_bytes`, `undefine`, `enter`, `leave` |
 //! | tests and checks | `value_of` and `look_of` of csharp, `judge` of c_values | `assume`, `pass`, `operand` |
-//! | what shows one operand alone | `Seen` | `show`, `shown_alone` |
 //! | the numbers of whole objects | `Telling`; `FactsOf` of mem_api | `facts` |
 #![tactic(auto)]
 
 mod changes;
 mod checks;
 mod facts;
-mod shows;
 mod state;
 #[cfg(test)]
 mod tests;
 
-pub use shows::shown_alone;
 pub use state::OneState;

@@ -1,9 +1,14 @@
-// Each call once, on a program with one int object and one int temporary.
+// Each call once, on a program with one int object and one int temporary. What a test owns is lent to small functions,
+// since each way out of a function lets go of all that it owns.
+
+ghost use Rattle.std.specs.Prelude.{◌≡◌, IfOk, length, map};
+ghost use Rattle.c_syntax.specs.Types.{object_tree};
+ghost use Rattle.one_state.specs.One.{IsFor};
 
 use super::*;
 use block_mem::Scalar;
 use c_syntax::{
-    Arithmetic, CType, Check, Fact, Facts, Initials, IntType, Name, Object, Objects, Pos, Shown,
+    Arithmetic, CType, Check, Fact, Facts, Initials, IntType, Name, Object, Objects, Pos,
     StructDefs, TBinaryOp, WrongKind,
 };
 use csharp::{CsCheck, CsExpr, CsExprs, CsFunctions, CsProgram, Temps};
@@ -19,7 +24,9 @@ const AT: Pos = Pos {
     col: 1,
 };
 
-fn program(alloc: Global) -> Result<CsProgram, NoMemory> {
+fn objects(alloc: Global) -> Result<Objects, NoMemory>
+    ensures { IfOk result (λ objects. length objects ≡ 1) }
+{
     let mut objects = Vec::new(alloc);
     objects.push(Object {
         name: Name::new(alloc),
@@ -29,14 +36,27 @@ fn program(alloc: Global) -> Result<CsProgram, NoMemory> {
         read_only: false,
         is_static: false,
     })?;
+    Ok(Objects::from_vec(objects))
+}
+
+fn program(alloc: Global) -> Result<CsProgram, NoMemory>
+    ensures { IfOk result (λ program. length program.objects ≡ 1) }
+{
+    let objects = objects(alloc)?;
+    let temps = vec![in alloc; INT; 1]?;
     Ok(CsProgram {
         structs: StructDefs::from_vec(Vec::new(alloc)),
-        objects: Objects::from_vec(objects),
+        objects,
         initial: Initials::from_vec(Vec::new(alloc)),
         functions: CsFunctions::from_vec(Vec::new(alloc)),
-        temps: Temps::from_vec(vec![in alloc; INT; 1]?),
+        temps: Temps::from_vec(temps),
         main: 0,
     })
+}
+
+fn start(alloc: Global) -> Result<OneState, NoMemory> {
+    let program = program(alloc)?;
+    OneState::start(alloc, &program)
 }
 
 fn int(value: i128) -> CsExpr {
@@ -48,10 +68,12 @@ fn int(value: i128) -> CsExpr {
 
 // 2 * 3
 fn six(alloc: Global) -> Result<CsExpr, NoMemory> {
+    let left = Box::new(alloc, int(2))?;
+    let right = Box::new(alloc, int(3))?;
     Ok(CsExpr::Binary {
         op: TBinaryOp::Arithmetic(Arithmetic::Multiply, IntType::Int),
-        left: Box::new(alloc, int(2))?,
-        right: Box::new(alloc, int(3))?,
+        left,
+        right,
     })
 }
 
@@ -73,44 +95,50 @@ fn divides_by(alloc: Global, divisor: CsExpr) -> Result<CsCheck, NoMemory> {
     })
 }
 
-fn is_range(shown: &Option<Shown>, n: i128) -> bool {
-    match shown {
-        Some(Shown::Number { lo, hi, .. }) => *lo == Some(n) && *hi == Some(n),
-        _ => false,
-    }
+// Puts a product into the temporary.
+fn put_six(alloc: Global, one: &mut OneState) -> Result<(), NoMemory> {
+    let six = six(alloc)?;
+    one.set(0, &six)
 }
 
 // The one state of a program behind a product that was put into its temporary.
-fn behind_a_product(alloc: Global, program: &CsProgram) -> Result<OneState, NoMemory> {
-    let mut one = OneState::start(alloc, program)?;
-    one.set(0, &six(alloc)?)?;
+fn behind_a_product(alloc: Global) -> Result<OneState, NoMemory> {
+    let mut one = start(alloc)?;
+    put_six(alloc, &mut one)?;
     one.copy()
 }
 
+// The operand of a division by this in the state.
+fn divisor_in(alloc: Global, one: &OneState, divisor: CsExpr) -> Result<Option<Operand>, NoMemory> {
+    let check = divides_by(alloc, divisor)?;
+    one.operand(&check)
+}
+
+// Whether a division by this passes in the state.
+fn passes(alloc: Global, one: &OneState, divisor: CsExpr) -> Result<Live, NoMemory> {
+    let check = divides_by(alloc, divisor)?;
+    one.pass(&[], &check)
+}
+
 #[test]
-fn number_is_shown(rt: HostRuntime) -> Result<(), NoMemory> {
-    let program = program(rt.alloc())?;
-    let one = behind_a_product(rt.alloc(), &program)?;
-    let check = divides_by(rt.alloc(), CsExpr::Temp { temp: 0 })?;
-    let shown = one.show(rt.alloc(), &check)?;
-    assert!(rt; is_range(&shown, 6));
-    assert!(rt; matches!(one.operand(&check)?, Some(Operand::Number(6))));
+fn operand_is_known(rt: HostRuntime) -> Result<(), NoMemory> {
+    let one = behind_a_product(rt.alloc())?;
+    let found = divisor_in(rt.alloc(), &one, CsExpr::Temp { temp: 0 })?;
+    assert!(rt; matches!(found, Some(Operand::Number(6))));
     Ok(())
 }
 
 #[test]
 fn truth_is_known(rt: HostRuntime) -> Result<(), NoMemory> {
-    let program = program(rt.alloc())?;
-    let one = behind_a_product(rt.alloc(), &program)?;
+    let one = behind_a_product(rt.alloc())?;
     let six = CsExpr::Temp { temp: 0 };
     assert_eq!(rt; one.assume(&six, true)?, Live::Live);
     assert_eq!(rt; one.assume(&six, false)?, Live::Dead);
-    let check = divides_by(rt.alloc(), int(0))?;
-    assert_eq!(rt; one.pass(&[], &check)?, Live::Dead);
+    assert_eq!(rt; passes(rt.alloc(), &one, int(0))?, Live::Dead);
     Ok(())
 }
 
-// Puts 5 into the object and copies it onto itself.
+// Puts 5 into the object, copies it onto itself and loads it.
 fn put_five(one: &mut OneState) -> Result<(), NoMemory> {
     let object = CsExpr::Address { object: 0 };
     one.store(&object, INT, &int(5))?;
@@ -118,18 +146,46 @@ fn put_five(one: &mut OneState) -> Result<(), NoMemory> {
     one.load(0, &object, INT)
 }
 
+// The one state of the program once its object lives.
+fn inside(alloc: Global, program: &CsProgram) -> Result<OneState, NoMemory>
+    requires { length program.now.objects ≡ 1 }
+    ensures { IfOk result (λ one. IsFor (map object_tree program.now.objects) one) }
+{
+    let mut one = OneState::start(alloc, program)?;
+    one.enter(program.objects.as_slice(), &[0])?;
+    Ok(one)
+}
+
+// What is told of the program's objects.
+fn told(alloc: Global, one: &OneState, program: &CsProgram) -> Result<Facts, NoMemory> {
+    let mut out = Facts::new(alloc);
+    one.facts(alloc, program.objects.as_slice(), &mut out)?;
+    Ok(out)
+}
+
+// What is told of the object while it is 5.
+fn told_of_five(alloc: Global, program: &CsProgram) -> Result<Facts, NoMemory>
+    requires { length program.now.objects ≡ 1 }
+{
+    let mut one = inside(alloc, program)?;
+    put_five(&mut one)?;
+    told(alloc, &one, program)
+}
+
 #[test]
 fn number_is_told(rt: HostRuntime) -> Result<(), NoMemory> {
     let program = program(rt.alloc())?;
-    let objects = program.objects.as_slice();
-    assert!(rt; !objects.is_empty());
-    let mut one = OneState::start(rt.alloc(), &program)?;
-    one.enter(objects, &[0])?;
-    put_five(&mut one)?;
-    let mut out = Facts::new(rt.alloc());
-    one.facts(rt.alloc(), objects, &mut out)?;
-    assert!(rt; matches!(out.as_slice(), [Fact::Between { lo: 5, hi: 5, .. }]));
+    let facts = told_of_five(rt.alloc(), &program)?;
+    assert!(rt; matches!(facts.as_slice(), [Fact::Between { lo: 5, hi: 5, .. }]));
+    Ok(())
+}
+
+#[test]
+fn object_ends(rt: HostRuntime) -> Result<(), NoMemory> {
+    let program = program(rt.alloc())?;
+    let mut one = inside(rt.alloc(), &program)?;
     one.undefine(0);
+    one.leave(&[0]);
     assert!(rt; one.is_known());
     Ok(())
 }
@@ -137,11 +193,9 @@ fn number_is_told(rt: HostRuntime) -> Result<(), NoMemory> {
 #[test]
 fn nothing_is_known(rt: HostRuntime) -> Result<(), NoMemory> {
     let mut one = OneState::unknown();
-    let check = divides_by(rt.alloc(), int(0))?;
-    assert!(rt; one.show(rt.alloc(), &check)?.is_none());
+    let found = divisor_in(rt.alloc(), &one, int(0))?;
+    assert!(rt; found.is_none());
     one.forget();
-    assert!(rt; !one.is_known());
-    let shown = Some(shown_alone(rt.alloc(), Operand::Number(7))?);
-    assert!(rt; is_range(&shown, 7));
+    assert!(rt; !one.is_known() && one.known().is_none());
     Ok(())
 }
