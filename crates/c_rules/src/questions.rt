@@ -1,11 +1,11 @@
 // The questions that are asked of a program, one after the other.
 #![tactic(auto)]
 
-ghost use Rattle.std.specs.Prelude.{◌≡◌, IfErr, IfOk};
+ghost use Rattle.std.specs.Prelude.{◌≡◌, IfErr, IfOk, MatchOption};
 ghost use Rattle.c_syntax.specs.Program.{tprogram_tree};
 ghost use Rattle.c_layout.specs.Plans.{IsPlanFor};
 ghost use Rattle.c_calls.specs.Graph.{graph_of, IsOrderOf};
-ghost use Rattle.c_rules.specs.Sequenced.{IsFirstClash, IsKnownOf};
+ghost use Rattle.c_rules.specs.Sequenced.{IsFirstClash, IsKnownOf, IsSequenced};
 ghost use Rattle.c_rules.specs.Rules.{HasOrder, IsAdmitted, IsComplete, IsMain, IsRefused, IsShallow, IsSmall, KeepsGotos};
 
 use crate::clashes::{first_of_all, known_of, side_effects};
@@ -68,12 +68,12 @@ fn complete(
     match order_of(alloc, graph) {
         Err(OrderError::Recursion(calls)) => Err(RuleError::Recursion(calls)),
         Err(OrderError::NoMemory) => Err(RuleError::NoMemory),
-        Ok(order) => ordered(alloc, program, main, graph, order),
+        Ok(order) => planned(alloc, program, main, graph, order),
     }
 }
 
-// Chains of calls are short.
-fn ordered(
+// The plan with this order.
+fn planned(
     alloc: Global,
     program: &TProgram,
     main: u64,
@@ -88,7 +88,28 @@ fn ordered(
     ensures plan { IfOk result (IsPlanFor (tprogram_tree program.now)) }
     ensures refused { IfErr result (IsRefused (tprogram_tree program.now)) }
 {
-    match check_depth(alloc, graph, &order, main) {
+    match ordered(alloc, program, main, graph, &order) {
+        Err(error) => Err(error),
+        Ok(()) => Ok(Plan { order, main }),
+    }
+}
+
+// Chains of calls are short.
+fn ordered(
+    alloc: Global,
+    program: &TProgram,
+    main: u64,
+    graph: &CallGraph,
+    order: &Numbers,
+) -> Result<(), RuleError>
+    requires main { IsMain (tprogram_tree program.now) main }
+    requires graph { graph.now ≡ graph_of (tprogram_tree program.now) }
+    requires order { IsOrderOf graph.now order.now }
+    requires so_far { HasOrder (tprogram_tree program.now) }
+    ensures admitted { IfOk result (λ _. IsAdmitted (tprogram_tree program.now)) }
+    ensures refused { IfErr result (IsRefused (tprogram_tree program.now)) }
+{
+    match check_depth(alloc, graph, order, main) {
         Err(DepthError::TooDeep(calls)) => Err(RuleError::TooDeepCalls(calls)),
         Err(DepthError::NoMemory) => Err(RuleError::NoMemory),
         Ok(()) => shallow(alloc, program, main, graph, order),
@@ -101,42 +122,38 @@ fn shallow(
     program: &TProgram,
     main: u64,
     graph: &CallGraph,
-    order: Numbers,
-) -> Result<Plan, RuleError>
+    order: &Numbers,
+) -> Result<(), RuleError>
     requires main { IsMain (tprogram_tree program.now) main }
     requires graph { graph.now ≡ graph_of (tprogram_tree program.now) }
-    requires order { IsOrderOf graph.now order }
+    requires order { IsOrderOf graph.now order.now }
     requires so_far { IsShallow (tprogram_tree program.now) }
-    ensures admitted { IfOk result (λ plan. IsAdmitted (tprogram_tree program.now)) }
-    ensures plan { IfOk result (IsPlanFor (tprogram_tree program.now)) }
+    ensures admitted { IfOk result (λ _. IsAdmitted (tprogram_tree program.now)) }
     ensures refused { IfErr result (IsRefused (tprogram_tree program.now)) }
 {
-    let size = inlined_size(alloc, program, graph, &order, main)?;
+    let size = inlined_size(alloc, program, graph, order, main)?;
     if size > LARGEST {
         return Err(RuleError::TooLarge(size));
     }
-    small(alloc, program, main, graph, order)
+    small(alloc, program, graph, order)
 }
 
 // No goto leads into a block.
 fn small(
     alloc: Global,
     program: &TProgram,
-    main: u64,
     graph: &CallGraph,
-    order: Numbers,
-) -> Result<Plan, RuleError>
-    requires main { IsMain (tprogram_tree program.now) main }
+    order: &Numbers,
+) -> Result<(), RuleError>
     requires graph { graph.now ≡ graph_of (tprogram_tree program.now) }
-    requires order { IsOrderOf graph.now order }
+    requires order { IsOrderOf graph.now order.now }
     requires so_far { IsSmall (tprogram_tree program.now) }
-    ensures admitted { IfOk result (λ plan. IsAdmitted (tprogram_tree program.now)) }
-    ensures plan { IfOk result (IsPlanFor (tprogram_tree program.now)) }
+    ensures admitted { IfOk result (λ _. IsAdmitted (tprogram_tree program.now)) }
     ensures refused { IfErr result (IsRefused (tprogram_tree program.now)) }
 {
     match first_stray(alloc, program)? {
         Some(pos) => Err(RuleError::GotoIntoBlock(pos)),
-        None => without_strays(alloc, program, main, graph, order),
+        None => without_strays(alloc, program, graph, order),
     }
 }
 
@@ -144,22 +161,46 @@ fn small(
 fn without_strays(
     alloc: Global,
     program: &TProgram,
-    main: u64,
     graph: &CallGraph,
-    order: Numbers,
-) -> Result<Plan, RuleError>
-    requires main { IsMain (tprogram_tree program.now) main }
+    order: &Numbers,
+) -> Result<(), RuleError>
     requires graph { graph.now ≡ graph_of (tprogram_tree program.now) }
-    requires order { IsOrderOf graph.now order }
+    requires order { IsOrderOf graph.now order.now }
     requires so_far { KeepsGotos (tprogram_tree program.now) }
-    ensures admitted { IfOk result (λ plan. IsAdmitted (tprogram_tree program.now)) }
-    ensures plan { IfOk result (IsPlanFor (tprogram_tree program.now)) }
+    ensures admitted { IfOk result (λ _. IsAdmitted (tprogram_tree program.now)) }
     ensures refused { IfErr result (IsRefused (tprogram_tree program.now)) }
 {
-    let known = known_of(alloc, program, graph, &order)?;
-    match first_of_all(alloc, program, &known)? {
-        Some(clash) => Err(unsequenced(alloc, program, &known, &clash)?),
-        None => Ok(Plan { order, main }),
+    let known = known_of(alloc, program, graph, order)?;
+    sequenced(alloc, program, &known)
+}
+
+// So it is where this is known of the program.
+fn sequenced(alloc: Global, program: &TProgram, known: &Known) -> Result<(), RuleError>
+    requires known { IsKnownOf (tprogram_tree program.now) known.now }
+    requires so_far { KeepsGotos (tprogram_tree program.now) }
+    ensures admitted { IfOk result (λ _. IsAdmitted (tprogram_tree program.now)) }
+    ensures refused { IfErr result (IsRefused (tprogram_tree program.now)) }
+{
+    let found = first_of_all(alloc, program, known)?;
+    without_clash(alloc, program, known, &found)
+}
+
+// No two sides clash, where this is what was found.
+fn without_clash(
+    alloc: Global,
+    program: &TProgram,
+    known: &Known,
+    found: &Option<Comparison>,
+) -> Result<(), RuleError>
+    requires known { IsKnownOf (tprogram_tree program.now) known.now }
+    requires found { MatchOption found.now (IsSequenced (tprogram_tree program.now)) (IsFirstClash (tprogram_tree program.now)) }
+    requires so_far { KeepsGotos (tprogram_tree program.now) }
+    ensures admitted { IfOk result (λ _. IsAdmitted (tprogram_tree program.now)) }
+    ensures refused { IfErr result (IsRefused (tprogram_tree program.now)) }
+{
+    match found {
+        Some(clash) => Err(unsequenced(alloc, program, known, clash)?),
+        None => Ok(()),
     }
 }
 
