@@ -1,7 +1,7 @@
 // What an expression puts in front of the work: its parts from left to right, and behind them its own item.
 #![tactic(auto, using(c_syntax::proofs::Trees::the_trees, c_shared::proofs::SharedTrees::the_shared_trees))]
 
-ghost use Rattle.std.specs.Prelude.{◌≡◌, [], ◌∷◌, OnOk, Some};
+ghost use Rattle.std.specs.Prelude.{◌≡◌, [], ◌∷◌, IfOk, OnOk, Some};
 ghost use Rattle.c_shared.specs.Expressions.{expr_tree, exprs_tree, place_tree};
 ghost use Rattle.c_steps.specs.Calls.{at_end, evals};
 ghost use Rattle.c_steps.specs.Expressions.{parts_of, place_scalar as scalar_there, value_scalar as scalar_of_value};
@@ -18,6 +18,7 @@ use crate::ends::end_of_call;
 use crate::items::Item;
 use crate::scalars::{place_pos, place_scalar, value_scalar};
 use crate::work::Work;
+use block_mem::Scalar;
 use c_shared::{SharedExpr, SharedExprs, SharedPlace};
 use c_syntax::{CType, Pos, StepTime, StepWay, Stride, TBinaryOp, TProgram};
 use c_values::scalar_of;
@@ -25,6 +26,35 @@ use std::alloc::AllocError as NoMemory;
 use std::rc::Rc;
 
 impl Work {
+    /// The evaluation of an expression is put in front.
+    pub(crate) fn put_eval(&mut self, e: &Rc<SharedExpr>) -> Result<(), NoMemory>
+        ensures { OnOk result (work_of self.new ≡ steps.Eval (expr_tree e.now.value) ∷ work_of self.old) }
+    {
+        self.put(Item::Eval(e.clone()?))
+    }
+
+    fn put_addr(&mut self, place: &Rc<SharedPlace>) -> Result<(), NoMemory>
+        ensures { OnOk result (work_of self.new ≡ steps.Addr (place_tree place.now.value) ∷ work_of self.old) }
+    {
+        self.put(Item::Addr(place.clone()?))
+    }
+
+    // An expression, and the item that takes its value.
+    pub(crate) fn put_eval_then(&mut self, e: &Rc<SharedExpr>, item: Item) -> Result<(), NoMemory>
+        ensures { OnOk result (work_of self.new ≡ steps.Eval (expr_tree e.now.value) ∷ item_of item ∷ work_of self.old) }
+    {
+        self.put(item)?;
+        self.put_eval(e)
+    }
+
+    // A place, and the item that takes it.
+    fn put_addr_then(&mut self, place: &Rc<SharedPlace>, item: Item) -> Result<(), NoMemory>
+        ensures { OnOk result (work_of self.new ≡ steps.Addr (place_tree place.now.value) ∷ item_of item ∷ work_of self.old) }
+    {
+        self.put(item)?;
+        self.put_addr(place)
+    }
+
     /// The parts of the expression, and its own item behind them, are put in front. Constants and
     /// inputs have no parts.
     pub fn put_parts(&mut self, program: &TProgram, e: &SharedExpr) -> Result<(), NoMemory>
@@ -43,7 +73,7 @@ impl Work {
                 op,
                 left,
                 right,
-            } => self.put_operands(left, right, Item::Bin(*pos, *op)),
+            } => self.put_operands(*pos, *op, left, right),
             SharedExpr::And { pos, left, right } => self.put_and(*pos, left, right),
             SharedExpr::Or { pos, left, right } => self.put_or(*pos, left, right),
             SharedExpr::Cond {
@@ -73,8 +103,8 @@ impl Work {
         ensures { OnOk result (work_of self.new ≡ steps.Eval (expr_tree left.now.value)
             ∷ steps.AndThen pos (scalar_of_value (expr_tree left.now.value)) (expr_tree right.now.value) ∷ work_of self.old) }
     {
-        let item = Item::AndThen(pos, value_scalar(left), right.clone()?);
-        self.put_two(Item::Eval(left.clone()?), item)
+        self.put(Item::AndThen(pos, value_scalar(left), right.clone()?))?;
+        self.put_eval(left)
     }
 
     fn put_or(
@@ -86,22 +116,24 @@ impl Work {
         ensures { OnOk result (work_of self.new ≡ steps.Eval (expr_tree left.now.value)
             ∷ steps.OrElse pos (scalar_of_value (expr_tree left.now.value)) (expr_tree right.now.value) ∷ work_of self.old) }
     {
-        let item = Item::OrElse(pos, value_scalar(left), right.clone()?);
-        self.put_two(Item::Eval(left.clone()?), item)
+        self.put(Item::OrElse(pos, value_scalar(left), right.clone()?))?;
+        self.put_eval(left)
     }
 
     // An operator's operands from left to right, and its item.
     fn put_operands(
         &mut self,
+        pos: Pos,
+        op: TBinaryOp,
         left: &Rc<SharedExpr>,
         right: &Rc<SharedExpr>,
-        item: Item,
     ) -> Result<(), NoMemory>
         ensures { OnOk result (work_of self.new
-            ≡ steps.Eval (expr_tree left.now.value) ∷ steps.Eval (expr_tree right.now.value) ∷ item_of item ∷ work_of self.old) }
+            ≡ steps.Eval (expr_tree left.now.value) ∷ steps.Eval (expr_tree right.now.value) ∷ steps.Bin pos op ∷ work_of self.old) }
     {
-        let right = Item::Eval(right.clone()?);
-        self.put_three(Item::Eval(left.clone()?), right, item)
+        self.put(Item::Bin(pos, op))?;
+        self.put_eval(right)?;
+        self.put_eval(left)
     }
 
     fn put_choice(
@@ -115,9 +147,8 @@ impl Work {
             ∷ steps.Pick pos (scalar_of_value (expr_tree condition.now.value)) (expr_tree then.now.value) (expr_tree otherwise.now.value)
             ∷ work_of self.old) }
     {
-        let first = then.clone()?;
-        let item = Item::Pick(pos, value_scalar(condition), first, otherwise.clone()?);
-        self.put_two(Item::Eval(condition.clone()?), item)
+        self.put(pick(pos, value_scalar(condition), then, otherwise)?)?;
+        self.put_eval(condition)
     }
 
     // The left side's value is dropped.
@@ -125,8 +156,8 @@ impl Work {
         ensures { OnOk result (work_of self.new
             ≡ steps.Eval (expr_tree left.now.value) ∷ steps.Drop ∷ steps.Eval (expr_tree right.now.value) ∷ work_of self.old) }
     {
-        let right = Item::Eval(right.clone()?);
-        self.put_three(Item::Eval(left.clone()?), Item::Drop, right)
+        self.put_eval(right)?;
+        self.put_eval_then(left, Item::Drop)
     }
 
     // An expression with one operand, which is evaluated first.
@@ -134,23 +165,21 @@ impl Work {
         requires { HasOneOperand (expr_tree e.now) }
         ensures { (program : TProgramTree) → OnOk result (work_of self.new ≡ parts_of program (expr_tree e.now) (work_of self.old)) }
     {
-        let (operand, item) = match e {
-            SharedExpr::Unary { pos, op, operand } => (
-                operand,
-                Item::Un(*pos, *op, value_scalar(operand)),
-            ),
-            SharedExpr::Convert { ty, operand, .. } => (operand, Item::Conv(scalar_of(ty))),
-            SharedExpr::Assume { pos, operand } => (
-                operand,
-                Item::Keep(*pos, value_scalar(operand)),
-            ),
-            SharedExpr::Assert { pos, operand } => (
-                operand,
-                Item::Sure(*pos, value_scalar(operand)),
-            ),
+        match e {
+            SharedExpr::Unary { pos, op, operand } => {
+                self.put_eval_then(operand, Item::Un(*pos, *op, value_scalar(operand)))
+            }
+            SharedExpr::Convert { ty, operand, .. } => {
+                self.put_eval_then(operand, Item::Conv(scalar_of(ty)))
+            }
+            SharedExpr::Assume { pos, operand } => {
+                self.put_eval_then(operand, Item::Keep(*pos, value_scalar(operand)))
+            }
+            SharedExpr::Assert { pos, operand } => {
+                self.put_eval_then(operand, Item::Sure(*pos, value_scalar(operand)))
+            }
             _ => unreachable!(),
-        };
-        self.put_two(Item::Eval(operand.clone()?), item)
+        }
     }
 
     // An expression that uses a place, which is taken first.
@@ -159,17 +188,15 @@ impl Work {
         ensures { (program : TProgramTree) → OnOk result (work_of self.new ≡ parts_of program (expr_tree e.now) (work_of self.old)) }
     {
         match e {
-            SharedExpr::AddressOf { place, .. } | SharedExpr::Decay { place, .. } => self.put(
-                Item::Addr(place.clone()?),
-            ),
-            SharedExpr::Load { place, .. } => {
-                let item = Item::LoadAt(place_pos(place), place_scalar(place));
-                self.put_two(Item::Addr(place.clone()?), item)
+            SharedExpr::AddressOf { place, .. } | SharedExpr::Decay { place, .. } => {
+                self.put_addr(place)
             }
-            SharedExpr::Whole { place, .. } => self.put_two(
-                Item::Addr(place.clone()?),
-                Item::Named(place_pos(place)),
-            ),
+            SharedExpr::Load { place, .. } => {
+                self.put_addr_then(place, Item::LoadAt(place_pos(place), place_scalar(place)))
+            }
+            SharedExpr::Whole { place, .. } => {
+                self.put_addr_then(place, Item::Named(place_pos(place)))
+            }
             SharedExpr::Assign { place, value, .. } => self.put_store(place, value),
             SharedExpr::AssignStruct {
                 extent,
@@ -213,8 +240,9 @@ impl Work {
         ensures { OnOk result (work_of self.new
             ≡ steps.Addr (place_tree place.now.value) ∷ steps.Eval (expr_tree value.now.value) ∷ item_of item ∷ work_of self.old) }
     {
-        let value = Item::Eval(value.clone()?);
-        self.put_three(Item::Addr(place.clone()?), value, item)
+        self.put(item)?;
+        self.put_eval(value)?;
+        self.put_addr(place)
     }
 
     fn put_step(
@@ -237,7 +265,7 @@ impl Work {
             way,
             stride,
         };
-        self.put_two(Item::Addr(place.clone()?), item)
+        self.put_addr_then(place, item)
     }
 
     // The arguments from left to right, and then the entry into the function.
@@ -259,10 +287,22 @@ impl Work {
         let mut rest = args.len();
         while rest > 0 {
             rest -= 1;
-            self.put(Item::Eval(args[rest].clone()?))?;
+            self.put_eval(&args[rest])?;
         }
         Ok(())
     }
+}
+
+fn pick(
+    pos: Pos,
+    ty: Option<Scalar>,
+    then: &Rc<SharedExpr>,
+    otherwise: &Rc<SharedExpr>,
+) -> Result<Item, NoMemory>
+    ensures { IfOk result (λ item. item_of item ≡ steps.Pick pos ty (expr_tree then.now.value) (expr_tree otherwise.now.value)) }
+{
+    let then = then.clone()?;
+    Ok(Item::Pick(pos, ty, then, otherwise.clone()?))
 }
 
 // `op=` at a place.

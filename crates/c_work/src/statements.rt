@@ -15,6 +15,7 @@ ghost use Rattle.c_work.specs.Works.{work_of};
 use crate::items::{Item, Loop};
 use crate::scalars::value_scalar;
 use crate::work::Work;
+use block_mem::Scalar;
 use c_shared::{SharedExpr, SharedInit, SharedInits, SharedStmt, SharedStmts};
 use c_syntax::{Numbers, Pos};
 use c_values::scalar_of;
@@ -31,7 +32,7 @@ impl Work {
         ensures { OnOk result (work_of self.new
             ≡ does (stmts_tree items.now.value) (steps.Close objects.now.value (stmts_tree items.now.value) ∷ work_of self.old)) }
     {
-        self.put(Item::Close(objects.clone()?, items.clone()?))?;
+        self.put(close(objects, items)?)?;
         self.put_items(items.as_slice())
     }
 
@@ -46,12 +47,16 @@ impl Work {
         ensures { OnOk result (work_of self.new
             ≡ does (stmts_tree head.now) (steps.Begin 0 (loop_of parts.value) ∷ steps.Close objects.now.value none ∷ work_of self.old)) }
     {
-        let nothing = Rc::new(alloc, SharedStmts::from_vec(Vec::new(alloc)))?;
-        self.put_two(
-            Item::Begin(0, parts),
-            Item::Close(objects.clone()?, nothing),
-        )?;
+        self.put_end_of_head(alloc, objects)?;
+        self.put(Item::Begin(0, parts))?;
         self.put_items(head.as_slice())
+    }
+
+    fn put_end_of_head(&mut self, alloc: Global, objects: &Rc<Numbers>) -> Result<(), NoMemory>
+        ensures { OnOk result (work_of self.new ≡ steps.Close objects.now.value none ∷ work_of self.old) }
+    {
+        let nothing = Rc::new(alloc, SharedStmts::from_vec(Vec::new(alloc)))?;
+        self.put(Item::Close(objects.clone()?, nothing))
     }
 
     /// The condition, and then the choice of a branch.
@@ -66,9 +71,8 @@ impl Work {
             ∷ steps.Choose pos (scalar_of_value (expr_tree condition.now.value)) (stmt_tree then.now.value) (stmt_tree otherwise.now.value)
             ∷ work_of self.old) }
     {
-        let first = then.clone()?;
-        let item = Item::Choose(pos, value_scalar(condition), first, otherwise.clone()?);
-        self.put_two(Item::Eval(condition.clone()?), item)
+        self.put(choose(pos, value_scalar(condition), then, otherwise)?)?;
+        self.put_eval(condition)
     }
 
     /// What the items of an object's initialiser put into it, in their order, and behind them the
@@ -104,20 +108,35 @@ impl Work {
         ensures { OnOk result (work_of self.new ≡ init_items object (inits_from (init.now ∷ [])) (work_of self.old)) }
     {
         match init {
-            SharedInit::Store { offset, ty, value } => self.put_two(
-                Item::Eval(value.clone()?),
-                Item::Fill(object, *offset, scalar_of(ty)),
-            ),
+            SharedInit::Store { offset, ty, value } => {
+                self.put_eval_then(value, Item::Fill(object, *offset, scalar_of(ty)))
+            }
             SharedInit::Copy {
                 offset,
                 extent,
                 source,
-            } => self.put_two(
-                Item::Eval(source.clone()?),
-                Item::FillCopy(object, *offset, *extent),
-            ),
+            } => self.put_eval_then(source, Item::FillCopy(object, *offset, *extent)),
         }
     }
+}
+
+fn close(objects: &Rc<Numbers>, items: &Rc<SharedStmts>) -> Result<Item, NoMemory>
+    ensures { IfOk result (λ item. item_of item ≡ steps.Close objects.now.value (stmts_tree items.now.value)) }
+{
+    let objects = objects.clone()?;
+    Ok(Item::Close(objects, items.clone()?))
+}
+
+fn choose(
+    pos: Pos,
+    ty: Option<Scalar>,
+    then: &Rc<SharedStmt>,
+    otherwise: &Rc<SharedStmt>,
+) -> Result<Item, NoMemory>
+    ensures { IfOk result (λ item. item_of item ≡ steps.Choose pos ty (stmt_tree then.now.value) (stmt_tree otherwise.now.value)) }
+{
+    let then = then.clone()?;
+    Ok(Item::Choose(pos, ty, then, otherwise.clone()?))
 }
 
 impl Loop {

@@ -1,5 +1,4 @@
 use Rattle.std.proofs.Common.{◌≡◌, ◌+◌, ◌-◌, ◌∷◌, drop, sym, ap, ◌∙◌, arith}
-use Rattle.c_shared.specs.declared.expression.SharedExpr.{SharedExpr}
 use Rattle.c_shared.specs.Expressions.{expr_tree, exprs_from}
 use Rattle.c_steps.specs.Calls.{evals}
 use Rattle.c_steps.specs.Work.{Eval}
@@ -16,8 +15,7 @@ loop-rest-preserved c =
     let k = c.loop-rest.rest - 1 in
     let next : k + 1 ≡ c.loop-rest.rest = omega arith in (
       omega arith,
-      c.in_ok-put-2.ensures
-          ∙ ap (λ (e : SharedExpr). Eval (expr_tree e) ∷ work_of c.loop-rest.self) c.in_ok-clone.ensures.cases
+      c.in_ok-put_eval.ensures
           ∙ ap (λ work. Eval (expr_tree c.index-args-rest.result.value) ∷ work) c.loop-rest.invariant.1
           ∙ ap (λ n. Eval (expr_tree c.index-args-rest.result.value) ∷ evals (exprs_from (drop n args)) (work_of c.put.new.self)) (sym next)
           ∙ one_more_eval args k c.index-args-rest.result (work_of c.put.new.self) (omega arith) c.index-args-rest.is,
