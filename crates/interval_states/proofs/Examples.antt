@@ -22,23 +22,18 @@ use Rattle.csharp.specs.declared.program.CsProgram.{CsProgram}
 use Rattle.csharp.specs.Trees.{Const, Temp, Address, Load, Store, Undefine, Assume, Checked, Scope}
 use Rattle.csharp.specs.Formed.{NamesThere, AreOperandsTyped}
 use Rattle.mem_api.specs.Given.{IsOf}
-use Rattle.one_state.specs.One.{IsFor}
 use Rattle.interval_states.specs.declared.states.IntervalStates.{IntervalStates}
+use Rattle.interval_states.specs.Small.{IsSmall, IsSetFor, IsSmallSet}
 
 abbrev int : Scalar
 int = scalars.Int ints.Int
 
--- one object, and one integer temporary
-pub record IsSmall (q : CsProgramTree) : Type 0 where
-  pub objects : length q.objects ≡ 1
-  pub temps : q.temps ≡ int ∷ []
-
--- the set is for the program
-abbrev pub IsSetFor : CsProgramTree → IntervalStates → Type 0
-IsSetFor q m = (map object_tree m.objects ≡ q.objects) × (q.temps ≡ m.temps.types) × IsFor q.objects m.one
-
 pub small_program : (p : CsProgram) → length p.objects ≡ 1 → p.temps ≡ int ∷ [] → IsSmall (csprogram_tree p)
 small_program p objects temps = record { objects = length-map p.objects object_tree ∙ objects; temps = temps }
+
+-- a set stays one for a small program where it stays one for its program
+pub goes_on : {m n : IntervalStates} → IsSmallSet m → ((q : CsProgramTree) → IsSetFor q m → IsSetFor q n) → IsSmallSet n
+goes_on s stays = record { program = s.program; small = s.small; is_for = stays s.program s.is_for }
 
 -- a check of one operand
 abbrev pub check_at : Pos → WrongKind → Option Scalar → CsExprTree → CsCheckTree

@@ -9,3 +9,4 @@ pub mod AloneOr
 pub mod Sets
 pub mod Marked
 pub mod SetLaws
+pub mod Small

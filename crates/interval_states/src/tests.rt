@@ -1,13 +1,14 @@
-// The loop that widens, an object that is known, and the one state, at a program with one integer object.
-#![tactic(auto, using(csharp::proofs::CodeTrees::the_code_trees))]
+// The loop that widens, an object that is known, and the one state, at a program with one integer object. What a test
+// owns is lent to small functions, since each way out of a function lets go of all that it owns.
 
 ghost use Rattle.std.specs.Prelude.{◌≡◌, ◌∷◌, [], IfOk, length, map};
 ghost use Rattle.c_syntax.specs.Types.{object_tree};
 ghost use Rattle.c_layout.specs.Checks.{plain_check};
-ghost use Rattle.csharp.specs.Trees.{cscheck_tree, csexpr_tree};
+ghost use Rattle.csharp.specs.Trees.{CsProgramTree, cscheck_tree, csexpr_tree, csprogram_tree};
 ghost use Rattle.num_api.specs.Powers.{power_steps};
 ghost use Rattle.num_api.specs.Steps.{least};
 ghost use Rattle.one_state.specs.One.{IsFor};
+ghost use Rattle.interval_states.specs.Small.{IsSetFor, IsSmallSet};
 
 use crate::declared::Declared;
 use crate::states::IntervalStates;
@@ -34,10 +35,8 @@ const AT: Pos = Pos {
     col: 1,
 };
 
-// A program with one integer object and one integer temporary.
-fn program(alloc: Global, is_static: bool, initial: Initials) -> Result<CsProgram, NoMemory>
-    ensures objects { IfOk result (λ p. length p.objects ≡ 1) }
-    ensures temps { IfOk result (λ p. p.temps ≡ Scalar.Int IntType.Int ∷ []) }
+fn objects(alloc: Global, is_static: bool) -> Result<Objects, NoMemory>
+    ensures { IfOk result (λ objects. length objects ≡ 1) }
 {
     let mut objects = Vec::new(alloc);
     objects.push(Object {
@@ -48,10 +47,19 @@ fn program(alloc: Global, is_static: bool, initial: Initials) -> Result<CsProgra
         read_only: false,
         is_static,
     })?;
+    Ok(Objects::from_vec(objects))
+}
+
+// A program with one integer object and one integer temporary.
+fn program(alloc: Global, is_static: bool, initial: Initials) -> Result<CsProgram, NoMemory>
+    ensures objects { IfOk result (λ p. length p.objects ≡ 1) }
+    ensures temps { IfOk result (λ p. p.temps ≡ Scalar.Int IntType.Int ∷ []) }
+{
+    let objects = objects(alloc, is_static)?;
     let temps = vec![in alloc; INT; 1]?;
     Ok(CsProgram {
         structs: StructDefs::from_vec(Vec::new(alloc)),
-        objects: Objects::from_vec(objects),
+        objects,
         initial,
         functions: CsFunctions::from_vec(Vec::new(alloc)),
         temps: csharp::Temps::from_vec(temps),
@@ -84,25 +92,59 @@ fn cells_of(alloc: Global, objects: &[Object], one: &OneState) -> Result<Cells, 
     }
 }
 
-// The states in which each temporary is 0.
-fn states_of(alloc: Global, program: &CsProgram, one: OneState) -> Result<IntervalStates, NoMemory>
+// The states in which each temporary is 0, with what is known of objects and the one state.
+fn of_parts(
+    alloc: Global,
+    program: &CsProgram,
+    cells: Cells,
+    one: OneState,
+) -> Result<IntervalStates, NoMemory>
     requires { IsFor (map object_tree program.now.objects) one }
-    ensures { IfOk result (λ m. (map object_tree m.objects ≡ map object_tree program.now.objects) × (program.now.temps ≡ m.temps.types)
-        × IsFor (map object_tree program.now.objects) m.one) }
+    ensures { IfOk result (λ m. IsSetFor (csprogram_tree program.now) m) }
 {
-    let cells = cells_of(alloc, program.objects.as_slice(), &one)?;
-    let temps = program.temps.as_slice();
+    let objects = Declared::of(alloc, &program.objects)?;
+    let temps = Temps::zeroed(alloc, program.temps.as_slice())?;
+    let copies = Copies::none(alloc, program.temps.as_slice().len())?;
     Ok(IntervalStates {
         alloc,
-        objects: Declared::of(alloc, &program.objects)?,
-        temps: Temps::zeroed(alloc, temps)?,
+        objects,
+        temps,
         cells,
-        copies: Copies::none(alloc, temps.len())?,
+        copies,
         one,
     })
 }
 
+fn states_of(alloc: Global, program: &CsProgram, one: OneState) -> Result<IntervalStates, NoMemory>
+    requires objects { length program.now.objects ≡ 1 }
+    requires temps { program.now.temps ≡ Scalar.Int IntType.Int ∷ [] }
+    requires one { IsFor (map object_tree program.now.objects) one }
+    ensures { IfOk result IsSmallSet }
+{
+    let cells = cells_of(alloc, program.objects.as_slice(), &one)?;
+    of_parts(alloc, program, cells, one)
+}
+
+// The states of the program whose object does not live yet, where the one state is not known.
+fn unknown(alloc: Global) -> Result<IntervalStates, NoMemory>
+    ensures { IfOk result IsSmallSet }
+{
+    let program = program(alloc, false, Initials::new(alloc))?;
+    states_of(alloc, &program, OneState::unknown())
+}
+
+// The one state of the program whose object begins as 5.
+fn known(alloc: Global) -> Result<IntervalStates, NoMemory>
+    ensures { IfOk result IsSmallSet }
+{
+    let initial = five(alloc)?;
+    let program = program(alloc, true, initial)?;
+    let one = OneState::start(alloc, &program)?;
+    states_of(alloc, &program, one)
+}
+
 // A check of one operand.
+#[tactic(auto, using(csharp::proofs::CodeTrees::the_code_trees))]
 fn check_of(
     alloc: Global,
     kind: WrongKind,
@@ -147,81 +189,185 @@ fn is_undefined(shown: &Shown) -> bool {
     }
 }
 
-#[test]
-fn settles(rt: HostRuntime) -> Result<(), NoMemory> {
-    let alloc = rt.alloc();
+// What the loop comes to where each step gives the set that it is given.
+fn settled(start: &IntervalStates) -> Result<IntervalStates, NoMemory>
+    requires { IsSmallSet start.now }
+    ensures { IfOk result (λ m. (q : CsProgramTree) → IsSetFor q start.now → IsSetFor q m) }
+{
     let ramp = Ramp::<_>::new::<Powers>(
         257,
         |n: i128| -> Option<i128>
             ensures { result ≡ least power_steps n }
         { power_step(n) },
     );
-    let program = program(alloc, false, Initials::new(alloc))?;
-    let start = states_of(alloc, &program, OneState::unknown())?;
-    let kept = start.copy()?;
-    let state = settle::<_, _, Powers, _>(
-        start,
+    let first = start.copy()?;
+    settle::<_, _, Powers, _>(
+        first,
         |m: &IntervalStates| -> Result<IntervalStates, NoMemory>
             ensures { IfOk result (λ next. next ≡ m.now) }
         { m.copy() },
         &ramp,
-    )?;
-    assert!(rt; kept.covers(&state)?);
-    Ok(())
+    )
+}
+
+// Whether the set holds what the loop comes to from it.
+fn holds_settled(start: &IntervalStates) -> Result<bool, NoMemory>
+    requires { IsSmallSet start.now }
+{
+    let state = settled(start)?;
+    start.covers(&state)
 }
 
 #[test]
-fn knows_an_object(rt: HostRuntime) -> Result<(), NoMemory> {
-    let alloc = rt.alloc();
-    let program = program(alloc, false, Initials::new(alloc))?;
-    let mut state = states_of(alloc, &program, OneState::unknown())?;
-    let object = CsExpr::Address { object: 0 };
-    let temp = CsExpr::Temp { temp: 0 };
+fn settles(rt: HostRuntime) -> Result<(), NoMemory> {
+    let start = unknown(rt.alloc())?;
+    assert!(rt; holds_settled(&start)?);
+    Ok(())
+}
+
+// Puts 7 into the object.
+fn store_seven(state: &mut IntervalStates) -> Result<(), NoMemory>
+    requires { IsSmallSet state.now }
+    ensures { IsSmallSet state.new }
+{
     let seven = CsExpr::Const {
         ty: IntType::Int,
         value: 7,
     };
-    state.enter(&[0])?;
-    state.store(&object, INT, &seven)?;
-    state.load(0, &object, INT)?;
-    let check = check_of(
-        alloc,
+    state.store(&CsExpr::Address { object: 0 }, INT, &seven)
+}
+
+// Puts the object into the temporary.
+fn load_object(state: &mut IntervalStates) -> Result<(), NoMemory>
+    requires { IsSmallSet state.now }
+    ensures { IsSmallSet state.new }
+{
+    state.load(0, &CsExpr::Address { object: 0 }, INT)
+}
+
+// The object begins to live.
+fn enter(state: &mut IntervalStates) -> Result<(), NoMemory>
+    requires { IsSmallSet state.now }
+    ensures { IsSmallSet state.new }
+{
+    state.enter(&[0])
+}
+
+// Puts 7 into the object, which begins to live, and that into the temporary.
+fn enter_seven(state: &mut IntervalStates) -> Result<(), NoMemory>
+    requires { IsSmallSet state.now }
+    ensures { IsSmallSet state.new }
+{
+    enter(state)?;
+    store_seven(state)?;
+    load_object(state)
+}
+
+// What is shown of the temporary where it is divided by.
+fn shown_divisor(state: &IntervalStates) -> Result<Shown, NoMemory>
+    requires { IsSmallSet state.now }
+{
+    let divisor = check_of(
+        state.alloc,
         WrongKind::DivideByZero,
         None,
         CsExpr::Temp { temp: 0 },
     )?;
-    let shown = state.show(&check)?;
-    assert!(rt; is_number(&shown, 7));
-    let passes = state.pass(&check)?;
-    assert_eq!(rt; passes, Live::Live);
-    let never = state.assume(&temp, false)?;
-    assert_eq!(rt; never, Live::Dead);
-    state.leave(&[0])
+    state.show(&divisor)
+}
+
+// Whether a division by the temporary passes.
+fn passes(state: &mut IntervalStates) -> Result<Live, NoMemory>
+    requires { IsSmallSet state.now }
+    ensures { IsSmallSet state.new }
+{
+    let divisor = check_of(
+        state.alloc,
+        WrongKind::DivideByZero,
+        None,
+        CsExpr::Temp { temp: 0 },
+    )?;
+    state.pass(&divisor)
+}
+
+// Whether the temporary may be 0.
+fn may_be_zero(state: &mut IntervalStates) -> Result<Live, NoMemory>
+    requires { IsSmallSet state.now }
+    ensures { IsSmallSet state.new }
+{
+    state.assume(&CsExpr::Temp { temp: 0 }, false)
+}
+
+// Whether this number of the temporary is shown alone.
+fn shows_number(state: &IntervalStates, n: i128) -> Result<bool, NoMemory>
+    requires { IsSmallSet state.now }
+{
+    let shown = shown_divisor(state)?;
+    Ok(is_number(&shown, n))
+}
+
+// Whether an object that is 7 is shown alone, passes, and is not 0.
+fn knows_seven(state: &mut IntervalStates) -> Result<bool, NoMemory>
+    requires { IsSmallSet state.now }
+{
+    enter_seven(state)?;
+    let is_shown = shows_number(state, 7)?;
+    let passes = passes(state)?;
+    let zero = may_be_zero(state)?;
+    state.leave(&[0])?;
+    Ok(is_shown && matches!(passes, Live::Live) && matches!(zero, Live::Dead))
 }
 
 #[test]
-fn follows_the_one_state(rt: HostRuntime) -> Result<(), NoMemory> {
-    let alloc = rt.alloc();
-    let program = program(alloc, true, five(alloc)?)?;
-    let one = OneState::start(alloc, &program)?;
-    let mut state = states_of(alloc, &program, one)?;
-    state.load(0, &CsExpr::Address { object: 0 }, INT)?;
-    let divisor = check_of(
-        alloc,
-        WrongKind::DivideByZero,
-        None,
-        CsExpr::Temp { temp: 0 },
-    )?;
-    let shown = state.show(&divisor)?;
-    assert!(rt; is_number(&shown, 5));
-    state.undefine(0)?;
+fn knows_an_object(rt: HostRuntime) -> Result<(), NoMemory> {
+    let mut state = unknown(rt.alloc())?;
+    assert!(rt; knows_seven(&mut state)?);
+    Ok(())
+}
+
+// The object loses its value.
+fn undefine(state: &mut IntervalStates) -> Result<(), NoMemory>
+    requires { IsSmallSet state.now }
+    ensures { IsSmallSet state.new }
+{
+    state.undefine(0)
+}
+
+// What is shown of a load of the object.
+fn shown_value(state: &IntervalStates) -> Result<Shown, NoMemory>
+    requires { IsSmallSet state.now }
+{
     let value = check_of(
-        alloc,
+        state.alloc,
         WrongKind::Indeterminate,
         Some(INT),
         CsExpr::Address { object: 0 },
     )?;
-    let mark = state.show(&value)?;
-    assert!(rt; is_undefined(&mark));
+    state.show(&value)
+}
+
+// Whether it is shown alone that the object has no value.
+fn shows_no_value(state: &IntervalStates) -> Result<bool, NoMemory>
+    requires { IsSmallSet state.now }
+{
+    let shown = shown_value(state)?;
+    Ok(is_undefined(&shown))
+}
+
+// Whether the object is shown alone as 5, and then as one that has lost its value.
+fn shows_five(state: &mut IntervalStates) -> Result<bool, NoMemory>
+    requires { IsSmallSet state.now }
+{
+    load_object(state)?;
+    let is_five = shows_number(state, 5)?;
+    undefine(state)?;
+    let is_lost = shows_no_value(state)?;
+    Ok(is_five && is_lost)
+}
+
+#[test]
+fn follows_the_one_state(rt: HostRuntime) -> Result<(), NoMemory> {
+    let mut state = known(rt.alloc())?;
+    assert!(rt; shows_five(&mut state)?);
     Ok(())
 }

@@ -1,10 +1,11 @@
-use Rattle.std.proofs.Common.{inl, refl, length, map}
+use Rattle.std.proofs.Common.{inl, refl, length, map, List, ◌∙◌, subst, sym}
 use Rattle.std.proofs.lemmas.Result.{IfOk-weaker}
-use Rattle.c_syntax.specs.Types.{object_tree}
+use Rattle.c_syntax.specs.Types.{ObjectTree, object_tree}
+use Rattle.decide.specs.Decisions.{NamesObjects}
 use Rattle.csharp.specs.Trees.{cscheck_tree}
 use Rattle.csharp_acts.specs.Answers.{operand_of}
 use Rattle.named_places.proofs.Shifting.{fixed_named}
-use Rattle.interval_states.proofs.Alones.{held_alone, either_proper, either_safe, either_only, either_offset}
+use Rattle.interval_states.proofs.Alones.{held_alone, either_form, either_names, either_proper, either_safe, either_only, either_offset}
 use Rattle.interval_states.proofs.SetShown.{wide_holds, wide_safe, found_is, never_none, counted}
 use Rattle.interval_states.proofs.states.IntervalStatesMemDomain.show.Goals as goal
 
@@ -16,6 +17,21 @@ returns-in-Some-clause-holds c =
     c.in_ok-wide.ensures.holds q s y same.0 i look in
     (held_alone (length c.as_slice.result.now) c.in_ok-wide.wide r x k q.objects (counted object_tree m.objects c.as_slice.result.now q.objects same.0 c.as_slice.ensures) y
     (found_is c.in_ok-operand.field-0 c.in-Some.operand y c.in-Some.is (c.in_ok-operand.ensures.stands s y i.same look)) there).there) c.alone_or.ensures
+
+pub returns-in-Some-clause-form : goal.returns-in-Some-clause-form
+returns-in-Some-clause-form c =
+    let check = cscheck_tree c.args.check.now in let m = c.args.self.now in let q = c.requires.0 in let x = operand_of c.in-Some.operand in
+    IfOk-weaker c.alone_or.result _ _ (λ r k. either_form (length c.as_slice.result.now) c.in_ok-wide.wide r x k q.objects
+    (counted object_tree m.objects c.as_slice.result.now q.objects c.requires.1.0 c.as_slice.ensures) check.check.kind check.operands
+    c.in_ok-wide.ensures.form) c.alone_or.ensures
+
+pub returns-in-Some-clause-names : goal.returns-in-Some-clause-names
+returns-in-Some-clause-names c =
+    let m = c.args.self.now in let p = c.requires.0 in let x = operand_of c.in-Some.operand in
+    IfOk-weaker c.alone_or.result _ _ (λ r k q same. subst (λ (os : List ObjectTree). NamesObjects (length os) r) (sym c.requires.1.0 ∙ same.0)
+    (either_names (length c.as_slice.result.now) c.in_ok-wide.wide r x k p.objects
+    (counted object_tree m.objects c.as_slice.result.now p.objects c.requires.1.0 c.as_slice.ensures) (c.in_ok-wide.ensures.names p c.requires.2)))
+    c.alone_or.ensures
 
 pub returns-in-Some-clause-proper : goal.returns-in-Some-clause-proper
 returns-in-Some-clause-proper c =
