@@ -30,7 +30,7 @@ pub fn members_end<'a>(
     ensures shorter { IfOk result (λ x. length x.1.now < length tokens.now) }
 {
     let semicolon = Class::Sign(Punctuator::Semicolon);
-    let (_end, rest) = taken(context, count, 0, semicolon, tokens)?;
+    let (_end, rest) = read!(taken(context, count, 0, semicolon, tokens));
     Ok((
         MemberDecl::Members {
             pos: specs_pos(&specs),
@@ -53,7 +53,7 @@ pub fn comma_end<'a>(
     ensures shorter { IfOk result (λ x. length x.1.now < length tokens.now) }
 {
     let closes = Class::Sign(Punctuator::RightBrace);
-    let (_close, rest) = taken(context, count, 0, closes, tokens)?;
+    let (_close, rest) = read!(taken(context, count, 0, closes, tokens));
     Ok((Enumerators::from_vec(items), rest))
 }
 

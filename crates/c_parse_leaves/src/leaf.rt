@@ -9,12 +9,13 @@ ghost use Rattle.c_parse_steps.specs.Kinds.{primary_at, spec_at};
 ghost use Rattle.c_parse_steps.specs.Answers.{Answers};
 ghost use Rattle.c_parse_leaves.specs.Readers.{IsNotEnclosed, IsSimpleSpec};
 
+use crate::made::handed;
 use c_grammar::Class;
 use c_parse_steps::{
     Context, Lookahead, PrimaryKind, Reading, SpecKind, byte_of, bytes_of, comes, constant_of,
     name_of, primary_at, push_bytes, refused, spec_at, storage_word, taken, type_word,
 };
-use c_written::{Bytes, Expr, Keyword, Placed, Pos, Spec, StorageWord, TypeWord};
+use c_written::{Bytes, Expr, Keyword, Placed, Pos, Spec, StorageWord, TypeWord, boxed};
 
 /// A primary expression that holds no other.
 pub fn simple_primary<'a>(
@@ -42,16 +43,16 @@ fn word<'a>(context: &Context<'_>, count: u32, tokens: &'a [Placed]) -> Reading<
     ensures goes { Answers count (scene_of context.now) (part.AnExpr part.Primary) tokens.now (λ e. boxed_expr e) result }
     ensures shorter { IfOk result (λ x. length x.1.now < length tokens.now) }
 {
-    let (word, rest) = taken(context, count, 0, Class::Word, tokens)?;
+    let (word, rest) = read!(taken(context, count, 0, Class::Word, tokens));
     let name = name_of(context.alloc, &word.token)?;
-    let whole = Box::new(
+    let whole = boxed(
         context.alloc,
         Expr::Word {
             pos: word.pos,
             name,
         },
-    )?;
-    Ok((whole, rest))
+    );
+    handed(whole, rest)
 }
 
 /// A number.
@@ -60,15 +61,15 @@ fn number<'a>(context: &Context<'_>, count: u32, tokens: &'a [Placed]) -> Readin
     ensures goes { Answers count (scene_of context.now) (part.AnExpr part.Primary) tokens.now (λ e. boxed_expr e) result }
     ensures shorter { IfOk result (λ x. length x.1.now < length tokens.now) }
 {
-    let (number, rest) = taken(context, count, 0, Class::Number, tokens)?;
-    let whole = Box::new(
+    let (number, rest) = read!(taken(context, count, 0, Class::Number, tokens));
+    let whole = boxed(
         context.alloc,
         Expr::Number {
             pos: number.pos,
             constant: constant_of(&number.token),
         },
-    )?;
-    Ok((whole, rest))
+    );
+    handed(whole, rest)
 }
 
 /// A character constant.
@@ -77,15 +78,15 @@ fn character<'a>(context: &Context<'_>, count: u32, tokens: &'a [Placed]) -> Rea
     ensures goes { Answers count (scene_of context.now) (part.AnExpr part.Primary) tokens.now (λ e. boxed_expr e) result }
     ensures shorter { IfOk result (λ x. length x.1.now < length tokens.now) }
 {
-    let (character, rest) = taken(context, count, 0, Class::Character, tokens)?;
-    let whole = Box::new(
+    let (character, rest) = read!(taken(context, count, 0, Class::Character, tokens));
+    let whole = boxed(
         context.alloc,
         Expr::Character {
             pos: character.pos,
             byte: byte_of(&character.token),
         },
-    )?;
-    Ok((whole, rest))
+    );
+    handed(whole, rest)
 }
 
 /// Strings that stand next to each other, which are one literal.
@@ -94,10 +95,9 @@ fn strings<'a>(context: &Context<'_>, count: u32, tokens: &'a [Placed]) -> Readi
     ensures goes { Answers count (scene_of context.now) (part.AnExpr part.Primary) tokens.now (λ e. boxed_expr e) result }
     ensures shorter { IfOk result (λ x. length x.1.now < length tokens.now) }
 {
-    let (text, rest) = taken(context, count, 0, Class::Text, tokens)?;
+    let (text, rest) = read!(taken(context, count, 0, Class::Text, tokens));
     let bytes = bytes_of(context.alloc, &text.token)?;
-    let (literal, rest) = more_strings(context, count, text.pos, bytes, rest)?;
-    Ok((literal, rest))
+    more_strings(context, count, text.pos, bytes, rest)
 }
 
 // The strings behind the first.
@@ -114,18 +114,18 @@ fn more_strings<'a>(
     let mut bytes = before;
     let mut rest = tokens;
     'texts: while comes(Lookahead::Text, rest) {
-        let (text, after) = taken(context, count, 0, Class::Text, rest)?;
+        let (text, after) = read!(taken(context, count, 0, Class::Text, rest));
         push_bytes(&mut bytes, &text.token)?;
         rest = after;
     }
-    let whole = Box::new(
+    let whole = boxed(
         context.alloc,
         Expr::Strings {
             pos,
             bytes: Bytes::from_vec(bytes),
         },
-    )?;
-    Ok((whole, rest))
+    );
+    handed(whole, rest)
 }
 
 /// A spec that holds no other.
@@ -151,7 +151,7 @@ fn typedef_name<'a>(context: &Context<'_>, count: u32, tokens: &'a [Placed]) -> 
     ensures goes { Answers count (scene_of context.now) (part.ASpec part.Spec) tokens.now (λ s. spec_tree s) result }
     ensures shorter { IfOk result (λ x. length x.1.now < length tokens.now) }
 {
-    let (word, rest) = taken(context, count, 0, Class::TypeName, tokens)?;
+    let (word, rest) = read!(taken(context, count, 0, Class::TypeName, tokens));
     let name = name_of(context.alloc, &word.token)?;
     Ok((
         Spec::TypedefName {
@@ -173,13 +173,8 @@ fn storage<'a>(
     ensures goes { Answers count (scene_of context.now) (part.ASpec part.Spec) tokens.now (λ s. spec_tree s) result }
     ensures shorter { IfOk result (λ x. length x.1.now < length tokens.now) }
 {
-    let (at, rest) = taken(
-        context,
-        count,
-        0,
-        Class::Keyword(storage_word(word)),
-        tokens,
-    )?;
+    let keyword = Class::Keyword(storage_word(word));
+    let (at, rest) = read!(taken(context, count, 0, keyword, tokens));
     Ok((Spec::Storage { pos: at.pos, word }, rest))
 }
 
@@ -189,7 +184,7 @@ fn constant<'a>(context: &Context<'_>, count: u32, tokens: &'a [Placed]) -> Read
     ensures goes { Answers count (scene_of context.now) (part.ASpec part.Spec) tokens.now (λ s. spec_tree s) result }
     ensures shorter { IfOk result (λ x. length x.1.now < length tokens.now) }
 {
-    let (at, rest) = taken(context, count, 0, Class::Keyword(Keyword::Const), tokens)?;
+    let (at, rest) = read!(taken(context, count, 0, Class::Keyword(Keyword::Const), tokens));
     Ok((Spec::Const { pos: at.pos }, rest))
 }
 
@@ -204,6 +199,6 @@ fn basic<'a>(
     ensures goes { Answers count (scene_of context.now) (part.ASpec part.Spec) tokens.now (λ s. spec_tree s) result }
     ensures shorter { IfOk result (λ x. length x.1.now < length tokens.now) }
 {
-    let (at, rest) = taken(context, count, 0, Class::Keyword(type_word(word)), tokens)?;
+    let (at, rest) = read!(taken(context, count, 0, Class::Keyword(type_word(word)), tokens));
     Ok((Spec::Basic { pos: at.pos, word }, rest))
 }

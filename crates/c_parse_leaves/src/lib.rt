@@ -9,6 +9,16 @@
 //! (`Goes`) does, and `specs/Ends.antt` how a list goes on; each call promises its own.
 #![tactic(auto)]
 
+// What was read, or the fault as it is. `?` would convert the fault as well, two calls more on each way out.
+macro_rules! read {
+    ($reading:expr) => {
+        match $reading {
+            Ok(read) => read,
+            Err(fault) => return Err(fault),
+        }
+    };
+}
+
 mod ends;
 mod leaf;
 mod made;

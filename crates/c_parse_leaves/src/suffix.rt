@@ -13,6 +13,7 @@ ghost use Rattle.c_parse_leaves.specs.Readers.{IsSimpleSuffix, ReadsMember};
 ghost use Rattle.c_parse_steps.specs.Kinds.{is_no_suffix, suffix_at};
 ghost use Rattle.c_parse_steps.specs.Views.{boxed_expr, scene_of};
 
+use crate::made::handed;
 use c_grammar::Class;
 use c_parse_steps::{
     Context, Lookahead, Reading, SuffixKind, arrow_expr, comes, dot_expr, is_word, name_of,
@@ -58,9 +59,8 @@ fn dot<'a>(
     ensures within { IfOk result (λ _. count + 1 ≤ 200) }
     ensures shorter { IfOk result (λ x. length x.1.now < length tokens.now) }
 {
-    let ((at, name), rest) = member(context, count, Punctuator::Dot, tokens)?;
-    let whole = dot_expr(context.alloc, at, base, name)?;
-    Ok((whole, rest))
+    let ((at, name), rest) = read!(member(context, count, Punctuator::Dot, tokens));
+    handed(dot_expr(context.alloc, at, base, name), rest)
 }
 
 /// `->` and a member.
@@ -76,9 +76,8 @@ fn arrow<'a>(
     ensures within { IfOk result (λ _. count + 1 ≤ 200) }
     ensures shorter { IfOk result (λ x. length x.1.now < length tokens.now) }
 {
-    let ((at, name), rest) = member(context, count, Punctuator::Arrow, tokens)?;
-    let whole = arrow_expr(context.alloc, at, base, name)?;
-    Ok((whole, rest))
+    let ((at, name), rest) = read!(member(context, count, Punctuator::Arrow, tokens));
+    handed(arrow_expr(context.alloc, at, base, name), rest)
 }
 
 /// A sign, and the name of the member behind it.
@@ -92,8 +91,8 @@ fn member<'a>(
     ensures within { IfOk result (λ _. count + 1 ≤ 200) }
     ensures shorter { IfOk result (λ x. length x.1.now < length tokens.now) }
 {
-    let (at, behind) = taken(context, count, 1, Class::Sign(sign), tokens)?;
-    let (word, rest) = taken(context, count + 1, 0, Class::AnyWord, behind)?;
+    let (at, behind) = read!(taken(context, count, 1, Class::Sign(sign), tokens));
+    let (word, rest) = read!(taken(context, count + 1, 0, Class::AnyWord, behind));
     let name = name_of(context.alloc, &word.token)?;
     Ok(((at.pos, name), rest))
 }
@@ -113,9 +112,8 @@ fn post_step<'a>(
     ensures shorter { IfOk result (λ x. length x.1.now < length tokens.now) }
 {
     let sign = Class::Sign(step_sign(way));
-    let (at, rest) = taken(context, count, 1, sign, tokens)?;
-    let whole = post_step_expr(context.alloc, at.pos, way, base)?;
-    Ok((whole, rest))
+    let (at, rest) = read!(taken(context, count, 1, sign, tokens));
+    handed(post_step_expr(context.alloc, at.pos, way, base), rest)
 }
 
 /// No arguments.
@@ -129,7 +127,7 @@ pub fn no_arguments<'a>(
     ensures shorter { IfOk result (λ x. length x.1.now < length tokens.now) }
 {
     let closes = Class::Sign(Punctuator::RightParenthesis);
-    let (_close, rest) = taken(context, count, 0, closes, tokens)?;
+    let (_close, rest) = read!(taken(context, count, 0, closes, tokens));
     Ok((Exprs::new(context.alloc), rest))
 }
 

@@ -24,8 +24,8 @@ pub fn structure_head<'a>(
     ensures shorter { IfOk result (λ x. length x.1.now < length tokens.now) }
 {
     let keyword = Class::Keyword(Keyword::Struct);
-    let (at, behind) = taken(context, count, 0, keyword, tokens)?;
-    let (tag, rest) = tag(context, count, behind)?;
+    let (at, behind) = read!(taken(context, count, 0, keyword, tokens));
+    let (tag, rest) = read!(tag(context, count, behind));
     Ok(((at.pos, tag), rest))
 }
 
@@ -41,8 +41,8 @@ pub fn enumeration_head<'a>(
     ensures shorter { IfOk result (λ x. length x.1.now < length tokens.now) }
 {
     let keyword = Class::Keyword(Keyword::Enum);
-    let (at, behind) = taken(context, count, 0, keyword, tokens)?;
-    let (tag, rest) = tag(context, count, behind)?;
+    let (at, behind) = read!(taken(context, count, 0, keyword, tokens));
+    let (tag, rest) = read!(tag(context, count, behind));
     Ok(((at.pos, tag), rest))
 }
 
@@ -70,7 +70,7 @@ fn given_tag<'a>(
     ensures begun { IfOk result (λ x. NamesOrBraces x.0 x.1.now) }
     ensures shorter { IfOk result (λ x. length x.1.now < length tokens.now) }
 {
-    let (word, rest) = taken(context, count, 0, Class::AnyWord, tokens)?;
+    let (word, rest) = read!(taken(context, count, 0, Class::AnyWord, tokens));
     let name = name_of(context.alloc, &word.token)?;
     let pos = word.pos;
     Ok((Some(Tag { pos, name }), rest))

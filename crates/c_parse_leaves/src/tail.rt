@@ -13,12 +13,13 @@ ghost use Rattle.c_parse_steps.specs.Kinds.{is_no_tail};
 ghost use Rattle.c_parse_steps.specs.Views.{boxed_declarator, scene_of};
 ghost use Rattle.c_parse_leaves.specs.Readers.{ReadsName};
 
+use crate::made::{closed, handed};
 use c_grammar::{Class, Role};
 use c_parse_steps::{
     Context, Lookahead, Reading, TailKind, comes, empty_declarator, is_given, name_of,
     open_array_declarator, params_ahead, taken, type_name_ahead,
 };
-use c_written::{Declarator, Keyword, Placed, Pos, Punctuator};
+use c_written::{Declarator, Keyword, Placed, Pos, Punctuator, boxed};
 
 /// The word that a declarator declares.
 pub fn declared_name<'a>(
@@ -29,11 +30,10 @@ pub fn declared_name<'a>(
     ensures goes { ReadsName count (scene_of context.now) tokens.now result }
     ensures shorter { IfOk result (λ x. length x.1.now < length tokens.now) }
 {
-    let (word, rest) = taken(context, count, 0, Class::Word, tokens)?;
+    let (word, rest) = read!(taken(context, count, 0, Class::Word, tokens));
     let name = name_of(context.alloc, &word.token)?;
     let pos = word.pos;
-    let whole = Box::new(context.alloc, Declarator::Name { pos, name })?;
-    Ok((whole, rest))
+    handed(boxed(context.alloc, Declarator::Name { pos, name }), rest)
 }
 
 /// The words `const` behind a `*`, and whether there is one.
@@ -51,7 +51,7 @@ pub fn consts<'a>(
     let mut is_const = false;
     let mut rest = tokens;
     'words: while comes(Lookahead::Const, rest) {
-        let (_word, after) = taken(context, count, 0, Class::Keyword(Keyword::Const), rest)?;
+        let (_word, after) = read!(taken(context, count, 0, Class::Keyword(Keyword::Const), rest));
         is_const = true;
         rest = after;
     }
@@ -72,10 +72,8 @@ pub fn no_size<'a>(
         tokens.now (λ d. boxed_declarator d) result }
     ensures shorter { IfOk result (λ x. length x.1.now < length tokens.now) }
 {
-    let closes = Class::Sign(Punctuator::RightBracket);
-    let (_close, rest) = taken(context, count, 0, closes, tokens)?;
-    let whole = open_array_declarator(context.alloc, at, inner)?;
-    Ok((whole, rest))
+    let whole = open_array_declarator(context.alloc, at, inner);
+    closed(context, count, Punctuator::RightBracket, whole, tokens)
 }
 
 /// The parenthesis that closes, where there are no parameters.
@@ -91,10 +89,8 @@ pub fn no_parameters<'a>(
         tokens.now (λ d. boxed_declarator d) result }
     ensures shorter { IfOk result (λ x. length x.1.now < length tokens.now) }
 {
-    let closes = Class::Sign(Punctuator::RightParenthesis);
-    let (_close, rest) = taken(context, count, 0, closes, tokens)?;
-    let whole = empty_declarator(context.alloc, at, inner)?;
-    Ok((whole, rest))
+    let whole = empty_declarator(context.alloc, at, inner);
+    closed(context, count, Punctuator::RightParenthesis, whole, tokens)
 }
 
 /// A typedef name comes where a name may be declared.

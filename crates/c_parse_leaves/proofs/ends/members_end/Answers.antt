@@ -1,12 +1,12 @@
 use Rattle.c_grammar.specs.Grammar.{type_rule}
 use Rattle.c_grammar.specs.TypeRules as kind
-use Rattle.c_parse_steps.specs.Answers.{given, Gives, halted}
-use Rattle.c_parse_steps.proofs.Steps.{halts, refuse, take, by, done, if_true, unborne, passed_on}
+use Rattle.c_parse_steps.specs.Answers.{given, halted}
+use Rattle.c_parse_steps.proofs.Steps.{halts, refuse, take, by, done, if_true, unborne}
 use Rattle.c_parse_steps.proofs.TypeSteps.{no_colon, members_are}
 use Rattle.c_parse_leaves.proofs.ends.members_end.Goals as goal
 
-pub returns-in_err-_end-clause-goes : goal.returns-in_err-_end-clause-goes
-returns-in_err-_end-clause-goes c = passed_on (Gives _ _) c.from_residual.ensures.1 (halted (halts (refuse c.in_err-_end.ensures.goes) (λ why rest g. by (type_rule kind.declarators_end) (unborne _ (no_colon _ c.requires)) (if_true _ c.requires) (g _ _))))
+pub returns-in-Err-clause-goes : goal.returns-in-Err-clause-goes
+returns-in-Err-clause-goes c = halted (halts (refuse c.in-Err.ensures.goes) (λ why rest g. by (type_rule kind.declarators_end) (unborne _ (no_colon _ c.requires)) (if_true _ c.requires) (g _ _)))
 
 pub returns-clause-goes : goal.returns-clause-goes
-returns-clause-goes c = given (by (type_rule kind.declarators_end) (unborne _ (no_colon _ c.requires)) (if_true _ c.requires) (take c.in_ok-_end.ensures.goes (done (members_are c.args.specs c.from_vec.result c.specs_pos.ensures c.from_vec.ensures))))
+returns-clause-goes c = given (by (type_rule kind.declarators_end) (unborne _ (no_colon _ c.requires)) (if_true _ c.requires) (take c.in-Ok.ensures.goes (done (members_are c.args.specs c.from_vec.result c.specs_pos.ensures c.from_vec.ensures))))

@@ -1,19 +1,22 @@
-use Rattle.std.proofs.Common.{refl, ap, ◌∙◌}
+use Rattle.std.proofs.Common.{arith, refl, ap, ◌∙◌}
 use Rattle.c_written.specs.Written as trees
-use Rattle.c_written.specs.Written.{expr_tree}
 use Rattle.c_written.proofs.WrittenTrees.{expr_character}
 use Rattle.c_grammar.specs.Grammar.{expr_rule}
 use Rattle.c_grammar.specs.ExprRules as rule
-use Rattle.c_parse_steps.specs.Answers.{given, Gives, halted, no_memory}
-use Rattle.c_parse_steps.proofs.Steps.{halts, refuse, take, by, done, passed_on}
+use Rattle.c_parse_steps.specs.Answers.{halted}
+use Rattle.c_parse_steps.proofs.Steps.{halts, refuse, take, by}
 use Rattle.c_parse_steps.proofs.Choices.{primary_is}
+use Rattle.c_parse_leaves.proofs.Boxes.{boxed_so}
+use Rattle.c_parse_leaves.proofs.EndSteps.{made_so}
+use Rattle.c_parse_leaves.proofs.Shorter.{shorter_by}
+use Rattle.c_grammar.specs.Descent.{is_done}
 use Rattle.c_parse_leaves.proofs.leaf.character.Goals as goal
 
-pub returns-in_err-character-clause-goes : goal.returns-in_err-character-clause-goes
-returns-in_err-character-clause-goes c = passed_on (Gives _ _) c.from_residual.ensures.1 (halted (halts (refuse c.in_err-character.ensures.goes) (λ why rest g. by (expr_rule rule.a_character) refl (primary_is _ _ c.requires) (g _ _))))
+pub returns-in-Err-clause-goes : goal.returns-in-Err-clause-goes
+returns-in-Err-clause-goes c = halted (halts (refuse c.in-Err.ensures.goes) (λ why rest g. by (expr_rule rule.a_character) refl (primary_is _ _ c.requires) (g _ _)))
 
 pub returns-clause-goes : goal.returns-clause-goes
-returns-clause-goes c = given (by (expr_rule rule.a_character) refl (primary_is _ _ c.requires) (take c.in_ok-character.ensures.goes (done (ap expr_tree c.in_ok-whole.ensures.ok ∙ expr_character c.in_ok-character.character.now.pos c.byte_of.result ∙ ap (trees.Character c.in_ok-character.character.now.pos) c.byte_of.ensures))))
+returns-clause-goes c = made_so _ (by (expr_rule rule.a_character) refl (primary_is _ _ c.requires) (take c.in-Ok.ensures.goes is_done)) (boxed_so _ c.boxed-whole.result c.boxed-whole.ensures (expr_character c.in-Ok.read.0.now.pos _ ∙ ap (trees.Character c.in-Ok.read.0.now.pos) c.byte_of.ensures)) c.handed.ensures.goes
 
-pub returns-in_err-whole-clause-goes : goal.returns-in_err-whole-clause-goes
-returns-in_err-whole-clause-goes c = passed_on (Gives _ _) c.from_residual-in_err-whole.ensures.1 (halted no_memory)
+pub returns-clause-shorter : goal.returns-clause-shorter
+returns-clause-shorter c = shorter_by c.handed.result c.handed.ensures.shorter (omega (arith, c.in-Ok.ensures.shorter))

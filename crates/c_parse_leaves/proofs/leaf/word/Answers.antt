@@ -1,22 +1,25 @@
-use Rattle.std.proofs.Common.{refl, ap, ◌∙◌}
+use Rattle.std.proofs.Common.{arith, refl, ap, ◌∙◌}
 use Rattle.c_written.specs.Written as trees
-use Rattle.c_written.specs.Written.{expr_tree}
 use Rattle.c_written.proofs.WrittenTrees.{expr_word}
 use Rattle.c_grammar.specs.Grammar.{expr_rule}
 use Rattle.c_grammar.specs.ExprRules as rule
-use Rattle.c_parse_steps.specs.Answers.{given, Gives, halted, no_memory}
-use Rattle.c_parse_steps.proofs.Steps.{halts, refuse, take, by, done, passed_on}
+use Rattle.c_parse_steps.specs.Answers.{Gives, halted, no_memory}
+use Rattle.c_parse_steps.proofs.Steps.{halts, refuse, take, by, passed_on}
 use Rattle.c_parse_steps.proofs.Choices.{primary_is}
+use Rattle.c_parse_leaves.proofs.Boxes.{boxed_so}
+use Rattle.c_parse_leaves.proofs.EndSteps.{made_so}
+use Rattle.c_parse_leaves.proofs.Shorter.{shorter_by}
+use Rattle.c_grammar.specs.Descent.{is_done}
 use Rattle.c_parse_leaves.proofs.leaf.word.Goals as goal
 
-pub returns-in_err-word-clause-goes : goal.returns-in_err-word-clause-goes
-returns-in_err-word-clause-goes c = passed_on (Gives _ _) c.from_residual.ensures.1 (halted (halts (refuse c.in_err-word.ensures.goes) (λ why rest g. by (expr_rule rule.a_word) refl (primary_is _ _ c.requires) (g _ _))))
+pub returns-in-Err-clause-goes : goal.returns-in-Err-clause-goes
+returns-in-Err-clause-goes c = halted (halts (refuse c.in-Err.ensures.goes) (λ why rest g. by (expr_rule rule.a_word) refl (primary_is _ _ c.requires) (g _ _)))
 
 pub returns-in_err-name-clause-goes : goal.returns-in_err-name-clause-goes
-returns-in_err-name-clause-goes c = passed_on (Gives _ _) c.from_residual-in_err-name.ensures.1 (halted no_memory)
+returns-in_err-name-clause-goes c = passed_on (Gives _ _) c.from_residual.ensures.1 (halted no_memory)
 
 pub returns-clause-goes : goal.returns-clause-goes
-returns-clause-goes c = given (by (expr_rule rule.a_word) refl (primary_is _ _ c.requires) (take c.in_ok-word.ensures.goes (done (ap expr_tree c.in_ok-whole.ensures.ok ∙ expr_word c.in_ok-word.word.now.pos c.in_ok-name.name ∙ ap (trees.Word c.in_ok-word.word.now.pos) c.in_ok-name.ensures))))
+returns-clause-goes c = made_so _ (by (expr_rule rule.a_word) refl (primary_is _ _ c.requires) (take c.in-Ok.ensures.goes is_done)) (boxed_so _ c.boxed-whole.result c.boxed-whole.ensures (expr_word c.in-Ok.read.0.now.pos _ ∙ ap (trees.Word c.in-Ok.read.0.now.pos) c.in_ok-name.ensures)) c.handed.ensures.goes
 
-pub returns-in_err-whole-clause-goes : goal.returns-in_err-whole-clause-goes
-returns-in_err-whole-clause-goes c = passed_on (Gives _ _) c.from_residual-in_err-whole.ensures.1 (halted no_memory)
+pub returns-clause-shorter : goal.returns-clause-shorter
+returns-clause-shorter c = shorter_by c.handed.result c.handed.ensures.shorter (omega (arith, c.in-Ok.ensures.shorter))

@@ -7,14 +7,14 @@ use Rattle.c_parse_steps.proofs.Steps.{by, halts, refuse, take, passed_on}
 use Rattle.c_parse_leaves.proofs.ExprSteps.{member_at}
 use Rattle.c_parse_leaves.proofs.suffix.member.Goals as goal
 
-pub returns-in_err-at-clause-goes : goal.returns-in_err-at-clause-goes
-returns-in_err-at-clause-goes c = λ p k. passed_on (Steps _ _) c.from_residual.ensures.1 (stalled (halts (refuse c.in_err-at.ensures.goes) (λ why rest g. g _ _)))
+pub returns-in-Err-clause-goes : goal.returns-in-Err-clause-goes
+returns-in-Err-clause-goes c = λ p k. stalled (halts (refuse c.in-Err.ensures.goes) (λ why rest g. g _ _))
 
-pub returns-in_err-word-clause-goes : goal.returns-in_err-word-clause-goes
-returns-in_err-word-clause-goes c = λ p k. passed_on (Steps _ _) c.from_residual-in_err-word.ensures.1 (stalled (halts (refuse c.in_err-word.ensures.goes) (λ why rest g. take c.in_ok-at.ensures.goes (stops (by (expr_rule rule.member_name) refl refl (g _ _))))))
+pub returns-in-Err-taken-clause-goes : goal.returns-in-Err-taken-clause-goes
+returns-in-Err-taken-clause-goes c = λ p k. stalled (halts (refuse c.in-Err-taken.ensures.goes) (λ why rest g. take c.in-Ok.ensures.goes (stops (by (expr_rule rule.member_name) refl refl (g _ _)))))
 
 pub returns-in_err-name-clause-goes : goal.returns-in_err-name-clause-goes
-returns-in_err-name-clause-goes c = λ p k. passed_on (Steps _ _) c.from_residual-in_err-name.ensures.1 (stalled no_memory)
+returns-in_err-name-clause-goes c = λ p k. passed_on (Steps _ _) c.from_residual.ensures.1 (stalled no_memory)
 
 pub returns-clause-goes : goal.returns-clause-goes
-returns-clause-goes c = λ p k. stepped (λ o h. take c.in_ok-at.ensures.goes (goes_on (by (expr_rule rule.member_name) refl refl (take c.in_ok-word.ensures.goes is_done)) (member_at k c.in_ok-name.ensures h)))
+returns-clause-goes c = λ p k. stepped (λ o h. take c.in-Ok.ensures.goes (goes_on (by (expr_rule rule.member_name) refl refl (take c.in-Ok-taken.ensures.goes is_done)) (member_at k c.in_ok-name.ensures h)))

@@ -1,18 +1,18 @@
 use Rattle.std.proofs.Common.{refl}
 use Rattle.c_grammar.specs.Grammar.{type_rule}
 use Rattle.c_grammar.specs.TypeRules as kind
-use Rattle.c_parse_steps.specs.Answers.{stepped, Steps, stalled}
-use Rattle.c_parse_steps.proofs.Steps.{halts, refuse, stall, step, take, by, stops_here, passed_on}
+use Rattle.c_parse_steps.specs.Answers.{stepped, stalled}
+use Rattle.c_parse_steps.proofs.Steps.{halts, refuse, stall, step, take, by, stops_here}
 use Rattle.c_parse_steps.proofs.TypeSteps.{spec_is}
 use Rattle.c_parse_leaves.specs.Tags.{of_enumeration}
 use Rattle.c_parse_steps.proofs.Last.{same, last_part}
 use Rattle.c_parse_leaves.proofs.tag.enumeration_head.Goals as goal
 
-pub returns-in_err-at-clause-goes : goal.returns-in_err-at-clause-goes
-returns-in_err-at-clause-goes c = passed_on (Steps _ _) c.from_residual.ensures.1 (stalled (halts (refuse c.in_err-at.ensures.goes) (λ why rest g. by (type_rule kind.enumeration) refl (spec_is _ _ c.requires) (g _ _))))
+pub returns-in-Err-clause-goes : goal.returns-in-Err-clause-goes
+returns-in-Err-clause-goes c = stalled (halts (refuse c.in-Err.ensures.goes) (λ why rest g. by (type_rule kind.enumeration) refl (spec_is _ _ c.requires) (g _ _)))
 
-pub returns-in_err-tag-clause-goes : goal.returns-in_err-tag-clause-goes
-returns-in_err-tag-clause-goes c = passed_on (Steps _ _) c.from_residual-in_err-tag.ensures.1 (stalled (halts (stall (c.in_err-tag.ensures.goes of_enumeration _)) (λ why rest g. by (type_rule kind.enumeration) refl (spec_is _ _ c.requires) (take c.in_ok-at.ensures.goes (stops_here g)))))
+pub returns-in-Err-tag-clause-goes : goal.returns-in-Err-tag-clause-goes
+returns-in-Err-tag-clause-goes c = stalled (halts (stall (c.in-Err-tag.ensures.goes of_enumeration _)) (λ why rest g. by (type_rule kind.enumeration) refl (spec_is _ _ c.requires) (take c.in-Ok.ensures.goes (stops_here g))))
 
 pub returns-clause-goes : goal.returns-clause-goes
-returns-clause-goes c = stepped (λ o h. by (type_rule kind.enumeration) refl (spec_is _ _ c.requires) (take c.in_ok-at.ensures.goes (last_part same o (step (c.in_ok-tag.ensures.goes of_enumeration _) o h))))
+returns-clause-goes c = stepped (λ o h. by (type_rule kind.enumeration) refl (spec_is _ _ c.requires) (take c.in-Ok.ensures.goes (last_part same o (step (c.in-Ok-tag.ensures.goes of_enumeration _) o h))))
