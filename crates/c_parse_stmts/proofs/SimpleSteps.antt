@@ -1,7 +1,6 @@
 -- A condition between parentheses, on the way through a statement.
 use Rattle.std.proofs.Common.{◌≡◌, ℕ, List, Bor}
 use Rattle.std.specs.Prelude.{Result, Ok, Err}
-use Rattle.std.specs.Result.{IsErrAnd}
 use Rattle.c_written.specs.declared.token.Placed.{Placed}
 use Rattle.std.specs.declared.alloc.Global.{Global}
 use Rattle.std.specs.declared.boxed.Box.{Box}
@@ -12,17 +11,17 @@ use Rattle.c_grammar.specs.Parts.{Scene, Part, Value}
 use Rattle.c_grammar.specs.Process.{Process}
 use Rattle.c_grammar.specs.Descent.{Outcome, Stop, Follows}
 use Rattle.c_parse_steps.specs.declared.fault.Fault.{Fault}
-use Rattle.c_parse_steps.specs.Answers.{Halts, Gives, halted}
+use Rattle.c_parse_steps.specs.Answers.{Halts}
 use Rattle.c_parse_steps.proofs.Paths.{Path}
-use Rattle.c_parse_steps.proofs.Steps.{halts, passed_on}
+use Rattle.c_parse_steps.proofs.Steps.{halts}
 use Rattle.c_parse_stmts.specs.SimpleKinds.{Conditions, tested, untested, in_parentheses}
 
 -- the expression between parentheses was read
 pub tried : {p : Part} {goes : Outcome (Value p) → Type 0} {d : ℕ} {w : Scene} {k : ExprTree → Process (Value p)} {ts : List Placed} {x : Box Expr Global × Bor (List Placed)} → Path p goes d w (in_parentheses w k) ts → Conditions d w ts (Ok x) → Path p goes d w (k (boxed_expr x.0)) x.1.now
 tried {p} {k = k} path (tested t) = record { run = λ o g. path.run o (t p k o g) }
 
-halts_tried : {d : ℕ} {w : Scene} {ts : List Placed} {f : Fault} → Conditions d w ts (Err f) → Halts (λ why rest. (p : Part) (k : ExprTree → Process (Value p)) → Follows d w p (in_parentheses w k) ts (Stop why rest)) f
-halts_tried (untested h) = h
+not_in_parentheses : {d : ℕ} {w : Scene} {ts : List Placed} {f : Fault} → Conditions d w ts (Err f) → Halts (λ why rest. (p : Part) (k : ExprTree → Process (Value p)) → Follows d w p (in_parentheses w k) ts (Stop why rest)) f
+not_in_parentheses (untested h) = h
 
-pub not_tried : {A : Type 0} {p : Part} {goes : Outcome (Value p) → Type 0} {d : ℕ} {w : Scene} {k : ExprTree → Process (Value p)} {ts : List Placed} {view : A → Value p} {f : Fault} {r : Result (A × Bor (List Placed)) Fault} → IsErrAnd r (λ e. e ≡ f) → Path p goes d w (in_parentheses w k) ts → Conditions d w ts (Err f) → Gives goes view r
-not_tried {p = p} {k = k} e path h = passed_on (Gives _ _) e (halted (halts (halts_tried h) (λ why rest g. path.run _ (g p k))))
+pub halts_tried : {p : Part} {goes : Outcome (Value p) → Type 0} {d : ℕ} {w : Scene} {k : ExprTree → Process (Value p)} {ts : List Placed} {f : Fault} → Path p goes d w (in_parentheses w k) ts → Conditions d w ts (Err f) → Halts (λ why rest. goes (Stop why rest)) f
+halts_tried {p = p} {k = k} path h = halts (not_in_parentheses h) (λ why rest g. path.run _ (g p k))

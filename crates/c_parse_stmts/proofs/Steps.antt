@@ -1,7 +1,6 @@
 -- Ways through the productions of statements and blocks.
 use Rattle.std.proofs.Common.{◌≡◌, ℕ, List, subst, Bor}
 use Rattle.std.specs.Prelude.{Bool, Result, Ok, Err}
-use Rattle.std.specs.Result.{IsErrAnd}
 use Rattle.c_written.specs.declared.token.Placed.{Placed}
 use Rattle.c_written.specs.WrittenFile.{BlockItemTrees, StmtTree}
 use Rattle.c_written.specs.declared.file.Stmt.{Stmt}
@@ -11,11 +10,11 @@ use Rattle.c_grammar.specs.declared.parts.Setting.{Setting}
 use Rattle.c_grammar.specs.Parts.{Scene, Statement, AStmt, Items, Part, Value}
 use Rattle.c_grammar.specs.FileRules.{substatement}
 use Rattle.c_grammar.specs.Process.{Process}
-use Rattle.c_grammar.specs.Descent.{Outcome, Goes, Follows}
+use Rattle.c_grammar.specs.Descent.{Outcome, Stop, Goes, Follows}
 use Rattle.c_parse_steps.specs.declared.fault.Fault.{Fault}
-use Rattle.c_parse_steps.specs.Answers.{Gives, halted}
+use Rattle.c_parse_steps.specs.Answers.{Halts}
 use Rattle.c_parse_steps.proofs.Paths.{Path}
-use Rattle.c_parse_steps.proofs.Steps.{halts, stall, step, passed_on}
+use Rattle.c_parse_steps.proofs.Steps.{halts, stall, step}
 use Rattle.c_parse_stmts.specs.declared.head.ForOpening.{ForOpening}
 use Rattle.c_parse_stmts.specs.HeadKinds.{ForOpenings, Substatements, boxed_tree, for_rest}
 
@@ -31,8 +30,8 @@ in_scene {b} {d} {v} {w} {ts} {o} e g = subst (λ (s : Scene). Goes d s (Items b
 pub held : {p : Part} {goes : Outcome (Value p) → Type 0} {d : ℕ} {w : Scene} {g : Setting} {b : Bool} {k : StmtTree → Process (Value p)} {ts : List Placed} {x : Box Stmt Global × Bor (List Placed)} → Path p goes d w (substatement (record { types = w.types; setting = g }) b k) ts → Substatements d w g b ts (Ok x) → Path p goes d w (k (boxed_tree x.0)) x.1.now
 held {p} {k = k} path h = record { run = λ o f. path.run o (step (h p k) o f) }
 
-pub not_held : {A : Type 0} {p : Part} {goes : Outcome (Value p) → Type 0} {d : ℕ} {w : Scene} {g : Setting} {b : Bool} {k : StmtTree → Process (Value p)} {ts : List Placed} {view : A → Value p} {f : Fault} {r : Result (A × Bor (List Placed)) Fault} → IsErrAnd r (λ e. e ≡ f) → Path p goes d w (substatement (record { types = w.types; setting = g }) b k) ts → Substatements d w g b ts (Err f) → Gives goes view r
-not_held {p = p} {k = k} e path h = passed_on (Gives _ _) e (halted (halts (stall (h p k)) (λ why rest j. path.run _ j)))
+pub halts_held : {p : Part} {goes : Outcome (Value p) → Type 0} {d : ℕ} {w : Scene} {g : Setting} {b : Bool} {k : StmtTree → Process (Value p)} {ts : List Placed} {f : Fault} → Path p goes d w (substatement (record { types = w.types; setting = g }) b k) ts → Substatements d w g b ts (Err f) → Halts (λ why rest. goes (Stop why rest)) f
+halts_held {p = p} {k = k} path h = halts (stall (h p k)) (λ why rest j. path.run _ j)
 
 -- it is in its box
 pub same_statement : {d : ℕ} {w : Scene} {p : Part} (k : StmtTree → Process (Value p)) {a b : StmtTree} {ts : List Placed} {o : Outcome (Value p)} → a ≡ b → Follows d w p (k a) ts o → Follows d w p (k b) ts o

@@ -1,7 +1,7 @@
 // Declarations.
 #![tactic(auto, using(c_written::proofs::Trees::the_written_trees))]
 
-ghost use Rattle.std.specs.Prelude.{◌≡◌, ℕ, ◌+◌, ◌<◌, ◌≤◌, true, List, [], ◌∷◌, ◌++◌, length, map, IfOk};
+ghost use Rattle.std.specs.Prelude.{◌≡◌, ℕ, ◌+◌, ◌<◌, ◌≤◌, true, false, List, [], ◌∷◌, ◌++◌, length, map, IfOk};
 ghost use Rattle.c_written.specs.Written.{specs_tree};
 ghost use Rattle.c_written.specs.WrittenDecl.{decl_tree, initdeclarator_tree};
 ghost use Rattle.c_grammar.specs.Choice.{is_semicolon};
@@ -10,14 +10,14 @@ ghost use Rattle.c_grammar.specs.Parts as part;
 ghost use Rattle.c_grammar.specs.Refused.{first_is};
 ghost use Rattle.c_parse_steps.specs.Answers.{Answers};
 ghost use Rattle.c_parse_steps.specs.Views.{boxed_declarator, scene_of};
-ghost use Rattle.c_parse_stmts.specs.Answers.{Initialised};
+ghost use Rattle.c_parse_stmts.specs.Answers.{DeclaredNext, Initialised};
 
 use crate::init::initialiser;
 use c_grammar::{Class, Role};
 use c_parse_exprs::{declarator, specs};
 use c_parse_steps::{Context, Lookahead, Reading, comes, specs_pos, taken};
 use c_written::{
-    Decl, Declarator, Init, InitDeclarator, InitDeclarators, Placed, Punctuator, Specs,
+    Decl, Declarator, Init, InitDeclarator, InitDeclarators, Placed, Punctuator, Specs, boxed,
 };
 use std::alloc::{AllocError, Global};
 
@@ -26,7 +26,7 @@ pub fn declaration<'a>(context: &Context<'_>, count: u32, tokens: &'a [Placed]) 
     ensures goes { Answers count (scene_of context.now) (part.ADecl part.Declaration) tokens.now (λ d. decl_tree d) result }
     ensures shorter { IfOk result (λ x. length x.1.now < length tokens.now) }
 {
-    let (words, rest) = specs(context, count, tokens)?;
+    let (words, rest) = read!(specs(context, count, tokens));
     declared(context, count, words, rest)
 }
 
@@ -42,10 +42,10 @@ fn declared<'a>(
 {
     if comes(Lookahead::Semicolon, tokens) {
         let semicolon = Class::Sign(Punctuator::Semicolon);
-        let (_end, rest) = taken(context, count, 0, semicolon, tokens)?;
+        let (_end, rest) = read!(taken(context, count, 0, semicolon, tokens));
         return Ok((no_declarators(context.alloc, specs), rest));
     }
-    let (first, rest) = declarator(context, Role::Naming, count, tokens)?;
+    let (first, rest) = read!(declarator(context, Role::Naming, count, tokens));
     initial(context, count, specs, first, rest)
 }
 
@@ -73,18 +73,33 @@ pub fn initial<'a>(
         result }
     ensures shorter { IfOk result (λ x. length x.1.now < length tokens.now) }
 {
+    let (init, after) = read!(init_of(context, count, tokens));
     let mut inits = Vec::new(context.alloc);
-    let (init, mut rest) = init_of(context, count, tokens)?;
-    push_declared(&mut inits, first, init)?;
-    while !comes(Lookahead::Semicolon, rest) {
-        let comma = Class::Sign(Punctuator::Comma);
-        let (_comma, behind) = taken(context, count, 0, comma, rest)?;
-        let (next, after) = declarator(context, Role::Naming, count, behind)?;
-        let (more, after) = init_of(context, count, after)?;
-        push_declared(&mut inits, next, more)?;
+    made!(push_declared(&mut inits, first, init));
+    let mut rest = after;
+    'all: while !comes(Lookahead::Semicolon, rest) {
+        let ((next, more), after) = read!(next_declared(context, count, rest));
+        made!(push_declared(&mut inits, next, more));
         rest = after;
     }
     declaration_end(context, count, specs, inits, rest)
+}
+
+/// A comma, a declarator, and its initialiser where there is one.
+fn next_declared<'a>(
+    context: &Context<'_>,
+    count: u32,
+    tokens: &'a [Placed],
+) -> Reading<'a, (Box<Declarator>, Option<Box<Init>>)>
+    requires { first_is is_semicolon tokens.now ≡ false }
+    ensures goes { DeclaredNext count (scene_of context.now) tokens.now result }
+    ensures shorter { IfOk result (λ x. length x.1.now < length tokens.now) }
+{
+    let comma = Class::Sign(Punctuator::Comma);
+    let (_comma, behind) = read!(taken(context, count, 0, comma, tokens));
+    let (next, rest) = read!(declarator(context, Role::Naming, count, behind));
+    let (init, rest) = read!(init_of(context, count, rest));
+    Ok(((next, init), rest))
 }
 
 /// One more declarator at the end, with its initialiser where there is one.
@@ -112,9 +127,9 @@ fn init_of<'a>(
 {
     if comes(Lookahead::Assign, tokens) {
         let sign = Class::Sign(Punctuator::Assign);
-        let (_equals, behind) = taken(context, count, 1, sign, tokens)?;
-        let (init, rest) = initialiser(context, count + 1, behind)?;
-        let init = Box::new(context.alloc, init)?;
+        let (_equals, behind) = read!(taken(context, count, 1, sign, tokens));
+        let (init, rest) = read!(initialiser(context, count + 1, behind));
+        let init = made!(boxed(context.alloc, init));
         return Ok((Some(init), rest));
     }
     Ok((None, tokens))
@@ -135,7 +150,7 @@ fn declaration_end<'a>(
     ensures shorter { IfOk result (λ x. length x.1.now < length tokens.now) }
 {
     let semicolon = Class::Sign(Punctuator::Semicolon);
-    let (_end, rest) = taken(context, count, 0, semicolon, tokens)?;
+    let (_end, rest) = read!(taken(context, count, 0, semicolon, tokens));
     Ok((
         Decl {
             pos: specs_pos(&specs),

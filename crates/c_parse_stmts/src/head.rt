@@ -14,7 +14,7 @@ use crate::{declaration, optional};
 use c_grammar::{Class, Closing, Level};
 use c_parse_exprs::joined_operands;
 use c_parse_steps::{Context, Lookahead, Reading, comes, spec_ahead, taken};
-use c_written::{ForHead, ForStart, Keyword, Placed, Pos, Punctuator, Stmt};
+use c_written::{ForHead, ForStart, Keyword, Placed, Pos, Punctuator, Stmt, boxed};
 
 /// The word `for` and what stands between its parentheses.
 #[derive(Drop)]
@@ -35,17 +35,17 @@ pub fn for_opening<'a>(
     ensures within { IfOk result (λ _. count + 1 ≤ 200) }
 {
     let opens = Class::Sign(Punctuator::LeftParenthesis);
-    let (at, behind) = taken(context, count, 0, Class::Keyword(Keyword::For), tokens)?;
-    let (_opening, behind) = taken(context, count, 1, opens, behind)?;
-    let (start, rest) = for_start(context, count + 1, behind)?;
-    let (condition, rest) = optional(context, Closing::BySemicolon, count + 1, rest)?;
-    let (step, rest) = optional(context, Closing::ByParenthesis, count + 1, rest)?;
+    let (at, behind) = read!(taken(context, count, 0, Class::Keyword(Keyword::For), tokens));
+    let (_opening, behind) = read!(taken(context, count, 1, opens, behind));
+    let (start, rest) = read!(for_start(context, count + 1, behind));
+    let (condition, rest) = read!(optional(context, Closing::BySemicolon, count + 1, rest));
+    let (step, rest) = read!(optional(context, Closing::ByParenthesis, count + 1, rest));
     let head = ForHead {
         start,
         condition,
         step,
     };
-    let head = Box::new(context.alloc, head)?;
+    let head = made!(boxed(context.alloc, head));
     Ok((ForOpening { pos: at.pos, head }, rest))
 }
 
@@ -68,15 +68,15 @@ fn for_start<'a>(context: &Context<'_>, count: u32, tokens: &'a [Placed]) -> Rea
 {
     let semicolon = Class::Sign(Punctuator::Semicolon);
     if comes(Lookahead::Semicolon, tokens) {
-        let (_end, rest) = taken(context, count, 0, semicolon, tokens)?;
+        let (_end, rest) = read!(taken(context, count, 0, semicolon, tokens));
         return Ok((ForStart::Nothing, rest));
     }
     if spec_ahead(context, tokens) {
-        let (decl, rest) = declaration(context, count, tokens)?;
-        let decl = Box::new(context.alloc, decl)?;
+        let (decl, rest) = read!(declaration(context, count, tokens));
+        let decl = made!(boxed(context.alloc, decl));
         return Ok((ForStart::Declares(decl), rest));
     }
-    let (value, rest) = joined_operands(context, Level::Commas, count, tokens)?;
-    let (_end, rest) = taken(context, count, 0, semicolon, rest)?;
+    let (value, rest) = read!(joined_operands(context, Level::Commas, count, tokens));
+    let (_end, rest) = read!(taken(context, count, 0, semicolon, rest));
     Ok((ForStart::Value(value), rest))
 }

@@ -27,7 +27,7 @@ pub fn initialiser<'a>(context: &Context<'_>, count: u32, tokens: &'a [Placed]) 
     if comes(Lookahead::Brace, tokens) {
         return braces(context, count, tokens);
     }
-    let (value, rest) = assignment(context, count, tokens)?;
+    let (value, rest) = read!(assignment(context, count, tokens));
     Ok((value_init(value), rest))
 }
 
@@ -47,8 +47,8 @@ fn braces<'a>(context: &Context<'_>, count: u32, tokens: &'a [Placed]) -> Readin
     ensures shorter { IfOk result (λ x. length x.1.now < length tokens.now) }
 {
     let brace = Class::Sign(Punctuator::LeftBrace);
-    let (at, behind) = taken(context, count, 1, brace, tokens)?;
-    let (items, rest) = initialisers(context, count + 1, behind)?;
+    let (at, behind) = read!(taken(context, count, 1, brace, tokens));
+    let (items, rest) = read!(initialisers(context, count + 1, behind));
     Ok((Init::Braces { pos: at.pos, items }, rest))
 }
 
@@ -58,8 +58,8 @@ fn initialisers<'a>(context: &Context<'_>, count: u32, tokens: &'a [Placed]) -> 
     ensures goes { Answers count (scene_of context.now) part.Initialisers tokens.now (λ i. inits_tree i) result }
     ensures shorter { IfOk result (λ x. length x.1.now < length tokens.now) }
 {
-    let (first, rest) = initialiser(context, count, tokens)?;
-    let items = one_init(context.alloc, first)?;
+    let (first, rest) = read!(initialiser(context, count, tokens));
+    let items = made!(one_init(context.alloc, first));
     more_initialisers(context, count, items, rest)
 }
 
@@ -77,16 +77,22 @@ fn more_initialisers<'a>(
     let mut items = before;
     let mut rest = tokens;
     while !comes(Lookahead::RightBrace, rest) {
-        let (_comma, behind) = taken(context, count, 0, Class::Sign(Punctuator::Comma), rest)?;
+        let (_comma, behind) = read!(taken(
+            context,
+            count,
+            0,
+            Class::Sign(Punctuator::Comma),
+            rest
+        ));
         if comes(Lookahead::RightBrace, behind) {
             return comma_end(context, count, items, behind);
         }
-        let (next, after) = initialiser(context, count, behind)?;
-        push_init(&mut items, next)?;
+        let (next, after) = read!(initialiser(context, count, behind));
+        made!(push_init(&mut items, next));
         rest = after;
     }
     let closes = Class::Sign(Punctuator::RightBrace);
-    let (_close, rest) = taken(context, count, 0, closes, rest)?;
+    let (_close, rest) = read!(taken(context, count, 0, closes, rest));
     Ok((Inits::from_vec(items), rest))
 }
 
@@ -102,7 +108,7 @@ fn comma_end<'a>(
     ensures shorter { IfOk result (λ x. length x.1.now < length tokens.now) }
 {
     let closes = Class::Sign(Punctuator::RightBrace);
-    let (_close, rest) = taken(context, count, 0, closes, tokens)?;
+    let (_close, rest) = read!(taken(context, count, 0, closes, tokens));
     Ok((Inits::from_vec(items), rest))
 }
 

@@ -24,6 +24,26 @@
 //! promises that a block is read as the grammar's descent reads it (`Answers` of `c_parse_steps`).
 #![tactic(auto)]
 
+// What was read, or the fault as it is. `?` would convert the fault as well, two calls more on each way out.
+macro_rules! read {
+    ($reading:expr) => {
+        match $reading {
+            Ok(read) => read,
+            Err(fault) => return Err(fault),
+        }
+    };
+}
+
+// What was made, or that memory ran out.
+macro_rules! made {
+    ($making:expr) => {
+        match $making {
+            Ok(made) => made,
+            Err(_) => return Err(c_parse_steps::Fault::NoMemory),
+        }
+    };
+}
+
 mod decl;
 mod head;
 mod init;

@@ -25,7 +25,7 @@ use c_parse_exprs::conditional;
 use c_parse_steps::{
     Context, Lookahead, Reading, boxed_name_of, comes, label_ahead, refused, spec_ahead, taken,
 };
-use c_written::{BlockItem, BlockItems, Expr, Keyword, Placed, Pos, Punctuator, Stmt};
+use c_written::{BlockItem, BlockItems, Expr, Keyword, Placed, Pos, Punctuator, Stmt, boxed};
 use std::alloc::AllocError;
 
 /// A statement, which is that of a switch where `switched`.
@@ -73,10 +73,10 @@ fn label<'a>(
     ensures shorter { IfOk result (λ x. length x.1.now < length tokens.now) }
 {
     let colon = Class::Sign(Punctuator::Colon);
-    let (at, behind) = taken(context, count, 0, Class::Word, tokens)?;
-    let (_colon, behind) = taken(context, count, 0, colon, behind)?;
-    let (body, rest) = substatement(context, context.setting, false, count, behind)?;
-    let name = boxed_name_of(context.alloc, &at.token)?;
+    let (at, behind) = read!(taken(context, count, 0, Class::Word, tokens));
+    let (_colon, behind) = read!(taken(context, count, 0, colon, behind));
+    let (body, rest) = read!(substatement(context, context.setting, false, count, behind));
+    let name = made!(boxed_name_of(context.alloc, &at.token));
     Ok((
         Stmt::Label {
             pos: at.pos,
@@ -100,10 +100,10 @@ fn case<'a>(
     ensures shorter { IfOk result (λ x. length x.1.now < length tokens.now) }
 {
     let colon = Class::Sign(Punctuator::Colon);
-    let (at, behind) = taken(context, count, 0, Class::Keyword(Keyword::Case), tokens)?;
-    let (value, rest) = conditional(context, count, behind)?;
-    let (_colon, behind) = taken(context, count, 0, colon, rest)?;
-    let (body, rest) = substatement(context, context.setting, false, count, behind)?;
+    let (at, behind) = read!(taken(context, count, 0, Class::Keyword(Keyword::Case), tokens));
+    let (value, rest) = read!(conditional(context, count, behind));
+    let (_colon, behind) = read!(taken(context, count, 0, colon, rest));
+    let (body, rest) = read!(substatement(context, context.setting, false, count, behind));
     Ok((case_stmt(at.pos, value, body), rest))
 }
 
@@ -120,9 +120,9 @@ fn default_statement<'a>(
     ensures shorter { IfOk result (λ x. length x.1.now < length tokens.now) }
 {
     let colon = Class::Sign(Punctuator::Colon);
-    let (at, behind) = taken(context, count, 0, Class::Keyword(Keyword::Default), tokens)?;
-    let (_colon, behind) = taken(context, count, 0, colon, behind)?;
-    let (body, rest) = substatement(context, context.setting, false, count, behind)?;
+    let (at, behind) = read!(taken(context, count, 0, Class::Keyword(Keyword::Default), tokens));
+    let (_colon, behind) = read!(taken(context, count, 0, colon, behind));
+    let (body, rest) = read!(substatement(context, context.setting, false, count, behind));
     Ok((Stmt::Default { pos: at.pos, body }, rest))
 }
 
@@ -139,8 +139,8 @@ fn block<'a>(
     ensures shorter { IfOk result (λ x. length x.1.now < length tokens.now) }
 {
     let brace = Class::Sign(Punctuator::LeftBrace);
-    let (at, behind) = taken(context, count, 1, brace, tokens)?;
-    let (items, rest) = block_items(context, switched, count + 1, behind)?;
+    let (at, behind) = read!(taken(context, count, 1, brace, tokens));
+    let (items, rest) = read!(block_items(context, switched, count + 1, behind));
     Ok((Stmt::Block { pos: at.pos, items }, rest))
 }
 
@@ -156,9 +156,9 @@ fn if_statement<'a>(
     ensures goes { Answers count (scene_of context.now) (part.AStmt (part.Statement switched)) tokens.now (λ s. stmt_tree s) result }
     ensures shorter { IfOk result (λ x. length x.1.now < length tokens.now) }
 {
-    let (at, behind) = taken(context, count, 0, Class::Keyword(Keyword::If), tokens)?;
-    let (value, rest) = condition(context, count, behind)?;
-    let (then, rest) = substatement(context, Setting::InBlock, false, count, rest)?;
+    let (at, behind) = read!(taken(context, count, 0, Class::Keyword(Keyword::If), tokens));
+    let (value, rest) = read!(condition(context, count, behind));
+    let (then, rest) = read!(substatement(context, Setting::InBlock, false, count, rest));
     else_part(context, count, at.pos, value, then, rest)
 }
 
@@ -204,8 +204,8 @@ fn else_form<'a>(
         tokens.now (λ s. stmt_tree s) result }
     ensures shorter { IfOk result (λ x. length x.1.now < length tokens.now) }
 {
-    let (_word, behind) = taken(context, count, 0, Class::Keyword(Keyword::Else), tokens)?;
-    let (otherwise, rest) = substatement(context, Setting::InBlock, false, count, behind)?;
+    let (_word, behind) = read!(taken(context, count, 0, Class::Keyword(Keyword::Else), tokens));
+    let (otherwise, rest) = read!(substatement(context, Setting::InBlock, false, count, behind));
     Ok((if_else_stmt(at, condition, then, otherwise), rest))
 }
 
@@ -221,9 +221,9 @@ fn switch_statement<'a>(
     ensures goes { Answers count (scene_of context.now) (part.AStmt (part.Statement switched)) tokens.now (λ s. stmt_tree s) result }
     ensures shorter { IfOk result (λ x. length x.1.now < length tokens.now) }
 {
-    let (at, behind) = taken(context, count, 0, Class::Keyword(Keyword::Switch), tokens)?;
-    let (value, rest) = condition(context, count, behind)?;
-    let (body, rest) = substatement(context, Setting::InBlock, true, count, rest)?;
+    let (at, behind) = read!(taken(context, count, 0, Class::Keyword(Keyword::Switch), tokens));
+    let (value, rest) = read!(condition(context, count, behind));
+    let (body, rest) = read!(substatement(context, Setting::InBlock, true, count, rest));
     Ok((switch_stmt(at.pos, value, body), rest))
 }
 
@@ -239,9 +239,9 @@ fn while_loop<'a>(
     ensures goes { Answers count (scene_of context.now) (part.AStmt (part.Statement switched)) tokens.now (λ s. stmt_tree s) result }
     ensures shorter { IfOk result (λ x. length x.1.now < length tokens.now) }
 {
-    let (at, behind) = taken(context, count, 0, Class::Keyword(Keyword::While), tokens)?;
-    let (condition, rest) = condition(context, count, behind)?;
-    let (body, rest) = substatement(context, Setting::InBlock, false, count, rest)?;
+    let (at, behind) = read!(taken(context, count, 0, Class::Keyword(Keyword::While), tokens));
+    let (condition, rest) = read!(condition(context, count, behind));
+    let (body, rest) = read!(substatement(context, Setting::InBlock, false, count, rest));
     Ok((while_stmt(at.pos, condition, body), rest))
 }
 
@@ -258,11 +258,11 @@ fn do_loop<'a>(
     ensures shorter { IfOk result (λ x. length x.1.now < length tokens.now) }
 {
     let semicolon = Class::Sign(Punctuator::Semicolon);
-    let (at, behind) = taken(context, count, 0, Class::Keyword(Keyword::Do), tokens)?;
-    let (body, rest) = substatement(context, Setting::InBlock, false, count, behind)?;
-    let (_word, behind) = taken(context, count, 0, Class::Keyword(Keyword::While), rest)?;
-    let (condition, rest) = condition(context, count, behind)?;
-    let (_end, rest) = taken(context, count, 0, semicolon, rest)?;
+    let (at, behind) = read!(taken(context, count, 0, Class::Keyword(Keyword::Do), tokens));
+    let (body, rest) = read!(substatement(context, Setting::InBlock, false, count, behind));
+    let (_word, behind) = read!(taken(context, count, 0, Class::Keyword(Keyword::While), rest));
+    let (condition, rest) = read!(condition(context, count, behind));
+    let (_end, rest) = read!(taken(context, count, 0, semicolon, rest));
     Ok((do_stmt(at.pos, body, condition), rest))
 }
 
@@ -278,8 +278,8 @@ fn for_loop<'a>(
     ensures goes { Answers count (scene_of context.now) (part.AStmt (part.Statement switched)) tokens.now (λ s. stmt_tree s) result }
     ensures shorter { IfOk result (λ x. length x.1.now < length tokens.now) }
 {
-    let (opening, rest) = for_opening(context, count, tokens)?;
-    let (body, rest) = substatement(context, Setting::InBlock, false, count, rest)?;
+    let (opening, rest) = read!(for_opening(context, count, tokens));
+    let (body, rest) = read!(substatement(context, Setting::InBlock, false, count, rest));
     Ok((for_stmt(opening, body), rest))
 }
 
@@ -305,8 +305,9 @@ fn substatement<'a>(
         types: context.types,
         setting,
     };
-    let (whole, rest) = statement(&inner, switched, count + 1, tokens)?;
-    Ok((Box::new(context.alloc, whole)?, rest))
+    let (whole, rest) = read!(statement(&inner, switched, count + 1, tokens));
+    let whole = made!(boxed(context.alloc, whole));
+    Ok((whole, rest))
 }
 
 /// Where the tokens of a block stand.
@@ -348,12 +349,12 @@ fn items<'a>(context: &Context<'_>, count: u32, tokens: &'a [Placed]) -> Reading
     let mut items = Vec::new(context.alloc);
     let mut rest = tokens;
     while !comes(Lookahead::RightBrace, rest) {
-        let (next, after) = item(context, count, rest)?;
-        push_item(&mut items, next)?;
+        let (next, after) = read!(item(context, count, rest));
+        made!(push_item(&mut items, next));
         rest = after;
     }
     let closes = Class::Sign(Punctuator::RightBrace);
-    let (_close, rest) = taken(context, count, 0, closes, rest)?;
+    let (_close, rest) = read!(taken(context, count, 0, closes, rest));
     Ok((BlockItems::from_vec(items), rest))
 }
 
@@ -373,10 +374,10 @@ fn item<'a>(context: &Context<'_>, count: u32, tokens: &'a [Placed]) -> Reading<
     ensures shorter { IfOk result (λ x. length x.1.now < length tokens.now) }
 {
     if spec_ahead(context, tokens) {
-        let (decl, rest) = declaration(context, count, tokens)?;
-        let decl = Box::new(context.alloc, decl)?;
+        let (decl, rest) = read!(declaration(context, count, tokens));
+        let decl = made!(boxed(context.alloc, decl));
         return Ok((BlockItem::Declaration(decl), rest));
     }
-    let (stmt, rest) = statement(context, false, count, tokens)?;
+    let (stmt, rest) = read!(statement(context, false, count, tokens));
     Ok((BlockItem::Statement(stmt), rest))
 }

@@ -39,7 +39,7 @@ pub fn empty_statement<'a>(
     ensures shorter { IfOk result (λ x. length x.1.now < length tokens.now) }
 {
     let semicolon = Class::Sign(Punctuator::Semicolon);
-    let (at, rest) = taken(context, count, 0, semicolon, tokens)?;
+    let (at, rest) = read!(taken(context, count, 0, semicolon, tokens));
     Ok((Stmt::Empty { pos: at.pos }, rest))
 }
 
@@ -54,8 +54,8 @@ pub fn expression_statement<'a>(
     ensures shorter { IfOk result (λ x. length x.1.now < length tokens.now) }
 {
     let semicolon = Class::Sign(Punctuator::Semicolon);
-    let (value, rest) = joined_operands(context, Level::Commas, count, tokens)?;
-    let (_end, rest) = taken(context, count, 0, semicolon, rest)?;
+    let (value, rest) = read!(joined_operands(context, Level::Commas, count, tokens));
+    let (_end, rest) = read!(taken(context, count, 0, semicolon, rest));
     Ok((expression_stmt(value), rest))
 }
 
@@ -81,10 +81,10 @@ pub fn goto_statement<'a>(
     ensures shorter { IfOk result (λ x. length x.1.now < length tokens.now) }
 {
     let semicolon = Class::Sign(Punctuator::Semicolon);
-    let (at, behind) = taken(context, count, 0, Class::Keyword(Keyword::Goto), tokens)?;
-    let (word, rest) = taken(context, count, 0, Class::AnyWord, behind)?;
-    let (_end, rest) = taken(context, count, 0, semicolon, rest)?;
-    let label = name_of(context.alloc, &word.token)?;
+    let (at, behind) = read!(taken(context, count, 0, Class::Keyword(Keyword::Goto), tokens));
+    let (word, rest) = read!(taken(context, count, 0, Class::AnyWord, behind));
+    let (_end, rest) = read!(taken(context, count, 0, semicolon, rest));
+    let label = made!(name_of(context.alloc, &word.token));
     Ok((Stmt::Goto { pos: at.pos, label }, rest))
 }
 
@@ -99,8 +99,8 @@ pub fn continue_statement<'a>(
     ensures shorter { IfOk result (λ x. length x.1.now < length tokens.now) }
 {
     let semicolon = Class::Sign(Punctuator::Semicolon);
-    let (at, behind) = taken(context, count, 0, Class::Keyword(Keyword::Continue), tokens)?;
-    let (_end, rest) = taken(context, count, 0, semicolon, behind)?;
+    let (at, behind) = read!(taken(context, count, 0, Class::Keyword(Keyword::Continue), tokens));
+    let (_end, rest) = read!(taken(context, count, 0, semicolon, behind));
     Ok((Stmt::Continue { pos: at.pos }, rest))
 }
 
@@ -115,8 +115,8 @@ pub fn break_statement<'a>(
     ensures shorter { IfOk result (λ x. length x.1.now < length tokens.now) }
 {
     let semicolon = Class::Sign(Punctuator::Semicolon);
-    let (at, behind) = taken(context, count, 0, Class::Keyword(Keyword::Break), tokens)?;
-    let (_end, rest) = taken(context, count, 0, semicolon, behind)?;
+    let (at, behind) = read!(taken(context, count, 0, Class::Keyword(Keyword::Break), tokens));
+    let (_end, rest) = read!(taken(context, count, 0, semicolon, behind));
     Ok((Stmt::Break { pos: at.pos }, rest))
 }
 
@@ -130,8 +130,8 @@ pub fn return_statement<'a>(
     ensures goes { (b : Bool) → Answers count (scene_of context.now) (part.AStmt (part.Statement b)) tokens.now (λ s. stmt_tree s) result }
     ensures shorter { IfOk result (λ x. length x.1.now < length tokens.now) }
 {
-    let (at, behind) = taken(context, count, 0, Class::Keyword(Keyword::Return), tokens)?;
-    let (value, rest) = optional(context, Closing::BySemicolon, count, behind)?;
+    let (at, behind) = read!(taken(context, count, 0, Class::Keyword(Keyword::Return), tokens));
+    let (value, rest) = read!(optional(context, Closing::BySemicolon, count, behind));
     Ok((Stmt::Return { pos: at.pos, value }, rest))
 }
 
@@ -147,11 +147,11 @@ pub fn optional<'a>(
 {
     let sign = Class::Sign(closing.sign());
     if comes(lookahead_of(closing), tokens) {
-        let (_end, rest) = taken(context, count, 0, sign, tokens)?;
+        let (_end, rest) = read!(taken(context, count, 0, sign, tokens));
         return Ok((None, rest));
     }
-    let (value, rest) = joined_operands(context, Level::Commas, count, tokens)?;
-    let (_end, rest) = taken(context, count, 0, sign, rest)?;
+    let (value, rest) = read!(joined_operands(context, Level::Commas, count, tokens));
+    let (_end, rest) = read!(taken(context, count, 0, sign, rest));
     Ok((Some(value), rest))
 }
 
@@ -166,8 +166,8 @@ pub fn condition<'a>(
 {
     let opens = Class::Sign(Punctuator::LeftParenthesis);
     let closes = Class::Sign(Punctuator::RightParenthesis);
-    let (_opening, behind) = taken(context, count, 1, opens, tokens)?;
-    let (value, rest) = joined_operands(context, Level::Commas, count + 1, behind)?;
-    let (_close, rest) = taken(context, count + 1, 0, closes, rest)?;
+    let (_opening, behind) = read!(taken(context, count, 1, opens, tokens));
+    let (value, rest) = read!(joined_operands(context, Level::Commas, count + 1, behind));
+    let (_close, rest) = read!(taken(context, count + 1, 0, closes, rest));
     Ok((value, rest))
 }

@@ -8,9 +8,9 @@ use Rattle.c_parse_steps.specs.Views.{boxed_declarator, scene_of}
 use Rattle.c_parse_stmts.proofs.decl.initial.Given as goal
 
 -- what is left of the tokens decides for all
-abbrev pub invariant-loop-comma : goal.invariant-loop-comma
-invariant-loop-comma l =
+abbrev pub invariant-all : goal.invariant-all
+invariant-all l =
     ((o : Outcome DeclTree) → Goes l.count (scene_of l.context) (ADecl (Ending (specs_tree l.specs) (map initdeclarator_tree l.inits.items))) l.rest o → Goes l.count (scene_of l.context) (ADecl (Initial (specs_tree l.specs) [] (boxed_declarator l.fn.first))) l.fn.tokens o) × (length l.rest ≤ length l.fn.tokens)
 
-abbrev pub decreases-loop-comma : goal.decreases-loop-comma
-decreases-loop-comma l = length l.rest
+abbrev pub decreases-all : goal.decreases-all
+decreases-all l = length l.rest

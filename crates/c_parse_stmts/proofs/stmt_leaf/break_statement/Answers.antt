@@ -2,14 +2,15 @@ use Rattle.std.proofs.Common.{refl}
 use Rattle.c_written.proofs.WrittenFileTrees.{stmt_break}
 use Rattle.c_parse_stmts.specs.declared.stmt_kind.StatementKind.TheVariants as statements
 use Rattle.c_parse_stmts.proofs.SimpleStarts.{statement_begins}
-use Rattle.c_parse_steps.proofs.Paths.{after, ends, not_after}
+use Rattle.c_parse_steps.proofs.Paths.{after, ends, halts_after}
+use Rattle.c_parse_steps.specs.Answers.{halted}
 use Rattle.c_parse_stmts.proofs.stmt_leaf.break_statement.Goals as goal
 
-pub returns-in_err-at-clause-goes : goal.returns-in_err-at-clause-goes
-returns-in_err-at-clause-goes c = λ b. not_after c.from_residual.ensures.1 (statement_begins statements.Break c.requires refl) c.in_err-at.ensures.goes
+pub returns-in-Err-clause-goes : goal.returns-in-Err-clause-goes
+returns-in-Err-clause-goes c = λ b. halted (halts_after (statement_begins statements.Break c.requires refl) c.in-Err.ensures.goes)
 
-pub returns-in_err-_end-clause-goes : goal.returns-in_err-_end-clause-goes
-returns-in_err-_end-clause-goes c = λ b. not_after c.from_residual-in_err-_end.ensures.1 (after (statement_begins statements.Break c.requires refl) c.in_ok-at.ensures.goes) c.in_err-_end.ensures.goes
+pub returns-in-Err-taken-clause-goes : goal.returns-in-Err-taken-clause-goes
+returns-in-Err-taken-clause-goes c = λ b. halted (halts_after (after (statement_begins statements.Break c.requires refl) c.in-Ok.ensures.goes) c.in-Err-taken.ensures.goes)
 
 pub returns-clause-goes : goal.returns-clause-goes
-returns-clause-goes c = λ b. ends (after (after (statement_begins statements.Break c.requires refl) c.in_ok-at.ensures.goes) c.in_ok-_end.ensures.goes) (stmt_break _)
+returns-clause-goes c = λ b. ends (after (after (statement_begins statements.Break c.requires refl) c.in-Ok.ensures.goes) c.in-Ok-taken.ensures.goes) (stmt_break _)
