@@ -69,21 +69,35 @@ fn around(
 pub fn structs(alloc: Global) -> Result<Structs, AllocError> {
     let mut structs = Structs::new(alloc);
     structs.push(name(alloc, b"s")?)?;
+    structs.complete(0, two_members(alloc)?, 8, 4)?;
+    add_second(alloc, &mut structs)?;
+    Ok(structs)
+}
+
+fn add_second(alloc: Global, structs: &mut Structs) -> Result<(), AllocError> {
+    structs.push(name(alloc, b"t")?)?;
+    let members = first_member(alloc)?;
+    structs.complete(1, Members::from_vec(members), 4, 4)
+}
+
+fn two_members(alloc: Global) -> Result<Members, AllocError> {
     let mut members = first_member(alloc)?;
+    members.push(second_member(alloc)?)?;
+    Ok(Members::from_vec(members))
+}
+
+// `char a[3]`
+fn second_member(alloc: Global) -> Result<Member, AllocError> {
     let element = Target {
         ty: CType::Int(IntType::Char),
         is_const: false,
     };
-    members.push(Member {
+    let ty = CType::Array(Rc::new(alloc, element)?, 3);
+    Ok(Member {
         name: name(alloc, b"a")?,
-        ty: CType::Array(Rc::new(alloc, element)?, 3),
+        ty,
         offset: 4,
-    })?;
-    structs.complete(0, Members::from_vec(members), 8, 4)?;
-    structs.push(name(alloc, b"t")?)?;
-    let members = first_member(alloc)?;
-    structs.complete(1, Members::from_vec(members), 4, 4)?;
-    Ok(structs)
+    })
 }
 
 fn first_member(alloc: Global) -> Result<Vec<Member>, AllocError> {
