@@ -11,6 +11,7 @@ ghost use Rattle.c_work.specs.Views.{loop_of};
 ghost use Rattle.c_work.specs.Works.{work_of};
 
 use crate::run::Run;
+use crate::shares::put_eval;
 use crate::step::Step;
 use block_mem::Scalar;
 use c_shared::{SharedExpr, SharedStmt};
@@ -181,8 +182,8 @@ fn put_right(work: &mut Work, pos: Pos, right: &Rc<SharedExpr>) -> Result<(), No
     ensures { OnOk result (work_of work.new
         ≡ steps.Eval (expr_tree right.now.value) ∷ steps.Truth pos (scalar_of_value (expr_tree right.now.value)) ∷ work_of work.old) }
 {
-    let truth = Item::Truth(pos, value_scalar(right));
-    work.put_two(Item::Eval(right.clone()?), truth)
+    work.put(Item::Truth(pos, value_scalar(right)))?;
+    put_eval(work, right)
 }
 
 // The body of a loop once more, and the end of that.
@@ -193,8 +194,8 @@ fn put_turn(work: &mut Work, turns: u64, parts: &Rc<Loop>) -> Result<(), NoMemor
     let Some(turns) = turns.checked_add(1) else {
         return Err(NoMemory);
     };
-    let again = Item::Again(turns, parts.clone()?);
-    work.put_two(Item::Do(parts.body.clone()?), again)
+    work.put(Item::Again(turns, parts.clone()?))?;
+    work.put(Item::Do(parts.body.clone()?))
 }
 
 // The scalar type of a loop's condition.

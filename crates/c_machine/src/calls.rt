@@ -12,13 +12,12 @@ ghost use Rattle.c_work.specs.Views.{end_of};
 use crate::functions::{Callee, Functions};
 use crate::jumps::Way;
 use crate::run::Run;
+use crate::shares::put_params_end;
 use crate::step::Step;
-use c_shared::SharedStmts;
 use c_syntax::{Pos, TProgram};
 use c_value_rows::take_held;
 use c_work::{AtEnd, Item, Work};
 use std::alloc::{AllocError as NoMemory, Global};
-use std::rc::Rc;
 
 impl Run {
     ghost use Rattle.c_machine.specs.Functions.{AreFunctions};
@@ -74,7 +73,7 @@ fn put_body(
     ensures { OnOk result (work_of work.new
         ≡ steps.Do (stmt_tree callee.now.body.value) ∷ steps.Close callee.now.params.value none ∷ steps.Reach pos (end_of end) ∷ work_of work.old) }
 {
-    let nothing = Rc::new(alloc, SharedStmts::from_vec(Vec::new(alloc)))?;
-    let close = Item::Close(callee.params.clone()?, nothing);
-    work.put_three(Item::Do(callee.body.clone()?), close, Item::Reach(pos, end))
+    work.put(Item::Reach(pos, end))?;
+    put_params_end(alloc, work, &callee.params)?;
+    work.put(Item::Do(callee.body.clone()?))
 }

@@ -8,6 +8,7 @@ ghost use Rattle.c_steps.specs.Work as steps;
 ghost use Rattle.c_syntax.specs.Program.{TProgramTree, tprogram_tree};
 
 use crate::run::Run;
+use crate::shares::put_eval;
 use crate::step::Step;
 use block_mem::Value;
 use c_layout::wrap;
@@ -71,7 +72,7 @@ impl Run {
                 Ok(Step::Went)
             }
             SharedPlace::Deref { pointer, .. } => {
-                self.work.put(Item::Eval(pointer.clone()?))?;
+                put_eval(&mut self.work, pointer)?;
                 Ok(Step::Went)
             }
             SharedPlace::Member {
@@ -80,8 +81,8 @@ impl Run {
                 place,
                 ..
             } => {
-                let moved = Item::Move(*pos, *offset);
-                self.work.put_two(Item::Addr(place.clone()?), moved)?;
+                self.work.put(Item::Move(*pos, *offset))?;
+                self.work.put(Item::Addr(place.clone()?))?;
                 Ok(Step::Went)
             }
         }

@@ -54,8 +54,8 @@ fn share_callee(alloc: Global, function: &TFunction) -> Result<Option<Callee>, N
     match &function.body {
         None => Ok(None),
         Some(body) => {
-            let body = shared_stmt(alloc, body)?;
             let params = Rc::new(alloc, function.params.copy()?)?;
+            let body = shared_stmt(alloc, body)?;
             Ok(Some(Callee { params, body }))
         }
     }

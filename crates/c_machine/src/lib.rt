@@ -37,6 +37,7 @@ mod machine;
 mod marks;
 mod rows;
 mod run;
+mod shares;
 mod statements;
 mod step;
 

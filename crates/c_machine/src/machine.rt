@@ -1,9 +1,11 @@
 // The machine.
 
-ghost use Rattle.std.specs.Prelude.{◌≡◌, []};
+ghost use Rattle.std.specs.Prelude.{◌≡◌, [], ◌∷◌, IfOk, None};
 ghost use Rattle.c_steps.specs.Runs.{calls_in, chain_of};
+ghost use Rattle.c_steps.specs.Work as steps;
 ghost use Rattle.c_machine.specs.Chains.{call_in};
 ghost use Rattle.c_work.specs.Views.{in_front, item_of};
+ghost use Rattle.c_work.specs.Works.{work_of};
 
 use crate::functions::Functions;
 use crate::inputs::Inputs;
@@ -26,7 +28,7 @@ pub struct Machine {
 }
 
 impl Machine {
-    ghost use Rattle.std.specs.Prelude.{IfOk, OnOk};
+    ghost use Rattle.std.specs.Prelude.{OnOk};
     ghost use Rattle.c_layout.specs.Plans.{IsPlanFor};
     ghost use Rattle.c_layout.specs.WellTyped.{IsWellTyped};
     ghost use Rattle.c_steps.specs.Runs.{start};
@@ -47,14 +49,13 @@ impl Machine {
         ensures start { IfOk result (λ machine. state_of machine ≡ start (tprogram_tree program.now) plan.now.main inputs) }
         ensures made { IfOk result (λ machine. IsFor machine (tprogram_tree program.now)) }
     {
+        let work = first_work(alloc, plan.main)?;
         let functions = Functions::of(alloc, &program.functions)?;
         let memory = ObjectMemory::start(
             alloc,
             program.objects.as_slice(),
             program.initial.as_slice(),
         )?;
-        let mut work = Work::new(alloc);
-        work.put_two(Item::Enter(None, plan.main, AtEnd::GivesZero), Item::Finish)?;
         Ok(Machine {
             alloc,
             run: Run {
@@ -98,9 +99,7 @@ impl Machine {
         ensures step { IfOk result (λ step. Comes (next_of (tprogram_tree program.now) (state_of self.old)) (state_of self.old) (state_of self.new) step) }
         ensures made { OnOk result (IsRunOf self.new (tprogram_tree program.now)) }
     {
-        let Some(item) = self.run.work.take() else {
-            unreachable!()
-        };
+        let item = take_next(&mut self.run.work);
         match self.run.row(self.alloc, program, &self.functions, &item)? {
             Step::Went => Ok(Step::Went),
             step => {
@@ -122,6 +121,27 @@ impl Machine {
             }
         }
         Ok(Places::from_vec(calls))
+    }
+}
+
+// The call of main, and the end of the run.
+fn first_work(alloc: Global, main: u64) -> Result<Work, NoMemory>
+    ensures { IfOk result (λ work. work_of work ≡ steps.Enter None main steps.GivesZero ∷ steps.Finish ∷ []) }
+{
+    let mut work = Work::new(alloc);
+    work.put(Item::Finish)?;
+    work.put(Item::Enter(None, main, AtEnd::GivesZero))?;
+    Ok(work)
+}
+
+// The next item, taken off.
+fn take_next(work: &mut Work) -> Item
+    requires { work_of work.old ≡ [] → ⊥ }
+    ensures { work_of work.old ≡ item_of result ∷ work_of work.new }
+{
+    match work.take() {
+        Some(item) => item,
+        None => unreachable!(),
     }
 }
 

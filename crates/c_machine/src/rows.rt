@@ -13,6 +13,7 @@ ghost use Rattle.c_written.specs.declared.int_type.IntType.{IntType};
 use crate::functions::Functions;
 use crate::marks::{chosen, put_behind};
 use crate::run::Run;
+use crate::shares::{put_effect, put_eval, put_switch_end};
 use crate::step::Step;
 use block_mem::Value;
 use c_shared::SharedStmts;
@@ -110,15 +111,14 @@ impl Run {
     fn begin(&mut self, turns: u64, parts: &Rc<Loop>) -> Result<Step, NoMemory>
         ensures { (p : TProgramTree) → IfOk result (λ step. IsRow p (steps.Begin turns (loop_of parts.now.value)) (run_state self.old) (run_state self.new) step) }
     {
-        let turn = Item::Turn(turns, parts.clone()?);
+        self.work.put(Item::Turn(turns, parts.clone()?))?;
         match &parts.condition {
             None => {
                 put_value(&mut self.values.stack, bit(true))?;
-                self.work.put(turn)?;
                 Ok(Step::Went)
             }
             Some(condition) => {
-                self.work.put_two(Item::Eval(condition.clone()?), turn)?;
+                put_eval(&mut self.work, condition)?;
                 Ok(Step::Went)
             }
         }
@@ -128,15 +128,11 @@ impl Run {
     fn again(&mut self, turns: u64, parts: &Rc<Loop>) -> Result<Step, NoMemory>
         ensures { (p : TProgramTree) → IfOk result (λ step. IsRow p (steps.Again turns (loop_of parts.now.value)) (run_state self.old) (run_state self.new) step) }
     {
-        let begin = Item::Begin(turns, parts.clone()?);
+        self.work.put(Item::Begin(turns, parts.clone()?))?;
         match &parts.step {
-            None => {
-                self.work.put(begin)?;
-                Ok(Step::Went)
-            }
+            None => Ok(Step::Went),
             Some(step) => {
-                self.work
-                    .put_three(Item::Eval(step.clone()?), Item::Drop, begin)?;
+                put_effect(&mut self.work, step)?;
                 Ok(Step::Went)
             }
         }
@@ -161,8 +157,7 @@ impl Run {
                 self.values
                     .memory
                     .open_all(program.objects.as_slice(), objects.as_slice())?;
-                let close = Item::Close(objects.clone()?, items.clone()?);
-                self.work.put_two(close, Item::SwitchEnd)?;
+                put_switch_end(&mut self.work, objects, items)?;
                 put_behind(&mut self.work, mark, items)?;
                 Ok(Step::Went)
             }

@@ -16,6 +16,7 @@ ghost use Rattle.c_values.specs.Places.{ObjectMemory, place_of};
 ghost use Rattle.c_work.specs.Views.{loop_of};
 
 use crate::run::Run;
+use crate::shares::{put_effect, put_eval, put_select};
 use crate::step::Step;
 use c_shared::{SharedExpr, SharedInits, SharedStmt, SharedStmts};
 use c_syntax::{Numbers, Object, TProgram};
@@ -89,9 +90,7 @@ impl Run {
             (run_state self.old).stack (run_state self.old).memory (run_state self.old).inputs ≡ Goes (run_state self.new)) }
     {
         match statement {
-            SharedStmt::Expr { value, .. } => {
-                self.work.put_two(Item::Eval(value.clone()?), Item::Drop)
-            }
+            SharedStmt::Expr { value, .. } => put_effect(&mut self.work, value),
             SharedStmt::If {
                 pos,
                 condition,
@@ -104,8 +103,8 @@ impl Run {
                 items,
                 ..
             } => {
-                let select = Item::Select(objects.clone()?, items.clone()?);
-                self.work.put_two(Item::Eval(value.clone()?), select)
+                put_select(&mut self.work, objects, items)?;
+                put_eval(&mut self.work, value)
             }
             SharedStmt::Empty { .. }
             | SharedStmt::Block { .. }
@@ -151,8 +150,8 @@ impl Run {
                 condition,
             } => {
                 let parts = Loop::of_condition(alloc, *pos, condition, body)?;
-                self.work
-                    .put_two(Item::Do(body.clone()?), Item::Again(1, parts))
+                self.work.put(Item::Again(1, parts))?;
+                self.work.put(Item::Do(body.clone()?))
             }
             SharedStmt::For {
                 pos,
@@ -273,7 +272,10 @@ impl Run {
                 self.values.stack.put(Held::Plain(Given::Nothing))?;
                 self.work.put(Item::Leave)
             }
-            Some(value) => self.work.put_two(Item::Eval(value.clone()?), Item::Leave),
+            Some(value) => {
+                self.work.put(Item::Leave)?;
+                put_eval(&mut self.work, value)
+            }
         }
     }
 }

@@ -27,7 +27,7 @@ returns-clause-start c =
     let m = c.in_ok-memory.memory in
     let main = c.args.plan.now.main in
     let entry = Enter None main GivesZero ∷ Finish ∷ [] in
-    let work : work_of c.put_two.new.self ≡ entry = c.in_ok-put_two.ensures ∙ ap (λ w. Enter None main GivesZero ∷ Finish ∷ w) c.new-work.ensures in
+    let work : work_of c.in_ok-work.work ≡ entry = c.in_ok-work.ensures in
     let stack = ap (λ (s : List code.Held). on_top s []) c.new.ensures ∙ on_top_none [] in
     let memory = c.in_ok-memory.ensures.start ∙ ap (λ (os : List Object). statics.start (map object_tree os) c.as_slice-2.result.now) c.as_slice.ensures
     ∙ ap (statics.start (map object_tree c.args.program.now.objects)) c.as_slice-2.ensures in
@@ -39,7 +39,7 @@ returns-clause-made c = λ sound.
     let m = c.in_ok-memory.memory in
     let main = c.args.plan.now.main in
     let entry = Enter None main GivesZero ∷ Finish ∷ [] in
-    let work : work_of c.put_two.new.self ≡ entry = c.in_ok-put_two.ensures ∙ ap (λ w. Enter None main GivesZero ∷ Finish ∷ w) c.new-work.ensures in
+    let work : work_of c.in_ok-work.work ≡ entry = c.in_ok-work.ensures in
     let stack = ap (λ (s : List code.Held). on_top s []) c.new.ensures ∙ on_top_none [] in
     let memory = c.in_ok-memory.ensures.start ∙ ap (λ (os : List Object). statics.start (map object_tree os) c.as_slice-2.result.now) c.as_slice.ensures
     ∙ ap (statics.start (map object_tree c.args.program.now.objects)) c.as_slice-2.ensures in

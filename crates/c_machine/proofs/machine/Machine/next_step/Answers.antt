@@ -14,12 +14,12 @@ use Rattle.c_machine.specs.Steps.{IsRow}
 use Rattle.c_machine.proofs.Reached.{reached_fits, reached_next}
 use Rattle.c_machine.proofs.machine.Machine.next_step.Goals as goal
 
-pub unreachable-requires : goal.unreachable-requires
-unreachable-requires c =
+pub take_next-item-requires : goal.take_next-item-requires
+take_next-item-requires c = λ empty.
     let h = c.requires in
     let run = c.args.self.now.run in
     let p = tprogram_tree c.args.program.now in
-    work_left (subst (λ (w : List steps.Item). Fits p (state w (stack_of run.values) run.values.memory (drop run.read run.inputs))) c.in_default.ensures.0
+    work_left (subst (λ (w : List steps.Item). Fits p (state w (stack_of run.values) run.values.memory (drop run.read run.inputs))) empty
     (reached_fits p h.plan h.typed h.planned h.inputs (state_of c.args.self.now) h.bits h.reached))
 
 pub row-requires-clause-next : goal.row-requires-clause-next
@@ -29,7 +29,7 @@ row-requires-clause-next c =
     let p = tprogram_tree c.args.program.now in
     record {
       typed = h.typed;
-      fits = subst (λ (w : List steps.Item). Fits p (state w (stack_of run.values) run.values.memory (drop run.read run.inputs))) c.in-Some.ensures
+      fits = subst (λ (w : List steps.Item). Fits p (state w (stack_of run.values) run.values.memory (drop run.read run.inputs))) c.take_next-item.ensures
           (reached_fits p h.plan h.typed h.planned h.inputs (state_of c.args.self.now) h.bits h.reached);
     }
 
@@ -38,8 +38,8 @@ returns-in-Went-clause-made c =
     let h = c.requires in
     let run = c.args.self.now.run in
     let p = tprogram_tree c.args.program.now in
-    let rest = state (work_of c.take.new.self) (stack_of run.values) run.values.memory (drop run.read run.inputs) in
-    let went = subst (λ s. IsRow p (item_of c.in-Some.item) rest (run_state c.row.new.self) s) c.in-Went.is c.in_ok-step.ensures in
+    let rest = state (work_of c.take_next-item.new.work) (stack_of run.values) run.values.memory (drop run.read run.inputs) in
+    let went = subst (λ s. IsRow p (item_of c.take_next-item.result) rest (run_state c.row.new.self) s) c.in-Went.is c.in_ok-step.ensures in
     record {
       plan = h.plan;
       inputs = h.inputs;
@@ -47,6 +47,6 @@ returns-in-Went-clause-made c =
       planned = h.planned;
       bits = h.bits;
       reached = reached_next p h.plan.main h.inputs (state_of c.args.self.now) (run_state c.row.new.self) h.reached
-          (ap (λ w. work_step p w (stack_of run.values) run.values.memory (drop run.read run.inputs)) c.in-Some.ensures ∙ went);
+          (ap (λ w. work_step p w (stack_of run.values) run.values.memory (drop run.read run.inputs)) c.take_next-item.ensures ∙ went);
       functions = h.functions;
     }
