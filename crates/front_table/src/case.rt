@@ -22,9 +22,18 @@ impl Case {
     /// The next line of the case, the first of which is its word.
     pub fn push(&mut self, alloc: Global, line: &[u8]) -> Result<(), AllocError> {
         if self.word.is_none() {
-            self.word = Some(line.to_vec(alloc)?);
-            return Ok(());
+            self.begin(alloc, line)
+        } else {
+            self.add(line)
         }
+    }
+
+    fn begin(&mut self, alloc: Global, word: &[u8]) -> Result<(), AllocError> {
+        self.word = Some(word.to_vec(alloc)?);
+        Ok(())
+    }
+
+    fn add(&mut self, line: &[u8]) -> Result<(), AllocError> {
         if self.lines > 0 {
             self.text.push(b'\n')?;
         }

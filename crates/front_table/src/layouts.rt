@@ -12,13 +12,12 @@ use std::mem;
 use std::rc::Rc;
 
 /// What is answered to the lines of a case, joined by `; `.
-pub fn line(alloc: Global, text: &str) -> Result<String, AllocError> {
+pub fn line(alloc: Global, text: &str, told: &mut String) -> Written {
     let mut structs = StructDefs::new(alloc);
-    let mut told = String::new(alloc);
     for question in text.lines() {
-        answer(alloc, &mut structs, question, &mut told)?;
+        answer(alloc, &mut structs, question, told)?;
     }
-    Ok(told)
+    Ok(())
 }
 
 // Adds what is answered to a line.
@@ -79,15 +78,26 @@ impl Making {
         told: &mut String,
     ) -> Result<bool, AllocError> {
         for words in members.split(',').filter(|words| !words.is_empty()) {
-            match type_of(alloc, words)? {
-                Some(ty) => {
-                    let offset = self.push(alloc, ty, structs)?;
-                    told.push(' ')?;
-                    number(told, u128::from(offset))?;
-                }
-                None => return Ok(false),
+            if !self.take_member(alloc, words, structs, told)? {
+                return Ok(false);
             }
         }
+        Ok(true)
+    }
+
+    fn take_member(
+        &mut self,
+        alloc: Global,
+        words: &str,
+        structs: &StructDefs,
+        told: &mut String,
+    ) -> Result<bool, AllocError> {
+        let Some(ty) = type_of(alloc, words)? else {
+            return Ok(false);
+        };
+        let offset = self.push(alloc, ty, structs)?;
+        told.push(' ')?;
+        number(told, u128::from(offset))?;
         Ok(true)
     }
 
@@ -250,10 +260,14 @@ fn around(
     match (word, number) {
         ("array", Some(n)) => Ok(CType::Array(target(alloc, inner)?, n)),
         ("pointer", _) => Ok(CType::Pointer(target(alloc, inner)?)),
-        _ => match integer(word) {
-            Some(ty) => Ok(CType::Int(ty)),
-            None => Ok(inner),
-        },
+        _ => Ok(integer_or(word, inner)),
+    }
+}
+
+fn integer_or(word: &str, ty: CType) -> CType {
+    match integer(word) {
+        Some(found) => CType::Int(found),
+        None => ty,
     }
 }
 

@@ -25,39 +25,58 @@ mod trees;
 mod types;
 
 use case::Case;
-use std::alloc::{AllocError, Global};
+use std::alloc::Global;
 use std::io::{self, Read};
+use text::Written;
 
 fn main(rt: HostRuntime) -> io::Result<()> {
-    let alloc = rt.alloc();
-    let mut text = Vec::new(alloc);
+    let mut text = Vec::new(rt.alloc());
     rt.stdin().read_to_end(&mut text)?;
-    let mut case = Case::new(alloc);
+    tell_cases(&rt, text.as_slice())
+}
+
+fn tell_cases(rt: &HostRuntime, text: &[u8]) -> io::Result<()> {
+    let mut case = Case::new(rt.alloc());
     for line in text.split(|byte| *byte == b'\n') {
-        if line == b"====".as_slice() {
-            let told = answer(alloc, &case)?;
-            println!(rt; "{told}")?;
-            case = Case::new(alloc);
-        } else {
-            case.push(alloc, line)?;
-        }
+        take_line(rt, &mut case, line)?;
     }
     Ok(())
 }
 
-// What is printed of a case.
-fn answer(alloc: Global, case: &Case) -> Result<String, AllocError> {
+// One more line: the end of the case, or a line of it.
+fn take_line(rt: &HostRuntime, case: &mut Case, line: &[u8]) -> io::Result<()> {
+    if line == b"====".as_slice() {
+        tell(rt, case)?;
+        *case = Case::new(rt.alloc());
+    } else {
+        case.push(rt.alloc(), line)?;
+    }
+    Ok(())
+}
+
+fn tell(rt: &HostRuntime, case: &Case) -> io::Result<()> {
+    let mut told = String::new(rt.alloc());
+    answer(rt.alloc(), case, &mut told)?;
+    println!(rt; "{told}")
+}
+
+// Writes what is printed of a case.
+fn answer(alloc: Global, case: &Case, out: &mut String) -> Written {
     let text = case.text();
     match case.word() {
-        b"lex" => tokens::line(alloc, text),
-        b"parse" => trees::line(alloc, text),
-        b"accepts" => trees::verdict(alloc, text),
-        b"layout" => match str::from_utf8(text) {
-            Ok(lines) => layouts::line(alloc, lines),
-            Err(_) => String::from_str(alloc, "no text"),
-        },
-        b"fronts" => trees::fronts(alloc, text),
-        b"alarms" => forms::line(alloc, text),
-        _ => String::from_str(alloc, "no such word"),
+        b"lex" => tokens::line(alloc, text, out),
+        b"parse" => trees::line(alloc, text, out),
+        b"accepts" => trees::verdict(alloc, text, out),
+        b"layout" => layout_lines(alloc, text, out),
+        b"fronts" => trees::fronts(alloc, text, out),
+        b"alarms" => forms::line(alloc, text, out),
+        _ => out.push_str("no such word"),
+    }
+}
+
+fn layout_lines(alloc: Global, text: &[u8], out: &mut String) -> Written {
+    match str::from_utf8(text) {
+        Ok(lines) => layouts::line(alloc, lines, out),
+        Err(_) => out.push_str("no text"),
     }
 }

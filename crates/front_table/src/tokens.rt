@@ -15,14 +15,8 @@ pub fn cut(alloc: Global, text: &[u8]) -> Result<Tokens, LexError> {
     lex(alloc, 0, text)
 }
 
-/// The line of a refusal, as `TooWide 1:4`.
-pub fn refused(alloc: Global, error: LexError) -> Result<String, AllocError> {
-    let mut line = String::new(alloc);
-    refusal_words(&mut line, error)?;
-    Ok(line)
-}
-
-fn refusal_words(out: &mut String, error: LexError) -> Written {
+/// A refusal, as `TooWide 1:4`.
+pub fn refused(out: &mut String, error: LexError) -> Written {
     match error {
         LexError::BadByte(pos) => refusal(out, "BadByte", pos),
         LexError::Unterminated(pos) => refusal(out, "Unterminated", pos),
@@ -35,20 +29,18 @@ fn refusal_words(out: &mut String, error: LexError) -> Written {
 }
 
 /// The kinds and places of the tokens and the place of the end, or the refusal.
-pub fn line(alloc: Global, text: &[u8]) -> Result<String, AllocError> {
+pub fn line(alloc: Global, text: &[u8], out: &mut String) -> Written {
     match cut(alloc, text) {
-        Ok(tokens) => tokens_line(alloc, &tokens),
-        Err(error) => refused(alloc, error),
+        Ok(tokens) => tokens_line(out, &tokens),
+        Err(error) => refused(out, error),
     }
 }
 
-fn tokens_line(alloc: Global, tokens: &Tokens) -> Result<String, AllocError> {
-    let mut line = String::new(alloc);
+fn tokens_line(out: &mut String, tokens: &Tokens) -> Written {
     for placed in tokens.list.as_slice() {
-        token(&mut line, placed)?;
+        token(out, placed)?;
     }
-    place(&mut line, tokens.end)?;
-    Ok(line)
+    place(out, tokens.end)
 }
 
 fn token(out: &mut String, placed: &Placed) -> Written {

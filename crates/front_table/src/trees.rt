@@ -5,10 +5,11 @@ use crate::text::{Written, number, refusal, shown};
 use crate::tokens::{self, cut};
 use c_lexer::LexError;
 use c_parser::{ParseError, parse};
-use c_written::{Construct, File, Pos};
+use c_written::{Construct, File, Pos, Tokens};
 use std::alloc::{AllocError, Global};
 
 /// What a text is.
+#[derive(Drop)]
 pub enum Reading {
     Tree(File),
     Uncut(LexError),
@@ -19,21 +20,19 @@ pub enum Reading {
 pub fn read(alloc: Global, text: &[u8]) -> Reading {
     match cut(alloc, text) {
         Err(error) => Reading::Uncut(error),
-        Ok(tokens) => match parse(alloc, &tokens) {
-            Ok(file) => Reading::Tree(file),
-            Err(error) => Reading::Refused(error),
-        },
+        Ok(tokens) => parsed(alloc, &tokens),
     }
 }
 
-/// The line of a refusal by the parser, as `syntax 1:4`.
-pub fn refused(alloc: Global, error: ParseError) -> Result<String, AllocError> {
-    let mut line = String::new(alloc);
-    refusal_words(&mut line, error)?;
-    Ok(line)
+fn parsed(alloc: Global, tokens: &Tokens) -> Reading {
+    match parse(alloc, tokens) {
+        Ok(file) => Reading::Tree(file),
+        Err(error) => Reading::Refused(error),
+    }
 }
 
-fn refusal_words(out: &mut String, error: ParseError) -> Written {
+/// A refusal by the parser, as `syntax 1:4`.
+pub fn refused(out: &mut String, error: ParseError) -> Written {
     match error {
         ParseError::Syntax(pos) => refusal(out, "syntax", pos),
         ParseError::TooDeep(pos) => refusal(out, "nesting", pos),
@@ -49,36 +48,40 @@ fn unsupported(out: &mut String, construct: Construct, pos: Pos) -> Written {
 }
 
 /// The tree in the short notation, or the refusal.
-pub fn line(alloc: Global, text: &[u8]) -> Result<String, AllocError> {
-    match read(alloc, text) {
-        Reading::Uncut(error) => tokens::refused(alloc, error),
-        Reading::Refused(error) => refused(alloc, error),
-        Reading::Tree(file) => tree_line(alloc, &file),
+pub fn line(alloc: Global, text: &[u8], out: &mut String) -> Written {
+    let reading = read(alloc, text);
+    tree_line(out, &reading)
+}
+
+fn tree_line(out: &mut String, reading: &Reading) -> Written {
+    match reading {
+        Reading::Uncut(error) => tokens::refused(out, *error),
+        Reading::Refused(error) => refused(out, *error),
+        Reading::Tree(file) => stmts::file(out, file),
     }
 }
 
-fn tree_line(alloc: Global, file: &File) -> Result<String, AllocError> {
-    let mut line = String::new(alloc);
-    stmts::file(&mut line, file)?;
-    Ok(line)
+/// Whether the text is a file, or the refusal.
+pub fn verdict(alloc: Global, text: &[u8], out: &mut String) -> Written {
+    let reading = read(alloc, text);
+    verdict_line(out, &reading)
 }
 
-/// Whether the text is a file, or the refusal.
-pub fn verdict(alloc: Global, text: &[u8]) -> Result<String, AllocError> {
-    match read(alloc, text) {
-        Reading::Uncut(error) => tokens::refused(alloc, error),
-        Reading::Refused(error) => refused(alloc, error),
-        Reading::Tree(_) => String::from_str(alloc, "a file"),
+fn verdict_line(out: &mut String, reading: &Reading) -> Written {
+    match reading {
+        Reading::Uncut(error) => tokens::refused(out, *error),
+        Reading::Refused(error) => refused(out, *error),
+        Reading::Tree(_) => out.push_str("a file"),
     }
 }
 
 /// The lengths of the fronts that are files.
-pub fn fronts(alloc: Global, text: &[u8]) -> Result<String, AllocError> {
-    let mut line = String::from_str(alloc, "files:")?;
+pub fn fronts(alloc: Global, text: &[u8], out: &mut String) -> Written {
+    out.push_str("files:")?;
     for length in 0..text.len() {
-        front(alloc, &text[..length], &mut line)?;
+        front(alloc, &text[..length], out)?;
     }
-    Ok(line)
+    Ok(())
 }
 
 // Adds the length of a front that is a file.
@@ -91,7 +94,12 @@ fn front(alloc: Global, text: &[u8], out: &mut String) -> Written {
 }
 
 fn is_file(alloc: Global, text: &[u8]) -> Result<bool, AllocError> {
-    match read(alloc, text) {
+    let reading = read(alloc, text);
+    is_tree(&reading)
+}
+
+fn is_tree(reading: &Reading) -> Result<bool, AllocError> {
+    match reading {
         Reading::Tree(_) => Ok(true),
         Reading::Uncut(LexError::NoMemory) | Reading::Refused(ParseError::NoMemory) => {
             Err(AllocError)
