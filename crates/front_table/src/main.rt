@@ -10,13 +10,11 @@
 //! | `layout` | what each line of the text is answered, joined by `; `: `struct char, int` adds a struct and tells its offsets, `size array 3 struct 0` its
 //! size and alignment, and `promote`, `balance`, `wrap` and `literal` what these calls answer |
 //! | `fronts` | the lengths of the fronts of the text that are files |
-//! | `alarms` | what may go wrong, as `Overflow 1:36 2147483648`, or `no alarm`, or `not built`, or the refusal |
 #![tactic(auto)]
 
 mod case;
 mod decls;
 mod exprs;
-mod forms;
 mod layouts;
 mod stmts;
 mod text;
@@ -69,7 +67,6 @@ fn answer(alloc: Global, case: &Case, out: &mut String) -> Written {
         b"accepts" => trees::verdict(alloc, text, out),
         b"layout" => layout_lines(alloc, text, out),
         b"fronts" => trees::fronts(alloc, text, out),
-        b"alarms" => forms::line(alloc, text, out),
         _ => out.push_str("no such word"),
     }
 }

@@ -1,7 +1,7 @@
 // Types by their letters, and the structs that they name.
 #![tactic(auto)]
 
-use crate::rows::Fault;
+use crate::typing::rows::Fault;
 use c_syntax::{CType, IntType, Member, Members, Name, Target};
 use c_type_names::Structs;
 use std::alloc::{AllocError, Global};

@@ -1,8 +1,8 @@
 // What a row comes to, as a line.
 #![tactic(auto)]
 
-use crate::rows::Fault;
-use crate::spelled;
+use crate::typing::rows::Fault;
+use crate::typing::spelled;
 use c_syntax::{CType, IntType, Pos};
 use c_type_names::{Form, TypeError};
 use c_type_operators::Operand;

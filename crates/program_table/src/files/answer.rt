@@ -1,8 +1,8 @@
-// What a row is answered, as a line.
+// What is told of a file, as a line.
 #![tactic(auto)]
 
-use crate::programs::Fault;
-use c_syntax::{Objects, Plan, Pos};
+use crate::files::Fault;
+use c_syntax::{Alarm, Example, Objects, Plan, Pos};
 use rule_text::{rule_pos, rule_text};
 use std::alloc::{AllocError, Global};
 use type_text::{refusal_pos, refusal_text};
@@ -29,7 +29,32 @@ pub fn order(alloc: Global, plan: &Plan) -> Result<String, AllocError> {
     Ok(line)
 }
 
-/// Why there is none.
+/// What may go wrong, each with its place and the number that fails.
+pub fn alarms(alloc: Global, alarms: &[Alarm]) -> Result<String, AllocError> {
+    if alarms.is_empty() {
+        return String::from_str(alloc, "no alarm");
+    }
+    let mut line = String::new(alloc);
+    let mut between = "";
+    for told in alarms {
+        line.push_str(between)?;
+        line.push_str(alarm(alloc, told)?.as_str())?;
+        between = "; ";
+    }
+    Ok(line)
+}
+
+fn alarm(alloc: Global, alarm: &Alarm) -> Result<String, AllocError> {
+    let kind = alarm.kind;
+    let line = alarm.pos.line;
+    let col = alarm.pos.col;
+    match &alarm.example {
+        Example::Number(n) => format!(in alloc; "{kind:?} {line}:{col} {n}"),
+        _ => format!(in alloc; "{kind:?} {line}:{col} no number"),
+    }
+}
+
+/// Why there is nothing to tell.
 pub fn fault(alloc: Global, fault: &Fault) -> Result<String, AllocError> {
     match fault {
         Fault::NoFile => String::from_str(alloc, "no file"),

@@ -1,9 +1,9 @@
 // What is asked of types.
 #![tactic(auto)]
 
-use crate::answer;
-use crate::letters::{form_of, structs};
-use crate::rows::{AT, Fault};
+use crate::typing::answer;
+use crate::typing::letters::{form_of, structs};
+use crate::typing::rows::{AT, Fault};
 use c_syntax::{CType, Name};
 use c_type_declarators::{DeclaredName, Shape, SpecPart, type_name, typedef_named};
 use c_type_names::{Form, Meaning, World};

@@ -1,8 +1,8 @@
 // Calls of a name, with what a word says that it stands for.
 #![tactic(auto)]
 
-use crate::letters::{form_of, structs};
-use crate::rows::{AT, Fault, Stack};
+use crate::typing::letters::{form_of, structs};
+use crate::typing::rows::{AT, Fault, Stack};
 use c_syntax::{CType, Name, Numbers, Object, TFunction};
 use c_type_calls::called;
 use c_type_names::{Form, Meaning, World};

@@ -1,9 +1,9 @@
 // The operand that the words of a row make.
 #![tactic(auto)]
 
-use crate::answer;
-use crate::letters::{form_of, structs};
-use crate::nodes::node;
+use crate::typing::answer;
+use crate::typing::letters::{form_of, structs};
+use crate::typing::nodes::node;
 use c_syntax::{CType, IntType, Pos, TExpr, TExprs, TLvalue};
 use c_type_names::{Structs, TypeError};
 use c_type_operators::{Operand, value_of};

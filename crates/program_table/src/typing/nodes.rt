@@ -1,10 +1,10 @@
 // Words that make a node of the operands before them.
 #![tactic(auto)]
 
-use crate::calls::call;
-use crate::letters::form_of;
-use crate::rows::{AT, Fault, Stack};
-use crate::spelled;
+use crate::typing::calls::call;
+use crate::typing::letters::form_of;
+use crate::typing::rows::{AT, Fault, Stack};
+use crate::typing::spelled;
 use c_syntax::{CType, IntType, StepTime, StepWay, TExprs};
 use c_type_calls::{input_read, told};
 use c_type_names::World;

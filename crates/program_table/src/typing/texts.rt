@@ -1,11 +1,10 @@
 // What a text of C says at last: declarators, and expressions in the bodies of functions.
 #![tactic(auto)]
 
-use crate::answer;
-use crate::declared::{declare, told};
-use crate::rows::Fault;
-use c_lexer::{LexError, lex};
-use c_parser::{ParseError, parse};
+use crate::files::file;
+use crate::typing::answer;
+use crate::typing::declared::{declare, told};
+use crate::typing::rows::Fault;
 use c_syntax::{BlockItem, BlockItems, Decl, Declarator, Expr, File, Outer, Pos, Specs, Stmt};
 use c_type_declarators::copy_form;
 use c_type_exprs::{declarator, operand};
@@ -14,13 +13,12 @@ use c_type_nodes::{Address, static_address, static_place};
 use c_type_operators::{Operand, constant_value};
 use std::alloc::{AllocError, Global};
 
-/// The most bytes of a text that is cut into tokens.
-const MOST: usize = 4_194_304;
-
 /// The type of the last declarator of a text or of its last expression, with what this is as a constant.
 pub fn line(alloc: Global, text: &str) -> Result<String, Fault> {
-    let file = tree(alloc, text.as_bytes())?;
-    read(alloc, &file)
+    match file(alloc, text.as_bytes())? {
+        Some(file) => read(alloc, &file),
+        None => Err(Fault::NoRow),
+    }
 }
 
 fn read(alloc: Global, file: &File) -> Result<String, Fault> {
@@ -58,22 +56,6 @@ fn function(world: &mut World, pos: Pos, specs: &Specs, written: &Declarator) ->
     let shape = declarator(world, written)?;
     declare(world, false, form, shape)?;
     Ok(())
-}
-
-fn tree(alloc: Global, text: &[u8]) -> Result<File, Fault> {
-    if text.len() > MOST {
-        return Err(Fault::NoRow);
-    }
-    let tokens = match lex(alloc, 0, text) {
-        Ok(tokens) => tokens,
-        Err(LexError::NoMemory) => return Err(Fault::NoMemory),
-        Err(_) => return Err(Fault::NoRow),
-    };
-    match parse(alloc, &tokens) {
-        Ok(file) => Ok(file),
-        Err(ParseError::NoMemory) => Err(Fault::NoMemory),
-        Err(_) => Err(Fault::NoRow),
-    }
 }
 
 fn declaration(world: &mut World, decl: &Decl) -> Result<String, Fault> {

@@ -1,8 +1,8 @@
 // Declarations of the file, each of a new name.
 #![tactic(auto)]
 
-use crate::answer;
-use crate::rows::Fault;
+use crate::typing::answer;
+use crate::typing::rows::Fault;
 use c_syntax::{CType, Numbers, Object, Pos, Specs, StorageWord, TFunction};
 use c_type_calls::refused_by;
 use c_type_declarators::{DeclaredName, Shape, SpecPlace, laid, size_or_refused, type_told};
