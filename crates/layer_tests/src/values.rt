@@ -1,4 +1,4 @@
-// The tables of operators are those of the program `values_table`.
+// The tables of operators are those of the program `state_table`.
 use block_mem::{Scalar, Value};
 use c_syntax::{CType, IntType};
 use c_values::*;

@@ -5,9 +5,6 @@
 //! `verac analyze a.c` on `int main(void) { return 1 / 0; }` writes one alarm, `DivideByZero`, and ends with status 1.
 #![tactic(auto)]
 
-#[cfg(test)]
-mod tests;
-
 use headline::{Status, run};
 use outside_io::{HostFiles, HostOut};
 use std::process::ExitCode;

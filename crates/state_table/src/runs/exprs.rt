@@ -1,7 +1,8 @@
 // Expressions.
 #![tactic(auto)]
 
-use crate::rows::{Fault, Stacks};
+use super::rows::{Fault, Stacks};
+use crate::common;
 use c_syntax::{Arithmetic, Comparison, IntType, Shift, TBinaryOp, TUnaryOp};
 use csharp::CsExpr;
 
@@ -87,15 +88,8 @@ fn binary(word: &str) -> Option<TBinaryOp> {
 
 /// An integer type, from its word.
 pub fn integer(word: &str) -> Result<IntType, Fault> {
-    match word {
-        "char" => Ok(IntType::Char),
-        "uchar" => Ok(IntType::UChar),
-        "short" => Ok(IntType::Short),
-        "ushort" => Ok(IntType::UShort),
-        "int" => Ok(IntType::Int),
-        "uint" => Ok(IntType::UInt),
-        "long" => Ok(IntType::Long),
-        "ulong" => Ok(IntType::ULong),
-        _ => Err(Fault::NoRow),
+    match common::integer(word) {
+        Some(ty) => Ok(ty),
+        None => Err(Fault::NoRow),
     }
 }

@@ -6,15 +6,28 @@ use headline::{Status, run};
 use outside_io::{MemFiles, MemSink};
 use std::alloc::{AllocError, Global};
 use std::process::Abort;
-use std::test::Fail;
 
 const OVERFLOW: &str = "int main(void) { return 2147483647 + 1; }";
 
 const OVERFLOW_TEXT: &str =
     "a.c:1:36: Overflow in main\n  shown: value in [2147483648,2147483648]; allowed [-2147483648,2147483647]\n  example: 2147483648\nalarms 1\n";
 
+// Files that are refused before they are typed, or that are of no form that is built, each with its line.
+static REFUSED: [(&str, &str); 4] = [
+    (
+        "int main(void){/*",
+        "a.c:1:16: refused: unterminated comment or literal\n",
+    ),
+    ("int main(void){return 1 2;}", "a.c:1:25: refused: syntax\n"),
+    ("float x;", "a.c:1:1: refused: unsupported Floating\n"),
+    (
+        "int x;int main(void){return 0;}",
+        "a.c: refused: not built yet\n",
+    ),
+];
+
 // Files that have no types, each with its line.
-const UNTYPED: [(&str, &str); 10] = [
+static UNTYPED: [(&str, &str); 10] = [
     (
         "int main(void){struct S{int k;}s;return s+1;}",
         "a.c:1:42: refused: no rule for + on struct S and int\n",
@@ -55,7 +68,7 @@ const UNTYPED: [(&str, &str); 10] = [
 ];
 
 // Files that the rules do not admit, and some that they do but that are of no form that is built, each with its line.
-const RULED: [(&str, &str); 10] = [
+static RULED: [(&str, &str); 10] = [
     ("", "a.c: refused: no main\n"),
     (
         "int f(void);int main(void){return f();}",
@@ -114,6 +127,42 @@ fn failing(alloc: Global, calls: &[u64]) -> Result<Numbers, AllocError> {
     Ok(Numbers::from_vec(calls.to_vec(alloc)?))
 }
 
+// Files that hold these bytes under this name, and whose listed calls fail.
+fn files_of(
+    alloc: Global,
+    name: &str,
+    bytes: &[u8],
+    calls: &[u64],
+) -> Result<MemFiles, AllocError> {
+    let mut files = MemFiles::new(alloc, failing(alloc, calls)?);
+    files.add(name, bytes)?;
+    Ok(files)
+}
+
+// A sink of this room, whose listed calls fail.
+fn sink_of(alloc: Global, room: usize, calls: &[u64]) -> Result<MemSink, AllocError> {
+    MemSink::new(alloc, room, failing(alloc, calls)?)
+}
+
+// How a run of these words ends.
+fn status_of(
+    alloc: Global,
+    words: &[&str],
+    files: &mut MemFiles,
+    out: &mut MemSink,
+) -> Result<Status, AllocError> {
+    let words = words_of(alloc, words)?;
+    Ok(run(alloc, &words, files, out))
+}
+
+static COMMAND: [&str; 3] = ["verac", "analyze", "a.c"];
+
+fn answer_of(alloc: Global, files: &mut MemFiles, out: &mut MemSink) -> Result<Answer, AllocError> {
+    let status = status_of(alloc, &COMMAND, files, out)?;
+    let text = out.bytes().to_vec(alloc)?;
+    Ok(Answer { status, text })
+}
+
 // A run over the file a.c with these bytes, whose listed calls fail, and a sink of this room.
 fn run_on(
     alloc: Global,
@@ -122,13 +171,9 @@ fn run_on(
     room: usize,
     sink_calls: &[u64],
 ) -> Result<Answer, AllocError> {
-    let mut files = MemFiles::new(alloc, failing(alloc, file_calls)?);
-    files.add("a.c", bytes)?;
-    let mut out = MemSink::new(alloc, room, failing(alloc, sink_calls)?)?;
-    let words = words_of(alloc, &["verac", "analyze", "a.c"])?;
-    let status = run(alloc, &words, &mut files, &mut out);
-    let text = out.bytes().to_vec(alloc)?;
-    Ok(Answer { status, text })
+    let mut files = files_of(alloc, "a.c", bytes, file_calls)?;
+    let mut out = sink_of(alloc, room, sink_calls)?;
+    answer_of(alloc, &mut files, &mut out)
 }
 
 // The run over these bytes has this answer.
@@ -140,13 +185,17 @@ fn tell(
     written: &str,
 ) -> Result<(), AllocError> {
     let answer = run_on(alloc, text, &[], 1000, &[])?;
-    assert_eq!(rt; answer.status, status, "{written}");
-    assert_eq!(rt; answer.text.as_slice(), written.as_bytes(), "{written}");
+    is_told(rt, &answer, status, written);
     Ok(())
 }
 
+fn is_told(rt: &impl Abort, answer: &Answer, status: Status, written: &str) {
+    assert_eq!(rt; answer.status, status, "{written}");
+    assert_eq!(rt; answer.text.as_slice(), written.as_bytes(), "{written}");
+}
+
 #[test]
-fn reports(rt: HostRuntime) -> Result<(), Fail> {
+fn reports(rt: HostRuntime) -> Result<(), AllocError> {
     let alloc = rt.alloc();
     tell(
         &rt,
@@ -170,126 +219,160 @@ fn reports(rt: HostRuntime) -> Result<(), Fail> {
         b"int main(void){return 1/0;}",
         Status::Alarms,
         text,
-    )?;
-    Ok(())
+    )
 }
 
 #[test]
-fn refusals(rt: HostRuntime) -> Result<(), Fail> {
-    let rows = [
-        (
-            "int main(void){/*",
-            "a.c:1:16: refused: unterminated comment or literal\n",
-        ),
-        ("int main(void){return 1 2;}", "a.c:1:25: refused: syntax\n"),
-        ("float x;", "a.c:1:1: refused: unsupported Floating\n"),
-        (
-            "int x;int main(void){return 0;}",
-            "a.c: refused: not built yet\n",
-        ),
-    ];
-    for (text, written) in rows {
+fn refusals(rt: HostRuntime) -> Result<(), AllocError> {
+    for (text, written) in &REFUSED {
         tell(&rt, rt.alloc(), text.as_bytes(), Status::Refused, written)?;
     }
     Ok(())
 }
 
 #[test]
-fn typing_refusals(rt: HostRuntime) -> Result<(), Fail> {
-    for (text, written) in UNTYPED {
+fn typing_refusals(rt: HostRuntime) -> Result<(), AllocError> {
+    for (text, written) in &UNTYPED {
         tell(&rt, rt.alloc(), text.as_bytes(), Status::Refused, written)?;
     }
     Ok(())
 }
 
 #[test]
-fn rule_refusals(rt: HostRuntime) -> Result<(), Fail> {
-    for (text, written) in RULED {
+fn rule_refusals(rt: HostRuntime) -> Result<(), AllocError> {
+    for (text, written) in &RULED {
         tell(&rt, rt.alloc(), text.as_bytes(), Status::Refused, written)?;
     }
     Ok(())
 }
 
 #[test]
-fn large_and_deep_files(rt: HostRuntime) -> Result<(), Fail> {
-    let alloc = rt.alloc();
+fn large_and_deep_files(rt: HostRuntime) -> Result<(), AllocError> {
+    large_file(&rt, rt.alloc())?;
+    deep_file(&rt, rt.alloc())
+}
+
+fn large_file(rt: &impl Abort, alloc: Global) -> Result<(), AllocError> {
     let spaces = vec![in alloc; b' '; 4_194_305]?;
     let text = "a.c: refused: more than 4194304 bytes\n";
-    tell(&rt, alloc, &spaces, Status::Refused, text)?;
-    // The brace of the body is one unfinished form.
+    tell(rt, alloc, &spaces, Status::Refused, text)
+}
+
+fn deep_file(rt: &impl Abort, alloc: Global) -> Result<(), AllocError> {
+    let deep = deep_text(alloc)?;
+    let text = "a.c:1:222: refused: nesting above 200\n";
+    tell(rt, alloc, &deep, Status::Refused, text)
+}
+
+// The brace of the body is one unfinished form.
+fn deep_text(alloc: Global) -> Result<Vec<u8>, AllocError> {
     let mut deep = b"int main(void){return ".to_vec(alloc)?;
     let parentheses = vec![in alloc; b'('; 200]?;
     deep.extend_from_slice(&parentheses)?;
-    let text = "a.c:1:222: refused: nesting above 200\n";
-    tell(&rt, alloc, &deep, Status::Refused, text)?;
-    Ok(())
+    Ok(deep)
+}
+
+fn has_written(rt: &impl Abort, answer: &Answer, status: Status, text: &[u8]) {
+    assert_eq!(rt; answer.status, status);
+    assert_eq!(rt; answer.text.as_slice(), text);
+}
+
+fn has_written_nothing(rt: &impl Abort, answer: &Answer, status: Status) {
+    assert_eq!(rt; answer.status, status);
+    assert!(rt; answer.text.is_empty());
 }
 
 // The first call of the files begins the file, and the second and the third read it.
 #[test]
-fn read_faults(rt: HostRuntime) -> Result<(), Fail> {
-    let alloc = rt.alloc();
+fn read_faults(rt: HostRuntime) -> Result<(), AllocError> {
     for call in 1..4 {
-        let answer = run_on(alloc, OVERFLOW.as_bytes(), &[call], 1000, &[])?;
-        assert_eq!(rt; answer.status, Status::ReadFault);
-        assert!(rt; answer.text.is_empty());
+        let answer = run_on(rt.alloc(), OVERFLOW.as_bytes(), &[call], 1000, &[])?;
+        has_written_nothing(&rt, &answer, Status::ReadFault);
     }
     Ok(())
 }
 
 #[test]
-fn sink_faults(rt: HostRuntime) -> Result<(), Fail> {
-    let alloc = rt.alloc();
-    let answer = run_on(alloc, OVERFLOW.as_bytes(), &[], 1000, &[1])?;
-    assert_eq!(rt; answer.status, Status::WriteFault);
-    assert!(rt; answer.text.is_empty());
+fn sink_faults(rt: HostRuntime) -> Result<(), AllocError> {
+    first_write_fails(&rt, rt.alloc())?;
     let whole = OVERFLOW_TEXT.as_bytes();
     for room in 0..=whole.len() {
-        let answer = run_on(alloc, OVERFLOW.as_bytes(), &[], room, &[])?;
+        let answer = run_on(rt.alloc(), OVERFLOW.as_bytes(), &[], room, &[])?;
         let status = if room < whole.len() {
             Status::WriteFault
         } else {
             Status::Alarms
         };
-        assert_eq!(rt; answer.status, status);
-        assert_eq!(rt; answer.text.as_slice(), &whole[..room]);
+        has_written(&rt, &answer, status, &whole[..room]);
     }
+    Ok(())
+}
+
+fn first_write_fails(rt: &impl Abort, alloc: Global) -> Result<(), AllocError> {
+    let answer = run_on(alloc, OVERFLOW.as_bytes(), &[], 1000, &[1])?;
+    has_written_nothing(rt, &answer, Status::WriteFault);
     Ok(())
 }
 
 // A run that cannot read makes no call of the sink, so that the next run's write is the first.
 #[test]
-fn read_fault_leaves_the_sink(rt: HostRuntime) -> Result<(), Fail> {
-    let alloc = rt.alloc();
-    let mut files = MemFiles::new(alloc, failing(alloc, &[1])?);
-    files.add("a.c", OVERFLOW.as_bytes())?;
-    let mut out = MemSink::new(alloc, 1000, failing(alloc, &[2])?)?;
-    let words = words_of(alloc, &["verac", "analyze", "a.c"])?;
-    let status = run(alloc, &words, &mut files, &mut out);
+fn read_fault_leaves_the_sink(rt: HostRuntime) -> Result<(), AllocError> {
+    let mut files = files_of(rt.alloc(), "a.c", OVERFLOW.as_bytes(), &[1])?;
+    let mut out = sink_of(rt.alloc(), 1000, &[2])?;
+    leaves_the_sink(&rt, rt.alloc(), &mut files, &mut out)
+}
+
+fn leaves_the_sink(
+    rt: &impl Abort,
+    alloc: Global,
+    files: &mut MemFiles,
+    out: &mut MemSink,
+) -> Result<(), AllocError> {
+    let status = status_of(alloc, &COMMAND, files, out)?;
     assert_eq!(rt; status, Status::ReadFault);
-    assert_eq!(rt; run(alloc, &words, &mut files, &mut out), Status::Alarms);
+    let status = status_of(alloc, &COMMAND, files, out)?;
+    assert_eq!(rt; status, Status::Alarms);
     Ok(())
 }
 
+static NO_COMMAND: [&str; 3] = ["verac", "analyze", "-x"];
+
 // The first call of these files and of this sink fails, so an opened file or a written byte would show.
 #[test]
-fn words_that_are_no_command(rt: HostRuntime) -> Result<(), Fail> {
-    let alloc = rt.alloc();
-    let mut files = MemFiles::new(alloc, failing(alloc, &[1])?);
-    let mut out = MemSink::new(alloc, 1000, failing(alloc, &[1])?)?;
-    let words = words_of(alloc, &["verac", "analyze", "-x"])?;
-    assert_eq!(rt; run(alloc, &words, &mut files, &mut out), Status::Usage);
+fn words_that_are_no_command(rt: HostRuntime) -> Result<(), AllocError> {
+    let mut files = MemFiles::new(rt.alloc(), failing(rt.alloc(), &[1])?);
+    let mut out = sink_of(rt.alloc(), 1000, &[1])?;
+    touches_nothing(&rt, rt.alloc(), &mut files, &mut out)
+}
+
+fn touches_nothing(
+    rt: &impl Abort,
+    alloc: Global,
+    files: &mut MemFiles,
+    out: &mut MemSink,
+) -> Result<(), AllocError> {
+    let status = status_of(alloc, &NO_COMMAND, files, out)?;
+    assert_eq!(rt; status, Status::Usage);
     assert!(rt; out.bytes().is_empty());
     Ok(())
 }
 
+static OF_A_DASH: [&str; 3] = ["v", "analyze", "-"];
+
 #[test]
-fn a_file_named_by_a_dash(rt: HostRuntime) -> Result<(), Fail> {
-    let alloc = rt.alloc();
-    let mut files = MemFiles::new(alloc, failing(alloc, &[])?);
-    files.add("-", OVERFLOW.as_bytes())?;
-    let mut out = MemSink::new(alloc, 1000, failing(alloc, &[])?)?;
-    let words = words_of(alloc, &["v", "analyze", "-"])?;
-    assert_eq!(rt; run(alloc, &words, &mut files, &mut out), Status::Alarms);
+fn a_file_named_by_a_dash(rt: HostRuntime) -> Result<(), AllocError> {
+    let mut files = files_of(rt.alloc(), "-", OVERFLOW.as_bytes(), &[])?;
+    let mut out = sink_of(rt.alloc(), 1000, &[])?;
+    is_analyzed(&rt, rt.alloc(), &mut files, &mut out)
+}
+
+fn is_analyzed(
+    rt: &impl Abort,
+    alloc: Global,
+    files: &mut MemFiles,
+    out: &mut MemSink,
+) -> Result<(), AllocError> {
+    let status = status_of(alloc, &OF_A_DASH, files, out)?;
+    assert_eq!(rt; status, Status::Alarms);
     Ok(())
 }

@@ -1,6 +1,7 @@
 // What the words of a row say.
 
-use c_syntax::{CType, Check, IntType, Name, Numbers, Object, Pointers, Pos, Shown, WrongKind};
+use crate::common;
+use c_syntax::{Check, Numbers, Object, Pointers, Shown, WrongKind};
 use std::alloc::{AllocError as NoMemory, Global};
 
 // An end, which `*` leaves out.
@@ -20,18 +21,8 @@ pub fn object(alloc: Global, word: &str) -> Option<Object> {
         Some(size) => (size, true),
         None => (word, false),
     };
-    Some(Object {
-        name: Name::new(alloc),
-        pos: Pos {
-            file: 0,
-            line: 1,
-            col: 1,
-        },
-        ty: CType::Int(IntType::Char),
-        size: size.parse::<u64>().ok()?,
-        read_only,
-        is_static: false,
-    })
+    let size = size.parse::<u64>().ok()?;
+    Some(common::object(alloc, size, read_only, false))
 }
 
 // The kind that a word names.

@@ -3,11 +3,11 @@ ghost use Rattle.std.specs.Prelude.{IfSome};
 ghost use Rattle.block_mem.specs.Bytes.{IsOf};
 ghost use Rattle.c_values.specs.Typed.{IsNear};
 
-use crate::{Told, comparison};
+use super::{Told, comparison, told_of_check};
 use block_mem::{Pointer, Scalar, Value};
 use c_syntax::{Object, Spot};
 use c_values::{
-    Wrong, check_equality, check_move, check_same_object, check_test, compare_pointers, difference,
+    check_equality, check_move, check_same_object, check_test, compare_pointers, difference,
 };
 
 /// What the checks of spots answer, or an operator on pointers.
@@ -17,7 +17,7 @@ pub fn answer(objects: &[Object], word: &str, row: &str) -> Told {
         "difference" => elements(first, second),
         "pointers" => operated(first, second),
         "test" => match spot(first) {
-            Some(at) => told(check_test(at)),
+            Some(at) => told_of_check(check_test(at)),
             None => Told::NoRow,
         },
         _ => match (spot(first), spot(second)) {
@@ -32,9 +32,9 @@ fn related(objects: &[Object], word: &str, left: Spot, right: Spot) -> Told
     requires right { IsNear right }
 {
     match word {
-        "move" => told(check_move(objects, left, right)),
-        "order" => told(check_same_object(1, left, right)),
-        "equal" => told(check_equality(objects, left, right)),
+        "move" => told_of_check(check_move(objects, left, right)),
+        "order" => told_of_check(check_same_object(1, left, right)),
+        "equal" => told_of_check(check_equality(objects, left, right)),
         _ => Told::NoRow,
     }
 }
@@ -43,16 +43,9 @@ fn elements(size: &str, spots: &str) -> Told {
     let (first, second) = spots.split_once(' ').unwrap_or((spots, ""));
     match (size.parse::<u64>(), spot(first), spot(second)) {
         (Ok(size), Some(left), Some(right)) if size > 0 => {
-            told(check_same_object(size, left, right))
+            told_of_check(check_same_object(size, left, right))
         }
         _ => Told::NoRow,
-    }
-}
-
-fn told(answer: Result<(), Wrong>) -> Told {
-    match answer {
-        Ok(()) => Told::Passes,
-        Err(wrong) => Told::Wrong(wrong),
     }
 }
 

@@ -1,5 +1,4 @@
-//! The table of decisions, as data: each line of its standard input is a row, and it prints a line with what
-//! `decide` answers. Its stored input and output, worked by hand, are rows that the gate compares.
+//! Rows of decisions: what `decide` answers.
 //!
 //! A row has parts, parted by `;`: the objects of the program, a check, and what is shown of it.
 //!
@@ -18,17 +17,17 @@
 //!
 //! Two sets are a pair. In a list `-` stands for nothing, and `any` for any pointer. Where no operand is shown the
 //! line says so.
-#![tactic(auto)]
 
 mod conditions;
 mod row;
 mod sets;
 mod words;
 
+use crate::common::no_such_row;
 use c_syntax::{Example, Spot};
 use decide::Decision;
+use std::alloc::{AllocError, Global};
 use std::fmt;
-use std::io::{self, Read};
 
 /// A decision, as it is printed.
 #[derive(Clone, Copy)]
@@ -64,19 +63,12 @@ impl fmt::Display for Printed {
     }
 }
 
-fn main(rt: HostRuntime) -> io::Result<()> {
-    let mut text = Vec::new(rt.alloc());
-    rt.stdin().read_to_end(&mut text)?;
-    let Ok(text) = str::from_utf8(&text) else {
-        return Ok(());
-    };
-    for line in text.lines() {
-        match row::answer(rt.alloc(), line) {
-            Ok(Some(answer)) if answer.shows_some => println!(rt; "{}", Printed(answer.decision))?,
-            Ok(Some(answer)) => println!(rt; "{}, nothing is shown", Printed(answer.decision))?,
-            Ok(None) => println!(rt; "no such row")?,
-            Err(_) => println!(rt; "out of memory")?,
-        }
+/// The line of a row: what is decided of it.
+pub fn line(alloc: Global, parts: &str) -> Result<String, AllocError> {
+    match row::answer(alloc, parts) {
+        Ok(Some(answer)) if answer.shows_some => format!(in alloc; "{}", Printed(answer.decision)),
+        Ok(Some(answer)) => format!(in alloc; "{}, nothing is shown", Printed(answer.decision)),
+        Ok(None) => no_such_row(alloc),
+        Err(_) => format!(in alloc; "out of memory"),
     }
-    Ok(())
 }

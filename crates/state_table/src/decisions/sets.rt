@@ -1,6 +1,6 @@
 // The sets that calls of `shown_sets` make.
 
-use crate::conditions::is_moderate_offset;
+use super::conditions::is_moderate_offset;
 use c_syntax::{Pointers, Spot};
 use shown_sets::{any_pointer, no_pointer, null_pointer, spot_pointer};
 use std::alloc::{AllocError as NoMemory, Global};

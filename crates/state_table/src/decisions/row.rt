@@ -1,8 +1,8 @@
 // What is answered of a row.
 
-use crate::conditions::{are_of_one_form, has_fields, is_shown};
-use crate::sets::made_set;
-use crate::words::{check, marks, numbers, object, pointers};
+use super::conditions::{are_of_one_form, has_fields, is_shown};
+use super::sets::made_set;
+use super::words::{check, marks, numbers, object, pointers};
 use c_syntax::{Check, Object, Pointers, Shown};
 use decide::{Decision, decide, shows_some};
 use shown_sets::shown_hull;

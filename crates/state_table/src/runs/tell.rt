@@ -1,7 +1,8 @@
 // The line that is printed.
 #![tactic(auto)]
 
-use crate::rows::Fault;
+use super::rows::Fault;
+use crate::common::no_such_row;
 use block_mem::Value;
 use csharp_acts::{State, Unanswered};
 use csharp_runs::{Failure, Outcome, Way};
@@ -11,7 +12,7 @@ use std::alloc::{AllocError, Global};
 pub fn line(alloc: Global, answer: Result<(Outcome, State), Fault>) -> Result<String, AllocError> {
     match answer {
         Ok((outcome, state)) => told(alloc, &outcome, &state),
-        Err(Fault::NoRow) => format!(in alloc; "no such row"),
+        Err(Fault::NoRow) => no_such_row(alloc),
         Err(Fault::Unanswered(Unanswered::NoMemory)) => format!(in alloc; "no memory"),
         Err(Fault::Unanswered(Unanswered::Unheld)) => format!(in alloc; "given up"),
     }

@@ -3,11 +3,12 @@ ghost use Rattle.std.specs.Prelude.{◌<◌, ◌≡◌, IfSome, length};
 ghost use Rattle.block_mem.specs.Bytes.{IsOf};
 ghost use Rattle.block_mem.specs.Proper.{IsMade};
 
-use crate::{Told, integer};
+use super::{Told, told_of_check};
+use crate::common::integer;
 use block_mem::{Pointer, Scalar, Value};
 use c_objects::ObjectMemory;
 use c_syntax::{IntType, Object};
-use c_values::{Given, Wrong, check_end};
+use c_values::{Given, check_end};
 use std::alloc::{AllocError as NoMemory, Global};
 
 /// The objects 0 to 3, each in the block of its number: the first holds a pointer to the second and
@@ -63,7 +64,7 @@ pub fn answer(memory: &ObjectMemory, word: &str, row: &str) -> Told {
         "read" => checked(memory, false, first, second),
         "write" => checked(memory, true, first, second),
         "assert" => asserted(memory, first),
-        "end" => told(check_end(Given::Nothing)),
+        "end" => told_of_check(check_end(Given::Nothing)),
         _ => Told::NoRow,
     }
 }
@@ -87,9 +88,9 @@ fn checked(memory: &ObjectMemory, write: bool, at: &str, size: &str) -> Told {
     match (place(memory, at), size.parse::<u64>()) {
         (Some(place), Ok(size)) => {
             if write {
-                told(memory.check_write(place, size, size))
+                told_of_check(memory.check_write(place, size, size))
             } else {
-                told(memory.check_read(place, size, size))
+                told_of_check(memory.check_read(place, size, size))
             }
         }
         _ => Told::NoRow,
@@ -100,16 +101,9 @@ fn asserted(memory: &ObjectMemory, number: &str) -> Told {
     match number.parse::<u8>() {
         Ok(n) => {
             let v = Value::Int(IntType::UChar, i128::from(n));
-            told(memory.check_assertion(Scalar::Int(IntType::UChar), v))
+            told_of_check(memory.check_assertion(Scalar::Int(IntType::UChar), v))
         }
         Err(_) => Told::NoRow,
-    }
-}
-
-fn told(answer: Result<(), Wrong>) -> Told {
-    match answer {
-        Ok(()) => Told::Passes,
-        Err(wrong) => Told::Wrong(wrong),
     }
 }
 
@@ -118,7 +112,7 @@ fn place(memory: &ObjectMemory, word: &str) -> Option<Value>
     ensures pointer { IfSome result (λ v. IsOf Scalar.Pointer v) }
     ensures made { IfSome result (λ v. IsMade (length memory.now.blocks) v) }
 {
-    match crate::pointers::pointer(word) {
+    match super::pointers::pointer(word) {
         Some(Value::Ptr(at)) => {
             if at.block < memory.count() {
                 Some(Value::Ptr(at))

@@ -2,7 +2,7 @@
 ghost use Rattle.std.specs.Prelude.{IfSome};
 ghost use Rattle.c_written.specs.Integer.{HasNumber};
 
-use crate::{Told, comparison};
+use super::{Told, comparison};
 use block_mem::{Scalar, Value};
 use c_syntax::{Arithmetic, IntType, Shift};
 use c_values::{Given, Wrong, arithmetic, bit, compares, complement, convert, negate, shift};

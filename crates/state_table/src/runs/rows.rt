@@ -1,8 +1,8 @@
 // The program that the words of a row make, and its run.
 #![tactic(auto)]
 
-use crate::program::program;
-use crate::{exprs, stmts};
+use super::program::program;
+use super::{exprs, stmts};
 use c_syntax::Numbers;
 use csharp::{CsExpr, CsExprs, CsFunction, CsFunctions, CsStmt, CsStmts};
 use csharp_acts::{State, Unanswered};

@@ -1,9 +1,9 @@
 // Statements.
 #![tactic(auto)]
 
-use crate::exprs::integer;
-use crate::program::at;
-use crate::rows::{Fault, Stacks, count, number, parts, some_count};
+use super::exprs::integer;
+use super::rows::{Fault, Stacks, count, number, parts, some_count};
+use crate::common::at;
 use block_mem::Scalar;
 use c_syntax::{Check, WrongKind};
 use csharp::{CsCall, CsCheck, CsStmt};

@@ -1,5 +1,4 @@
-//! The table of runs, as data: each line of its standard input is a small program of the language that is analysed, and it
-//! prints a line with the outcome of its run. Its stored input and output are worked by hand.
+//! Rows of runs: each is a small program of the language that is analysed, and the line is the outcome of its run.
 //!
 //! The words of a row are read one by one, operands before operators, as on a stack. A function is what stands on the stack
 //! of statements where its word `fn` comes, and what is run is a copy of it; the first is main. All objects and temporaries are the same in each row:
@@ -26,7 +25,6 @@
 //!
 //! A normal end is told with the values of the temporaries, a way out with what leaves, and a failure with the columns of its
 //! chain, its column, kind and operand.
-#![tactic(auto)]
 
 mod exprs;
 mod program;
@@ -34,17 +32,9 @@ mod rows;
 mod stmts;
 mod tell;
 
-use std::io::{self, Read};
+use std::alloc::{AllocError, Global};
 
-fn main(rt: HostRuntime) -> io::Result<()> {
-    let alloc = rt.alloc();
-    let mut text = Vec::new(alloc);
-    rt.stdin().read_to_end(&mut text)?;
-    let Ok(text) = str::from_utf8(&text) else {
-        return Ok(());
-    };
-    for row in text.lines() {
-        println!(rt; "{}", tell::line(alloc, rows::answer(alloc, row))?)?;
-    }
-    Ok(())
+/// The line of a row: the outcome of its run.
+pub fn line(alloc: Global, row: &str) -> Result<String, AllocError> {
+    tell::line(alloc, rows::answer(alloc, row))
 }
