@@ -5,7 +5,7 @@ ghost use Rattle.num_api.specs.Residues.{IsResidue};
 ghost use Rattle.num_api.specs.Steps.{least};
 ghost use Rattle.num_api.specs.Powers.{power_steps};
 
-use crate::words::{Between, class, range};
+use crate::words::{Between, binary, class, range, unary};
 use intervals::Interval;
 use num_api::{NOp, Powers, Ramp, Range, Residue, ValueDomain, power_step, settle_value};
 use residues::{Class, Pair};
@@ -104,10 +104,9 @@ fn value<V: Written>(pile: &mut Vec<V>, word: &str) -> Result<V, Told> {
 
 fn operated<V: ValueDomain>(pile: &mut Vec<V>, word: &str) -> Result<V, Told> {
     let b = pile.pop().ok_or(Told::NoRow)?;
-    match word {
-        "neg" => Ok(V::unary(NOp::Neg, &b)),
-        "!" => Ok(V::unary(NOp::Not, &b)),
-        _ => of_two(word, pile.pop().ok_or(Told::NoRow)?, b),
+    match unary(word) {
+        Some(op) => Ok(V::unary(op, &b)),
+        None => of_two(word, pile.pop().ok_or(Told::NoRow)?, b),
     }
 }
 
@@ -130,7 +129,7 @@ fn classed(word: &str) -> Option<(Range, Residue)>
 }
 
 fn of_two<V: ValueDomain>(word: &str, a: V, b: V) -> Result<V, Told> {
-    if let Some(op) = operator(word) {
+    if let Some(op) = binary(word) {
         return Ok(V::binary(op, &a, &b));
     }
     match word {
@@ -141,26 +140,6 @@ fn of_two<V: ValueDomain>(word: &str, a: V, b: V) -> Result<V, Told> {
         "covers" => Err(Told::Truth(a.covers(&b))),
         _ => Err(Told::NoRow),
     }
-}
-
-fn operator(word: &str) -> Option<NOp> {
-    Some(match word {
-        "+" => NOp::Add,
-        "-" => NOp::Sub,
-        "*" => NOp::Mul,
-        "/" => NOp::Quot,
-        "%" => NOp::Rem,
-        "<<" => NOp::Shl,
-        ">>" => NOp::Shr,
-        "&" => NOp::And,
-        "|" => NOp::Or,
-        "^" => NOp::Xor,
-        "==" => NOp::Eq,
-        "!=" => NOp::Ne,
-        "<" => NOp::Lt,
-        "<=" => NOp::Le,
-        _ => return None,
-    })
 }
 
 fn widened<V: ValueDomain>(a: &V, next: &V) -> V {

@@ -1,10 +1,10 @@
-// Ends, ranges and classes as they are written.
+// Ends, ranges, classes, variables and operators as they are written.
 
-ghost use Rattle.std.specs.Prelude.{IfSome};
+ghost use Rattle.std.specs.Prelude.{◌<◌, IfSome};
 ghost use Rattle.num_api.specs.Residues.{IsResidue};
 
 use ext_int::Ext;
-use num_api::{Range, Residue};
+use num_api::{NOp, Range, Residue, Var};
 use std::fmt;
 
 const GREATEST_MODULUS: i128 = 1 << 100;
@@ -73,5 +73,62 @@ fn proper(rem: i128, modulus: i128) -> Option<Residue>
         Some(Residue { rem, modulus })
     } else {
         None
+    }
+}
+
+/// The variable of a letter: `a` is the first of 26.
+pub fn variable(word: &str) -> Option<Var>
+    ensures { IfSome result (λ x. x.0 < 26) }
+{
+    match word.as_bytes() {
+        [letter @ b'a'..=b'z'] => Some(Var(u64::from(*letter - b'a'))),
+        _ => None,
+    }
+}
+
+/// A variable and a range, as `x -5 300`.
+pub fn range_of(words: &[&str]) -> Option<(Var, Range)> {
+    let [x, lo, hi] = words else {
+        return None;
+    };
+    match (variable(x), lo.parse::<i128>(), hi.parse::<i128>()) {
+        (Some(x), Ok(lo), Ok(hi)) => {
+            let range = Range {
+                lo: Ext::Fin(lo),
+                hi: Ext::Fin(hi),
+            };
+            Some((x, range))
+        }
+        _ => None,
+    }
+}
+
+/// An operator of two operands.
+pub fn binary(word: &str) -> Option<NOp> {
+    match word {
+        "+" => Some(NOp::Add),
+        "-" => Some(NOp::Sub),
+        "*" => Some(NOp::Mul),
+        "/" => Some(NOp::Quot),
+        "%" => Some(NOp::Rem),
+        "<<" => Some(NOp::Shl),
+        ">>" => Some(NOp::Shr),
+        "&" => Some(NOp::And),
+        "|" => Some(NOp::Or),
+        "^" => Some(NOp::Xor),
+        "==" => Some(NOp::Eq),
+        "!=" => Some(NOp::Ne),
+        "<" => Some(NOp::Lt),
+        "<=" => Some(NOp::Le),
+        _ => None,
+    }
+}
+
+/// An operator of one operand.
+pub fn unary(word: &str) -> Option<NOp> {
+    match word {
+        "neg" => Some(NOp::Neg),
+        "!" => Some(NOp::Not),
+        _ => None,
     }
 }
