@@ -6,7 +6,7 @@ use std::alloc::{AllocError as NoMemory, Global};
 use std::marker::Model;
 
 /// A call of a function, at the function's name.
-#[derive(Debug, Clone, Copy, Drop)]
+#[derive(Clone, Copy, Drop)]
 pub struct Call {
     /// Where the name of the function stands that is called.
     pub pos: Pos,
@@ -15,7 +15,7 @@ pub struct Call {
 }
 
 /// Calls, one after the other.
-#[derive(Debug, Drop)]
+#[derive(Drop)]
 pub struct Calls {
     items: Vec<Call>,
 }

@@ -17,7 +17,7 @@ use std::alloc::{AllocError, Global};
 const TOO_MANY: u64 = 65;
 
 /// Why calls go too deep.
-#[derive(Debug, Drop)]
+#[derive(Drop)]
 pub enum DepthError {
     /// 65 calls in a chain.
     TooDeep(Calls),

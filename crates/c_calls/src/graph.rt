@@ -12,7 +12,7 @@ use std::alloc::{AllocError as NoMemory, Global};
 use std::marker::Model;
 
 /// The calls that each function of a program makes, by the number of the function, where it has a body.
-#[derive(Debug, Drop)]
+#[derive(Drop)]
 pub struct CallGraph {
     functions: Vec<Option<Calls>>,
 }

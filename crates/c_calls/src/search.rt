@@ -15,7 +15,7 @@ use c_syntax::Numbers;
 use std::alloc::{AllocError, AllocFailed, Global};
 
 /// Why functions have no order.
-#[derive(Debug, Drop)]
+#[derive(Drop)]
 pub enum OrderError {
     /// Calls that lead from a function back to itself, of which no two call one function.
     Recursion(Calls),
@@ -40,7 +40,7 @@ impl<T: Drop> From<AllocFailed<T>> for OrderError {
 }
 
 // How far the search is with a function.
-#[derive(Debug, Clone, Copy, Drop)]
+#[derive(Clone, Copy, Drop)]
 enum Progress {
     // It was not come to.
     New,

@@ -8,13 +8,13 @@ use std::alloc::{AllocError as NoMemory, Global};
 use std::marker::Model;
 
 /// What is touched, one touch after the other.
-#[derive(Debug, Drop)]
+#[derive(Drop)]
 pub struct Touches {
     items: Vec<Touch>,
 }
 
 /// What is read and what is written.
-#[derive(Debug, Drop)]
+#[derive(Drop)]
 pub struct Effects {
     pub reads: Touches,
     pub writes: Touches,

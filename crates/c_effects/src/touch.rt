@@ -5,7 +5,7 @@ use std::alloc::{AllocError as NoMemory, Global};
 use std::marker::Model;
 
 /// A step into a part of an object.
-#[derive(Debug, Clone, Copy, PartialEq, Eq, Drop)]
+#[derive(Clone, Copy, PartialEq, Eq, Drop)]
 pub enum Part {
     /// Member k of a struct: `.m`
     Member(u64),
@@ -14,13 +14,13 @@ pub enum Part {
 }
 
 /// Steps into parts of an object, from the outside in.
-#[derive(Debug, Drop)]
+#[derive(Drop)]
 pub struct Path {
     items: Vec<Part>,
 }
 
 /// What is touched.
-#[derive(Debug, Drop)]
+#[derive(Drop)]
 pub enum Touch {
     /// Whatever is named through a pointer: `*p`
     Mem,

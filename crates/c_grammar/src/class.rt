@@ -3,7 +3,7 @@
 use c_written::{Keyword, Punctuator};
 
 /// What a production asks of a token.
-#[derive(Clone, Copy, Debug, PartialEq, Eq)]
+#[derive(Clone, Copy, PartialEq, Eq)]
 pub enum Class {
     /// `return`
     Keyword(Keyword),

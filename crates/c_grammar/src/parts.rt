@@ -8,7 +8,7 @@ ghost use Rattle.c_grammar.specs.Refused.{in_member, may_name, may_omit};
 use c_written::{BinaryOp, Punctuator};
 
 /// Where a token stands.
-#[derive(Clone, Copy, Debug, PartialEq, Eq)]
+#[derive(Clone, Copy, PartialEq, Eq)]
 pub enum Setting {
     /// Outside of functions.
     AtFile,
@@ -19,7 +19,7 @@ pub enum Setting {
 }
 
 /// The operators of one rank, which lean to the left (C11 6.5.5 to 6.5.14, and 6.5.17).
-#[derive(Clone, Copy, Debug, PartialEq, Eq)]
+#[derive(Clone, Copy, PartialEq, Eq)]
 pub enum Level {
     /// `,`
     Commas,
@@ -46,7 +46,7 @@ pub enum Level {
 }
 
 /// What may stand between two operands of a rank.
-#[derive(Clone, Copy, Debug, PartialEq, Eq)]
+#[derive(Clone, Copy, PartialEq, Eq)]
 pub enum Joint {
     /// `a, b`
     Comma,
@@ -55,7 +55,7 @@ pub enum Joint {
 }
 
 /// Whose declarator it is.
-#[derive(Clone, Copy, Debug, PartialEq, Eq)]
+#[derive(Clone, Copy, PartialEq, Eq)]
 pub enum Role {
     /// One that names something: `int *a;`.
     Naming,
@@ -100,7 +100,7 @@ impl Role {
 }
 
 /// What ends an expression or a type name.
-#[derive(Clone, Copy, Debug, PartialEq, Eq)]
+#[derive(Clone, Copy, PartialEq, Eq)]
 pub enum Closing {
     /// `;`
     BySemicolon,

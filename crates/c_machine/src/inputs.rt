@@ -4,7 +4,7 @@ use std::alloc::{AllocError as NoMemory, Global};
 use std::marker::Model;
 
 /// The inputs of a run, in the order in which they are read.
-#[derive(Debug, Drop)]
+#[derive(Drop)]
 pub struct Inputs {
     items: Vec<i64>,
 }

@@ -3,7 +3,7 @@
 use c_syntax::{Pos, WrongKind};
 
 /// What a step comes to.
-#[derive(Clone, Copy, Debug, PartialEq, Eq)]
+#[derive(Clone, Copy, PartialEq, Eq)]
 pub enum Step {
     /// The machine went on.
     Went,

@@ -13,7 +13,7 @@ use c_syntax::IntType;
 
 /// The bytes of an object that an item of its initialiser names: so many, from the offset of the
 /// first on.
-#[derive(Clone, Copy, Debug)]
+#[derive(Clone, Copy)]
 pub struct NamedBytes {
     pub first: u64,
     pub count: u64,

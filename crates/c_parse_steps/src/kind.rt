@@ -10,7 +10,7 @@ use crate::token::{first, sign_at};
 use c_written::{AssignOp, Keyword, Placed, Punctuator, StepWay, Token, UnaryOp};
 
 /// What makes an assignment of what stands before it.
-#[derive(Clone, Copy, Debug, PartialEq, Eq)]
+#[derive(Clone, Copy, PartialEq, Eq)]
 pub enum AssignKind {
     Plain,
     Compound(AssignOp),
@@ -18,7 +18,7 @@ pub enum AssignKind {
 }
 
 /// What a unary expression begins with.
-#[derive(Clone, Copy, Debug, PartialEq, Eq)]
+#[derive(Clone, Copy, PartialEq, Eq)]
 pub enum PrefixKind {
     Sizeof,
     Step(StepWay),
@@ -27,7 +27,7 @@ pub enum PrefixKind {
 }
 
 /// What goes on with a postfix expression.
-#[derive(Clone, Copy, Debug, PartialEq, Eq)]
+#[derive(Clone, Copy, PartialEq, Eq)]
 pub enum SuffixKind {
     Index,
     Call,
@@ -38,7 +38,7 @@ pub enum SuffixKind {
 }
 
 /// What a primary expression begins with.
-#[derive(Clone, Copy, Debug, PartialEq, Eq)]
+#[derive(Clone, Copy, PartialEq, Eq)]
 pub enum PrimaryKind {
     Word,
     Number,

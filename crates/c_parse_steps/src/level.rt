@@ -10,7 +10,7 @@ use c_grammar::{Joint, Level};
 use c_written::{BinaryOp, Placed, Punctuator};
 
 /// What stands on either side of a joint of a level.
-#[derive(Clone, Copy, Debug, PartialEq, Eq)]
+#[derive(Clone, Copy, PartialEq, Eq)]
 pub enum OperandKind {
     Assignment,
     /// The operands of the next level, and joints between them.

@@ -10,7 +10,7 @@ use crate::token::first;
 use c_written::{Keyword, Placed, Punctuator, Token};
 
 /// Tokens that tell which production goes on.
-#[derive(Clone, Copy, Debug, PartialEq, Eq)]
+#[derive(Clone, Copy, PartialEq, Eq)]
 pub enum Lookahead {
     /// `(`
     Open,

@@ -11,7 +11,7 @@ use c_grammar::Role;
 use c_written::{Keyword, Placed, Punctuator, StorageWord, Token, TypeWord};
 
 /// What a spec begins with.
-#[derive(Clone, Copy, Debug, PartialEq, Eq)]
+#[derive(Clone, Copy, PartialEq, Eq)]
 pub enum SpecKind {
     TypedefName,
     Storage(StorageWord),
@@ -23,7 +23,7 @@ pub enum SpecKind {
 }
 
 /// What follows `struct` or `enum`.
-#[derive(Clone, Copy, Debug, PartialEq, Eq)]
+#[derive(Clone, Copy, PartialEq, Eq)]
 pub enum TagKind {
     Tag,
     Body,
@@ -31,7 +31,7 @@ pub enum TagKind {
 }
 
 /// What a declarator behind its stars begins with.
-#[derive(Clone, Copy, Debug, PartialEq, Eq)]
+#[derive(Clone, Copy, PartialEq, Eq)]
 pub enum DirectKind {
     Name,
     Grouped,
@@ -41,7 +41,7 @@ pub enum DirectKind {
 }
 
 /// What goes on with a declarator.
-#[derive(Clone, Copy, Debug, PartialEq, Eq)]
+#[derive(Clone, Copy, PartialEq, Eq)]
 pub enum TailKind {
     Array,
     Function,

@@ -11,7 +11,7 @@ use c_parse_steps::{first, sign_at};
 use c_written::{Keyword, Placed, Punctuator, Stmt, Token};
 
 /// What a statement is by its first token, where it is no labelled one.
-#[derive(Clone, Copy, Debug, PartialEq, Eq)]
+#[derive(Clone, Copy, PartialEq, Eq)]
 pub enum StatementKind {
     Case,
     Default,

@@ -9,7 +9,7 @@ use c_syntax::Pos;
 use std::alloc::AllocError;
 
 /// What refuses a program.
-#[derive(Debug, Drop)]
+#[derive(Drop)]
 pub enum RuleError {
     /// The first node, children before their parents, of which one side writes what another touches, with the effects of
     /// two such sides.

@@ -10,7 +10,7 @@ use c_syntax::{Pos, TLvalue};
 use std::alloc::{AllocError as NoMemory, Global};
 
 /// What a part of an expression does.
-#[derive(Debug, Drop)]
+#[derive(Drop)]
 pub struct Side {
     /// What it reads and writes itself.
     pub own: Effects,
@@ -19,7 +19,7 @@ pub struct Side {
 }
 
 /// Two sides of one node.
-#[derive(Debug, Drop)]
+#[derive(Drop)]
 pub struct Comparison {
     /// Where the node stands.
     pub pos: Pos,

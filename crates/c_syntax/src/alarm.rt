@@ -45,7 +45,7 @@ pub enum WrongKind {
 /// ShiftAmount and ShiftResult. For Access and Alignment `size` is the number of bytes of the
 /// access and `align` its alignment. For Unrelated `size` is the size of an element for a
 /// difference, 1 for an order and 0 for an equality. A field that a kind does not use is 0.
-#[derive(Clone, Copy, Debug, PartialEq, Eq)]
+#[derive(Clone, Copy, PartialEq, Eq)]
 pub struct Check {
     pub kind: WrongKind,
     pub lo: i128,
@@ -56,7 +56,7 @@ pub struct Check {
 
 /// The pointers that may be there: those to the objects `names`, null and dead ones, or any.
 /// Offsets lie between `lo` and `hi`, where these are there, and are `rem` modulo `modulus`.
-#[derive(Debug, Drop)]
+#[derive(Drop)]
 pub struct Pointers {
     pub any: bool,
     pub null: bool,
@@ -70,7 +70,7 @@ pub struct Pointers {
 
 /// The operands that an alarm shows. A modulus of 1 says nothing, and under a modulus of 0 the
 /// number is `rem`.
-#[derive(Debug, Drop)]
+#[derive(Drop)]
 pub enum Shown {
     /// A whole number.
     Number {
@@ -126,7 +126,7 @@ pub enum Example {
 }
 
 /// Bytes of an object that are read as one scalar.
-#[derive(Clone, Copy, Debug, PartialEq, Eq)]
+#[derive(Clone, Copy, PartialEq, Eq)]
 pub struct Cell {
     pub object: u64,
     pub offset: u64,
@@ -134,7 +134,7 @@ pub struct Cell {
 }
 
 /// What is known where an alarm is raised. In an AtMost `sx` and `sy` are 1 or -1.
-#[derive(Debug, Drop)]
+#[derive(Drop)]
 pub enum Fact {
     /// `lo <= x <= hi`
     Between {
@@ -165,7 +165,7 @@ pub enum Fact {
 
 /// A check that may fail. `chain` has the places of the calls that lead there from main,
 /// outermost first.
-#[derive(Debug, Drop)]
+#[derive(Drop)]
 pub struct Alarm {
     pub chain: Places,
     pub pos: Pos,
@@ -177,7 +177,7 @@ pub struct Alarm {
 }
 
 /// Facts in their order.
-#[derive(Debug, Drop)]
+#[derive(Drop)]
 pub struct Facts {
     items: Vec<Fact>,
 }
@@ -227,7 +227,7 @@ impl Facts {
 }
 
 /// Alarms in their order.
-#[derive(Debug, Drop)]
+#[derive(Drop)]
 pub struct Alarms {
     items: Vec<Alarm>,
 }

@@ -4,7 +4,7 @@
 /// `Call` for the operands of a call, `Return` for the value of a `return`, `Init` for an
 /// initialiser, `Cast` for a cast, `Sizeof` for the size of a type or expression, `Test` for a
 /// condition and `Switch` for the value that a `switch` takes.
-#[derive(Clone, Copy, Debug, PartialEq, Eq)]
+#[derive(Clone, Copy, PartialEq, Eq)]
 pub enum Op {
     /// `+`
     Plus,

@@ -51,7 +51,7 @@ pub enum Comparison {
 
 /// An operator on one operand. An integer type is that of the operand and of the result. `Not`
 /// takes an integer or a pointer and gives an int.
-#[derive(Clone, Copy, Debug, PartialEq, Eq)]
+#[derive(Clone, Copy, PartialEq, Eq)]
 pub enum TUnaryOp {
     /// `+a`
     Plus(IntType),
@@ -64,7 +64,7 @@ pub enum TUnaryOp {
 }
 
 /// An operator on two operands. `element` is the size in bytes of what the pointer points to.
-#[derive(Clone, Copy, Debug, PartialEq, Eq)]
+#[derive(Clone, Copy, PartialEq, Eq)]
 pub enum TBinaryOp {
     /// Both operands and the result have this type.
     Arithmetic(Arithmetic, IntType),
@@ -87,7 +87,7 @@ pub enum TBinaryOp {
 
 /// What a `++` or `--` moves its operand by: 1, added or taken away at this integer type, or one
 /// element of so many bytes.
-#[derive(Clone, Copy, Debug, PartialEq, Eq)]
+#[derive(Clone, Copy, PartialEq, Eq)]
 pub enum Stride {
     /// `i++`, where `i` is an int.
     Int(IntType),
@@ -97,7 +97,7 @@ pub enum Stride {
 
 /// Whether a step stands before its operand, and gives the new value, or after it, and gives the
 /// old one.
-#[derive(Clone, Copy, Debug, PartialEq, Eq)]
+#[derive(Clone, Copy, PartialEq, Eq)]
 pub enum StepTime {
     /// `++a`
     Before,
@@ -106,7 +106,7 @@ pub enum StepTime {
 }
 
 /// How the address of a place was written: `*p`, `a[i]` or `p->m`.
-#[derive(Clone, Copy, Debug, PartialEq, Eq)]
+#[derive(Clone, Copy, PartialEq, Eq)]
 pub enum DerefKind {
     /// `*p`
     Star,
@@ -117,7 +117,7 @@ pub enum DerefKind {
 }
 
 /// The size and the alignment in bytes of a struct that is copied.
-#[derive(Clone, Copy, Debug, PartialEq, Eq)]
+#[derive(Clone, Copy, PartialEq, Eq)]
 pub struct Extent {
     pub size: u64,
     pub align: u64,

@@ -6,7 +6,7 @@ use std::alloc::{AllocError as NoMemory, Global};
 use std::marker::Model;
 
 /// A member of a struct, `offset` bytes after the struct's first one.
-#[derive(Debug, Drop)]
+#[derive(Drop)]
 pub struct Member {
     pub name: Name,
     pub ty: CType,
@@ -15,7 +15,7 @@ pub struct Member {
 
 /// A struct. The tag is empty where it has none, and there are no members where the struct is not
 /// complete. The size and the alignment are in bytes.
-#[derive(Debug, Drop)]
+#[derive(Drop)]
 pub struct StructDef {
     pub tag: Name,
     pub members: Members,
@@ -36,7 +36,7 @@ pub struct TFunction {
 
 /// A byte of an initial value: a number, or byte `k`, from 0 to 7, of the pointer to this offset
 /// of this object.
-#[derive(Clone, Copy, Debug, PartialEq, Eq)]
+#[derive(Clone, Copy, PartialEq, Eq)]
 pub enum InitByte {
     /// A byte of a number.
     Num(u8),
@@ -45,7 +45,7 @@ pub enum InitByte {
 }
 
 /// The bytes that an object of static duration has at the start.
-#[derive(Debug, Drop)]
+#[derive(Drop)]
 pub struct Initial {
     pub object: u64,
     pub bytes: InitBytes,
@@ -63,14 +63,14 @@ pub struct TProgram {
 
 /// How a program is to be run and analysed: its functions that have a body, each after those that
 /// it calls, and which of them is `main`.
-#[derive(Debug, Drop)]
+#[derive(Drop)]
 pub struct Plan {
     pub order: Numbers,
     pub main: u64,
 }
 
 /// The members of a struct in their order.
-#[derive(Debug, Drop)]
+#[derive(Drop)]
 pub struct Members {
     items: Vec<Member>,
 }
@@ -124,7 +124,7 @@ impl Members {
 }
 
 /// The structs of a program.
-#[derive(Debug, Drop)]
+#[derive(Drop)]
 pub struct StructDefs {
     items: Vec<StructDef>,
 }
@@ -178,7 +178,7 @@ impl StructDefs {
 }
 
 /// The objects of a program.
-#[derive(Debug, Drop)]
+#[derive(Drop)]
 pub struct Objects {
     items: Vec<Object>,
 }
@@ -287,7 +287,7 @@ impl TFunctions {
 }
 
 /// The bytes of an initial value.
-#[derive(Debug, Drop)]
+#[derive(Drop)]
 pub struct InitBytes {
     items: Vec<InitByte>,
 }
@@ -337,7 +337,7 @@ impl InitBytes {
 }
 
 /// The initial values of a program.
-#[derive(Debug, Drop)]
+#[derive(Drop)]
 pub struct Initials {
     items: Vec<Initial>,
 }

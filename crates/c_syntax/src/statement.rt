@@ -11,7 +11,7 @@ use std::marker::Model;
 
 /// Whether a block stands in the source, or was put round the statement that an `if`, a loop or a
 /// `switch` has below it.
-#[derive(Clone, Copy, Debug, PartialEq, Eq)]
+#[derive(Clone, Copy, PartialEq, Eq)]
 pub enum BlockKind {
     /// `{ a = 1; }`
     Written,

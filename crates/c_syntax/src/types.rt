@@ -10,7 +10,6 @@ use std::rc::Rc;
 
 /// A type. A struct and a function go by their numbers in the program.
 #[cycle(types)]
-#[derive(Debug)]
 pub enum CType {
     /// `void`
     Void,
@@ -28,7 +27,7 @@ pub enum CType {
 
 /// What a pointer points to, or an array is made of.
 #[cycle(types)]
-#[derive(Debug, Drop)]
+#[derive(Drop)]
 pub struct Target {
     pub ty: CType,
     pub is_const: bool,
@@ -60,7 +59,7 @@ impl Drop for CType {
 }
 
 /// A variable or a string literal, whose name is then `string`. Its size is in bytes.
-#[derive(Debug, Drop)]
+#[derive(Drop)]
 pub struct Object {
     pub name: Name,
     pub pos: Pos,

@@ -23,7 +23,7 @@ use std::alloc::{AllocError as NoMemory, Global};
 const TYPE_LIMIT: u64 = 1 << 40;
 
 /// What steps make, and its size in bytes where that is told with it.
-#[derive(Debug, Drop)]
+#[derive(Drop)]
 pub(crate) struct Laying {
     pub(crate) form: Form,
     pub(crate) size: Option<u64>,

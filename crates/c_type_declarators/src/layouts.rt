@@ -16,7 +16,7 @@ use c_syntax::{CType, StructDef, StructDefs};
 use std::alloc::AllocError as NoMemory;
 
 /// What an object takes: its size in bytes, if its type is complete, and its alignment.
-#[derive(Clone, Copy, Debug)]
+#[derive(Clone, Copy)]
 pub(crate) struct Space {
     pub(crate) size: Option<u64>,
     pub(crate) align: u64,

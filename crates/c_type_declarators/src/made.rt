@@ -9,7 +9,7 @@ use c_type_names::Form;
 use std::alloc::{AllocError as NoMemory, Global};
 
 /// The words and the types of specs so far.
-#[derive(Debug, Drop)]
+#[derive(Drop)]
 pub struct SpecsMade {
     pub storage: Vec<StorageWord>,
     pub is_const: bool,
@@ -18,7 +18,7 @@ pub struct SpecsMade {
 }
 
 /// One of the words and types of specs.
-#[derive(Debug, Drop)]
+#[derive(Drop)]
 pub enum SpecPart {
     Storage(StorageWord),
     Const,

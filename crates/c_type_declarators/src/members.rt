@@ -22,7 +22,7 @@ use std::alloc::AllocError as NoMemory;
 const STRUCT_LIMIT: u64 = 1 << 40;
 
 /// A member so far, and the place of its name.
-#[derive(Debug, Drop)]
+#[derive(Drop)]
 pub struct MemberMade {
     pub pos: Pos,
     pub member: Member,

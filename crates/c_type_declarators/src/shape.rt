@@ -4,14 +4,14 @@ use c_syntax::{CType, Name, Pos};
 use c_type_names::{Binding, TagBinding};
 
 /// A name that a declarator has, and its place.
-#[derive(Debug, Drop)]
+#[derive(Drop)]
 pub struct DeclaredName {
     pub name: Name,
     pub pos: Pos,
 }
 
 /// A parameter, whose name is empty where it has none, with its type as an object.
-#[derive(Debug, Drop)]
+#[derive(Drop)]
 pub struct Parameter {
     pub name: Name,
     pub pos: Pos,
@@ -20,7 +20,7 @@ pub struct Parameter {
 }
 
 /// What a declarator says of its name.
-#[derive(Debug, Drop)]
+#[derive(Drop)]
 pub enum Step {
     /// That it is a pointer, which is const or not.
     PointerTo(bool),
@@ -33,7 +33,7 @@ pub enum Step {
 }
 
 /// The name of a declarator, if there is one, and the steps from it outward.
-#[derive(Debug, Drop)]
+#[derive(Drop)]
 pub struct Shape {
     pub name: Option<DeclaredName>,
     pub steps: Vec<Step>,

@@ -16,7 +16,7 @@ use c_type_names::{Form, TypeError};
 use std::alloc::Global;
 
 /// Where specs stand.
-#[derive(Clone, Copy, Debug, PartialEq, Eq)]
+#[derive(Clone, Copy, PartialEq, Eq)]
 pub enum SpecPlace {
     /// In a declaration, which may have one storage word.
     Declaration,

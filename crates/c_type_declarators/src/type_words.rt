@@ -11,7 +11,7 @@ use c_syntax::{CType, IntType, TypeWord};
 
 /// A list of type words, by how often `void`, `char`, `short`, `int`, `long`, `signed` and `unsigned` stand in it, and
 /// the integer type that it names; the one that names none is void.
-#[derive(Clone, Copy, Debug)]
+#[derive(Clone, Copy)]
 struct TypeList {
     counts: [usize; 7],
     ty: Option<IntType>,

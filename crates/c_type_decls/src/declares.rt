@@ -3,7 +3,7 @@
 use c_syntax::{CType, Pos};
 
 /// An object that a declarator declares.
-#[derive(Debug, Drop)]
+#[derive(Drop)]
 pub struct ObjectNow {
     pub number: u64,
     /// The place of its name.
@@ -16,7 +16,7 @@ pub struct ObjectNow {
 }
 
 /// What a declarator declares.
-#[derive(Debug, Drop)]
+#[derive(Drop)]
 pub enum Declares {
     /// An object, whose initialiser may follow.
     AnObject(ObjectNow),
@@ -26,7 +26,7 @@ pub enum Declares {
 
 /// How an object of the file is declared: with an initialiser; as its definition; as one that the file defines
 /// somewhere; in a block.
-#[derive(Clone, Copy, Debug)]
+#[derive(Clone, Copy)]
 pub(crate) struct FileObject {
     pub(crate) has_init: bool,
     pub(crate) defines: bool,

@@ -4,7 +4,7 @@ use c_written::Pos;
 use std::alloc::AllocError;
 
 /// Why a name, a tag or an object is refused.
-#[derive(Debug, Drop)]
+#[derive(Drop)]
 pub enum NameError {
     /// Memory ran out.
     NoMemory,

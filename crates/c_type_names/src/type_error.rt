@@ -7,7 +7,7 @@ use c_syntax::{CType, Construct, Names, Op, Pos};
 use std::alloc::{AllocError, AllocFailed};
 
 /// The first refusal of a program, or want of memory.
-#[derive(Debug, Drop)]
+#[derive(Drop)]
 pub enum TypeError {
     /// No row has these types of operands, at this operator. Types are printed by the tags of the structs so
     /// far, by their numbers.

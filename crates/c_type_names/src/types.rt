@@ -5,7 +5,7 @@ use c_syntax::CType;
 use c_written::{Name, Pos};
 
 /// A type as a declaration gives it.
-#[derive(Debug, Drop)]
+#[derive(Drop)]
 pub enum Form {
     /// One of objects, or void, and whether it is const.
     Plain(CType, bool),
@@ -16,7 +16,7 @@ pub enum Form {
 }
 
 /// What an ordinary name stands for. Objects and functions go by their numbers.
-#[derive(Debug, Drop)]
+#[derive(Drop)]
 pub enum Meaning {
     /// An object.
     Object(u64),
@@ -33,7 +33,7 @@ pub enum Meaning {
 }
 
 /// A name, the place of its declaration, and what it stands for.
-#[derive(Debug, Drop)]
+#[derive(Drop)]
 pub struct Binding {
     pub name: Name,
     pub pos: Pos,
@@ -49,7 +49,7 @@ impl Named for Binding {
 }
 
 /// What a tag stands for. A struct goes by its number.
-#[derive(Clone, Copy, Debug, PartialEq, Eq)]
+#[derive(Clone, Copy, PartialEq, Eq)]
 pub enum TagMeaning {
     /// A struct.
     Struct(u64),
@@ -60,7 +60,7 @@ pub enum TagMeaning {
 }
 
 /// A tag, the place where its scope names it first, and that of the word that defines it, if one does.
-#[derive(Debug, Drop)]
+#[derive(Drop)]
 pub struct TagBinding {
     pub tag: Name,
     pub pos: Pos,
@@ -77,7 +77,7 @@ impl Named for TagBinding {
 }
 
 /// An object or a function of the file by its name, and whether the file has defined it.
-#[derive(Debug, Drop)]
+#[derive(Drop)]
 pub struct Linked {
     pub name: Name,
     pub pos: Pos,
@@ -94,7 +94,7 @@ impl Named for Linked {
 }
 
 /// A label of a function, and its place.
-#[derive(Debug, Drop)]
+#[derive(Drop)]
 pub struct Labelled {
     pub label: Name,
     pub pos: Pos,
@@ -109,7 +109,7 @@ impl Named for Labelled {
 }
 
 /// A value of a case, and the place of its word.
-#[derive(Clone, Copy, Debug, PartialEq, Eq)]
+#[derive(Clone, Copy, PartialEq, Eq)]
 pub struct CaseAt {
     pub value: i128,
     pub pos: Pos,

@@ -38,7 +38,7 @@ pub struct World {
 }
 
 /// The names and tags that were in scope where a scope began.
-#[derive(Clone, Copy, Debug)]
+#[derive(Clone, Copy)]
 pub struct Scope {
     names: usize,
     first_name: usize,

@@ -10,7 +10,7 @@ ghost use Rattle.c_type_nodes.specs.Views.{address_of};
 use c_syntax::Object;
 
 /// What a static pointer holds.
-#[derive(Clone, Copy, Debug, PartialEq, Eq)]
+#[derive(Clone, Copy, PartialEq, Eq)]
 pub enum Address {
     /// The null pointer.
     Nowhere,

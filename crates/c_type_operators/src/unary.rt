@@ -13,7 +13,7 @@ use c_syntax::{CType, IntType, Pos, TExpr, TUnaryOp};
 use std::alloc::{AllocError as NoMemory, Global};
 
 /// An operator on one integer.
-#[derive(Clone, Copy, Debug, PartialEq, Eq)]
+#[derive(Clone, Copy, PartialEq, Eq)]
 pub enum Sign {
     /// `+a`
     Plus,

@@ -4,7 +4,7 @@ use block_mem::Value;
 use c_syntax::{Pos, WrongKind};
 
 /// What a row comes to.
-#[derive(Clone, Copy, Debug)]
+#[derive(Clone, Copy)]
 pub enum Row {
     /// It is done.
     Went,
@@ -13,7 +13,7 @@ pub enum Row {
 }
 
 /// What a test of a value comes to.
-#[derive(Clone, Copy, Debug)]
+#[derive(Clone, Copy)]
 pub enum Tested {
     /// The value may be tested, and was taken off the stack.
     Passes(Value),

@@ -6,7 +6,7 @@ use c_syntax::{Extent, Numbers, Pos, StepTime, StepWay, Stride, TBinaryOp, TUnar
 use std::rc::Rc;
 
 /// What a function gives whose end is reached without a `return` (C11 5.1.2.2.3p1, 6.9.1p12).
-#[derive(Clone, Copy, Debug, PartialEq, Eq)]
+#[derive(Clone, Copy, PartialEq, Eq)]
 pub enum AtEnd {
     /// Nothing, as a void function, or one whose value is not used.
     GivesNothing,

@@ -14,7 +14,7 @@ use std::alloc::AllocError as NoMemory;
 use std::rc::Rc;
 
 /// What a jump looks for.
-#[derive(Clone, Copy, Debug, PartialEq, Eq)]
+#[derive(Clone, Copy, PartialEq, Eq)]
 pub enum Mark {
     Label(u64),
     Case(i128),

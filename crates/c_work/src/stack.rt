@@ -9,7 +9,7 @@ use std::marker::Model;
 
 /// What an expression gave, or the place of a struct's bytes with the place of the lvalue that
 /// named it, where a copy is checked.
-#[derive(Clone, Copy, Debug, PartialEq, Eq)]
+#[derive(Clone, Copy, PartialEq, Eq)]
 pub enum Held {
     Plain(Given),
     Struct(Pos, Value),

@@ -5,7 +5,7 @@ use std::alloc::{AllocError as NoMemory, Global};
 use std::marker::Model;
 
 /// A text, as its bytes.
-#[derive(Debug, Drop)]
+#[derive(Drop)]
 pub struct Name {
     items: Vec<u8>,
 }
@@ -62,7 +62,7 @@ impl Name {
 }
 
 /// Bytes, as those of a file or of a report.
-#[derive(Debug, Drop)]
+#[derive(Drop)]
 pub struct Bytes {
     items: Vec<u8>,
 }
@@ -119,7 +119,7 @@ impl Bytes {
 }
 
 /// Numbers of objects, functions and the like.
-#[derive(Debug, Drop)]
+#[derive(Drop)]
 pub struct Numbers {
     items: Vec<u64>,
 }
@@ -176,7 +176,7 @@ impl Numbers {
 }
 
 /// Places, as the calls that lead to an alarm.
-#[derive(Debug, Drop)]
+#[derive(Drop)]
 pub struct Places {
     items: Vec<Pos>,
 }
@@ -234,7 +234,7 @@ impl Places {
 }
 
 /// Texts, as the tags of structs.
-#[derive(Debug, Drop)]
+#[derive(Drop)]
 pub struct Names {
     items: Vec<Name>,
 }

@@ -1,7 +1,7 @@
 // Steps up and down.
 
 /// The way of a step: `++` or `--`.
-#[derive(Clone, Copy, Debug, PartialEq, Eq)]
+#[derive(Clone, Copy, PartialEq, Eq)]
 pub enum StepWay {
     /// `++a`, `a++`
     Up,

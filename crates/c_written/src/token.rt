@@ -5,7 +5,7 @@ use std::alloc::Global;
 use std::marker::Model;
 
 /// The keywords of C11 6.4.1. Any other word is a `Token::Word`.
-#[derive(Clone, Copy, Debug, PartialEq, Eq)]
+#[derive(Clone, Copy, PartialEq, Eq)]
 pub enum Keyword {
     Auto,
     Break,
@@ -64,7 +64,7 @@ pub enum Keyword {
 }
 
 /// The punctuators of C11 6.4.6 but `#`, `##` and the digraphs.
-#[derive(Clone, Copy, Debug, PartialEq, Eq)]
+#[derive(Clone, Copy, PartialEq, Eq)]
 pub enum Punctuator {
     /// `[`
     LeftBracket,
@@ -162,7 +162,7 @@ pub enum Punctuator {
 
 /// An integer constant (C11 6.4.4.1). `decimal` tells that it is neither octal nor hexadecimal.
 /// `unsigned` and `longs`, from 0 to 2, are its suffix.
-#[derive(Clone, Copy, Debug, PartialEq, Eq)]
+#[derive(Clone, Copy, PartialEq, Eq)]
 pub struct Constant {
     pub value: u64,
     pub decimal: bool,
@@ -172,7 +172,7 @@ pub struct Constant {
 
 /// A token of C11 6.4. A character constant has its value as an int, of -128 to 127, and a string
 /// literal the bytes between its quotes, with each escape replaced by its value.
-#[derive(Debug, Drop)]
+#[derive(Drop)]
 pub enum Token {
     /// `main`
     Word(Name),
@@ -189,7 +189,7 @@ pub enum Token {
 }
 
 /// A token and the place of its first byte.
-#[derive(Debug, Drop)]
+#[derive(Drop)]
 pub struct Placed {
     pub pos: Pos,
     pub token: Token,
@@ -197,7 +197,7 @@ pub struct Placed {
 
 /// The physical line `line` has the presumed line `presumed` in the file `name`. An empty name
 /// stands for the file word of the command.
-#[derive(Debug, Drop)]
+#[derive(Drop)]
 pub struct Mark {
     pub line: u32,
     pub presumed: u32,
@@ -205,7 +205,7 @@ pub struct Mark {
 }
 
 /// Tokens in their order.
-#[derive(Debug, Drop)]
+#[derive(Drop)]
 pub struct PlacedList {
     items: Vec<Placed>,
 }
@@ -257,7 +257,7 @@ impl PlacedList {
 }
 
 /// Line marks in their order.
-#[derive(Debug, Drop)]
+#[derive(Drop)]
 pub struct Marks {
     items: Vec<Mark>,
 }
@@ -307,7 +307,7 @@ impl Marks {
 }
 
 /// What a text is cut into. `end` is the place after its last byte.
-#[derive(Debug, Drop)]
+#[derive(Drop)]
 pub struct Tokens {
     pub list: PlacedList,
     pub marks: Marks,

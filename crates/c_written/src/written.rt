@@ -81,7 +81,7 @@ pub enum TypeWord {
 }
 
 /// The tag of a struct or an enumeration, and its place.
-#[derive(Debug, Drop)]
+#[derive(Drop)]
 pub struct Tag {
     pub pos: Pos,
     pub name: Name,

@@ -3,7 +3,7 @@
 use c_syntax::Pos;
 
 /// A binary operator on two ints.
-#[derive(Clone, Copy, Debug, PartialEq, Eq)]
+#[derive(Clone, Copy, PartialEq, Eq)]
 pub enum Operator {
     Add,
     Subtract,
@@ -12,7 +12,7 @@ pub enum Operator {
 }
 
 /// An expression over ints. Each node stands at its operator, or at its constant.
-#[derive(Debug, Drop)]
+#[derive(Drop)]
 pub enum Expr {
     Constant(Pos, i128),
     Negate(Pos, Box<Expr>),

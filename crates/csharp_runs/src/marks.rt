@@ -10,7 +10,7 @@ use block_mem::Value;
 use csharp::CsStmt;
 
 /// What is looked for among items.
-#[derive(Clone, Copy, Debug, PartialEq, Eq)]
+#[derive(Clone, Copy, PartialEq, Eq)]
 pub enum Mark {
     Label(u64),
     Case(i128),

@@ -16,7 +16,7 @@ use csharp_acts::{Operand, State, Step};
 use std::alloc::AllocError as NoMemory;
 
 /// How a statement leaves what is around it.
-#[derive(Clone, Copy, Debug, PartialEq, Eq)]
+#[derive(Clone, Copy, PartialEq, Eq)]
 pub enum Way {
     /// An exit, with the number of blocks that are left before the one that it leaves.
     Exit(u64),
@@ -28,7 +28,7 @@ pub enum Way {
 
 /// A check that failed: the calls that led to it, the outermost first, its place, its kind and its
 /// operand.
-#[derive(Debug, Drop)]
+#[derive(Drop)]
 pub struct Failure {
     pub chain: Places,
     pub place: Pos,
@@ -37,7 +37,7 @@ pub struct Failure {
 }
 
 /// What a statement comes to.
-#[derive(Debug, Drop)]
+#[derive(Drop)]
 pub enum Outcome {
     /// What comes behind it is done.
     Normal,
@@ -60,7 +60,7 @@ pub enum Outcome {
 }
 
 /// How far a run may go.
-#[derive(Clone, Copy, Debug, PartialEq, Eq)]
+#[derive(Clone, Copy, PartialEq, Eq)]
 pub struct Limits {
     /// Units for calls, for turns of a loop behind the first, and for gotos.
     pub fuel: u64,

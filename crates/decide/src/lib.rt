@@ -30,7 +30,7 @@ pub use showing::shows_some;
 use span::Span;
 
 /// What is to be said of a check.
-#[derive(Clone, Copy, Debug, PartialEq, Eq)]
+#[derive(Clone, Copy, PartialEq, Eq)]
 pub enum Decision {
     /// No operand that is shown fails.
     Holds,

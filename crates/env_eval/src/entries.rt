@@ -8,7 +8,7 @@ use num_api::Var;
 use std::alloc::{AllocError as NoMemory, Global};
 
 /// A variable with its value.
-#[derive(Clone, Copy, Debug, PartialEq, Eq)]
+#[derive(Clone, Copy, PartialEq, Eq)]
 pub struct Entry<T> {
     pub var: Var,
     pub value: T,

@@ -7,7 +7,7 @@ use std::alloc::{AllocError as NoMemory, Global};
 use std::marker::Model;
 
 /// A value for some of the variables. A contract sees the list of its entries, by rising variable.
-#[derive(Debug, Drop)]
+#[derive(Drop)]
 pub struct VarMap<T> {
     entries: Vec<Entry<T>>,
 }

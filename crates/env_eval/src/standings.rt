@@ -8,7 +8,7 @@ ghost use Rattle.env_eval.specs.Standings.{standing_of};
 use num_api::NOp;
 
 /// How a number stands to another one.
-#[derive(Clone, Copy, Debug, PartialEq, Eq)]
+#[derive(Clone, Copy, PartialEq, Eq)]
 pub enum Standing {
     Less,
     AtMost,

@@ -20,7 +20,7 @@ use std::marker::Model;
 
 /// A value for some of the variables; each other may be anything. A contract sees the list of the variables
 /// with their values, by rising variable.
-#[derive(Debug, Drop)]
+#[derive(Drop)]
 pub struct Env<V> {
     alloc: Global,
     state: VarMap<V>,

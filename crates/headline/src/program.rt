@@ -19,7 +19,7 @@ use rule_text::names_of;
 use std::alloc::{AllocError, Global};
 
 /// What a file's bytes are.
-#[derive(Debug, Drop)]
+#[derive(Drop)]
 pub enum Read {
     /// The program that returns this expression.
     Program(Expr),

@@ -17,7 +17,7 @@ use std::alloc::{AllocError, Global};
 use type_text::{construct_name, refusal_pos, refusal_text};
 
 /// For what a file is refused, and where.
-#[derive(Debug, Drop)]
+#[derive(Drop)]
 pub enum Refusal {
     /// It has more than 4,194,304 bytes.
     FileTooLarge,

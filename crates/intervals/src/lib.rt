@@ -29,7 +29,7 @@ use ends::{
 };
 
 /// All whole numbers from a least end to a greatest: at least one number.
-#[derive(Clone, Copy, Debug, PartialEq, Eq)]
+#[derive(Clone, Copy, PartialEq, Eq)]
 pub struct Interval {
     lo: Ext,
     hi: Ext,

@@ -13,7 +13,7 @@ use num_api::NOp;
 use std::alloc::{AllocError as NoMemory, Global};
 
 /// A comparison as an operator, and whether its operands change their places.
-#[derive(Clone, Copy, Debug)]
+#[derive(Clone, Copy)]
 pub struct Compared {
     pub op: NOp,
     pub is_turned: bool,

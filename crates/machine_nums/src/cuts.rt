@@ -22,14 +22,14 @@ use num_api::{NExpr, NOp, NumDomain, Range, Var};
 use std::alloc::{AllocError as NoMemory, Global};
 
 /// A variable and a range in which its number lies.
-#[derive(Clone, Copy, Debug)]
+#[derive(Clone, Copy)]
 pub struct Cut {
     pub x: Var,
     pub range: Range,
 }
 
 /// What a comparison leaves of its sides that are variables.
-#[derive(Clone, Copy, Debug)]
+#[derive(Clone, Copy)]
 pub struct Cuts {
     pub left: Option<Cut>,
     pub right: Option<Cut>,

@@ -13,7 +13,7 @@ use num_api::{NExpr, NOp, Var};
 use std::alloc::{AllocError as NoMemory, Global};
 
 /// An integer expression of C. What a node comes to is wrapped into its type.
-#[derive(Debug, Drop)]
+#[derive(Drop)]
 pub enum MExpr {
     Const(IntType, i128),
     Read(Var, IntType),

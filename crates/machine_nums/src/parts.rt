@@ -21,7 +21,7 @@ use std::alloc::{AllocError as NoMemory, Global};
 
 /// An expression without types, a range of its value, and whether it is an expression of C whose nodes have
 /// lost their types and nothing else.
-#[derive(Debug, Drop)]
+#[derive(Drop)]
 pub struct Part {
     pub plain: NExpr,
     pub range: Range,

@@ -17,7 +17,7 @@ use ext_int::Ext;
 use num_api::Range;
 
 /// What takes the numbers of a range into a type.
-#[derive(Clone, Copy, Debug)]
+#[derive(Clone, Copy)]
 pub enum Way {
     /// They are numbers of the type.
     Kept,
@@ -30,7 +30,7 @@ pub enum Way {
 }
 
 /// The numbers of a range, wrapped into a type.
-#[derive(Clone, Copy, Debug)]
+#[derive(Clone, Copy)]
 pub struct Wrapping {
     pub way: Way,
     pub range: Range,

@@ -22,7 +22,7 @@ use num_api::{
 use std::alloc::{AllocError as NoMemory, Global};
 
 /// What is known of a valuation: nothing, or the number of one variable. What is learnt last is kept.
-#[derive(Clone, Copy, Debug, PartialEq, Eq)]
+#[derive(Clone, Copy, PartialEq, Eq)]
 pub enum OneNumber {
     Anything,
     Known(Var, i128),

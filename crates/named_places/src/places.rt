@@ -13,7 +13,7 @@ use csharp::CsExpr;
 use exact_sums::{product_unit, unit};
 
 /// An address in an object, at an offset that is a multiple of an alignment.
-#[derive(Clone, Copy, Debug)]
+#[derive(Clone, Copy)]
 pub struct NamedPlace {
     pub object: u64,
     pub unit: i128,

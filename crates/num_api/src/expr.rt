@@ -12,7 +12,7 @@ use std::alloc::{AllocError as NoMemory, Global};
 pub struct Var(pub u64);
 
 /// An operator of C on whole numbers, with no width. `Neg` and `Not` take one operand, the others two.
-#[derive(Clone, Copy, Debug, PartialEq, Eq)]
+#[derive(Clone, Copy, PartialEq, Eq)]
 pub enum NOp {
     /// The negation.
     Neg,
@@ -40,7 +40,7 @@ pub enum NOp {
 }
 
 /// An expression. It has no value where one of its parts has none.
-#[derive(Debug, Drop)]
+#[derive(Drop)]
 pub enum NExpr {
     Const(i128),
     Read(Var),

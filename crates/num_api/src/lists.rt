@@ -5,7 +5,7 @@ use std::alloc::{AllocError as NoMemory, Global};
 use std::marker::Model;
 
 /// What a call tells of the valuations behind it.
-#[derive(Debug, Drop)]
+#[derive(Drop)]
 pub struct Messages {
     items: Vec<Message>,
 }
@@ -68,7 +68,7 @@ impl Messages {
 }
 
 /// What holds in every valuation of a state.
-#[derive(Debug, Drop)]
+#[derive(Drop)]
 pub struct NumFacts {
     items: Vec<Message>,
 }

@@ -66,7 +66,7 @@ pub struct Residue {
 }
 
 /// A fact of a valuation.
-#[derive(Debug, Drop)]
+#[derive(Drop)]
 pub enum Message {
     /// The variable lies in the range.
     Between(Var, Range),

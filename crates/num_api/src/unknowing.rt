@@ -7,7 +7,7 @@ use crate::{NExpr, Oracle, Range, Residue, Var};
 
 /// Whom a domain asks where there is no other one: it admits every valuation and answers that
 /// anything may be so.
-#[derive(Clone, Copy, Debug)]
+#[derive(Clone, Copy)]
 pub struct Unknowing;
 
 impl Oracle for Unknowing {

@@ -3,7 +3,7 @@
 use c_written::Numbers;
 use std::marker::Model;
 
-#[derive(Debug, Drop)]
+#[derive(Drop)]
 pub struct Calls {
     failing: Numbers,
     made: u64,

@@ -48,7 +48,7 @@ impl File {
 }
 
 // The file that is open, by its place, and how many of its bytes were given.
-#[derive(Clone, Copy, Debug)]
+#[derive(Clone, Copy)]
 struct Open {
     place: usize,
     given: usize,

@@ -21,7 +21,7 @@ use std::marker::Model;
 const ROOM: usize = 16;
 
 /// What a pointer may point to: nothing, an object that has ended, or the object of this number.
-#[derive(Clone, Copy, Debug, PartialEq, Eq)]
+#[derive(Clone, Copy, PartialEq, Eq)]
 pub enum Base {
     Null,
     Dead,

@@ -21,7 +21,7 @@ use ranges::{range, within};
 
 /// A congruence class: the whole numbers that are one remainder up to a multiple of a modulus. A
 /// modulus of 0 leaves one number; one of 1 or more is at most 2^100.
-#[derive(Clone, Copy, Debug, PartialEq, Eq)]
+#[derive(Clone, Copy, PartialEq, Eq)]
 pub struct Class {
     residue: Residue,
     ghost proper: { IsResidue residue },

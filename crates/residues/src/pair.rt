@@ -16,7 +16,7 @@ use num_api::{ExactValue, NOp, Ramp, Range, Residue, Steps, ValueDomain};
 /// A value of two domains at once: it has the numbers that are in both. The first gives the bounds
 /// and the second the class; each bound is moved inward to the nearest number of the class, and
 /// stays where that is no `i128`. Widening alone widens each part by itself and moves no bound.
-#[derive(Clone, Copy, Debug, PartialEq, Eq)]
+#[derive(Clone, Copy, PartialEq, Eq)]
 pub struct Pair<V, W> {
     bounds: V,
     class: W,
