@@ -1,5 +1,6 @@
 // Operators on numbers.
 ghost use Rattle.std.specs.Prelude.{◌≡◌, ◌≢◌, ◌<◌, ◌^◌, pos, ◌+ℤ◌, ◌-ℤ◌, ◌*ℤ◌, neg_ℤ, int_div, false, List, IfOk, OnOk};
+ghost use Rattle.std.specs.Int.{int_div_euclid};
 ghost use Rattle.block_mem.specs.Numbers.{bits_in};
 ghost use Rattle.c_written.specs.Integer.{HasNumber, is_signed, least, greatest, wrapped};
 ghost use Rattle.c_syntax.specs.Types.{ObjectTree};
@@ -153,7 +154,7 @@ pub fn shift(way: Shift, t: IntType, a: i128, amount: i128) -> Result<Value, Wro
     let places = amount as u32;
     match way {
         Shift::Left => shift_left(t, a, places),
-        Shift::Right => Ok(Value::Int(t, a.div_euclid(power_of_two(places)))),
+        Shift::Right => Ok(Value::Int(t, shift_right(a, places))),
     }
 }
 
@@ -164,6 +165,13 @@ fn shift_left(t: IntType, a: i128, places: u32) -> Result<Value, Wrong>
 {
     let exact = a * power_of_two(places);
     in_range(WrongKind::ShiftResult, t, 0, t.greatest(), exact)
+}
+
+fn shift_right(a: i128, places: u32) -> i128
+    requires { places < 64 }
+    ensures { result ≡ int_div_euclid a (pos (2 ^ places)) }
+{
+    a.div_euclid(power_of_two(places))
 }
 
 fn power_of_two(k: u32) -> i128

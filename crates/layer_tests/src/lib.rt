@@ -1,6 +1,5 @@
 //! Tests of what no program of the repository tells: memory, values, cells and sets, bound matrices, files and sinks, the
-//! single steps of the parser, shares of trees, lists of the language that is analysed, and whole runs over files and a sink
-//! in memory.
+//! single steps of the parser, shares of trees, and lists of the language that is analysed.
 //!
 //! They stand here, and not in the crates that they call, since a crate with tests is proved twice.
 #![tactic(auto)]
@@ -29,7 +28,5 @@ mod stretches;
 mod targets;
 #[cfg(test)]
 mod values;
-#[cfg(test)]
-mod whole_runs;
 #[cfg(test)]
 mod written;

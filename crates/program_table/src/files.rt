@@ -114,7 +114,8 @@ pub fn plan(alloc: Global, program: &TProgram) -> Result<Plan, Fault>
 pub fn program(alloc: Global, text: &str) -> Result<TProgram, Fault>
     ensures { IfOk result (λ program. IsWellTyped (tprogram_tree program)) }
 {
-    let Some(file) = with_lines(alloc, text)? else {
+    let text = with_lines(alloc, text)?;
+    let Some(file) = file(alloc, text.as_str().as_bytes())? else {
         return Err(Fault::NoFile);
     };
     match check(alloc, file) {
@@ -123,12 +124,13 @@ pub fn program(alloc: Global, text: &str) -> Result<TProgram, Fault>
     }
 }
 
-fn with_lines(alloc: Global, text: &str) -> Result<Option<File>, AllocError> {
+/// The text with the end of a line for each `¶`.
+pub fn with_lines(alloc: Global, text: &str) -> Result<String, AllocError> {
     let mut lines = String::new(alloc);
     for letter in text.chars() {
         lines.push(if letter == '¶' { '\n' } else { letter })?;
     }
-    file(alloc, lines.as_str().as_bytes())
+    Ok(lines)
 }
 
 /// The tree of a file; none where it is refused.

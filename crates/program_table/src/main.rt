@@ -9,6 +9,7 @@
 //! | `alarms`, and a file | what may go wrong, as `Overflow 1:36 2147483648`, or `no alarm`, or `not built`, or the line of its refusal |
 //! | `run 7 -3: `, and a file | what its run on these inputs comes to |
 //! | `timed 7 -3: `, and a file | the same, with many more steps |
+//! | `whole room=9: `, and a file | the exit status of `verac analyze a.c`, and what it wrote (below) |
 //! | `type @c u-` | the type of what the words come to (below) |
 //! | `ask size S` | what is asked of one type or two (below) |
 //! | `text`, and a text of C | what it says at last (below) |
@@ -23,6 +24,11 @@
 //! | `Wrong 1:23 DivideByZero [1:54]` | something is wrong at this line and column, in the calls at these places, the outermost first |
 //! | `StillGoing` | has not come to an end after 100,000 steps, or a billion where it is timed |
 //! | `Refused` | there is none: the file is refused, or the inputs are no numbers |
+//!
+//! The files and the sink of a whole run are in memory. `room` is how many bytes the sink takes, where that is not 1,000;
+//! `read` and `write` are the call of the files and of the sink that fails, counted from 1; `name` is the name of the file, for
+//! which the command asks; `spaces` is how many spaces stand behind its text; `runs` is how many runs are made over the same
+//! files and sink, each of which has its status.
 //!
 //! The rows of typing are operators on types in a short notation. The words of a row are read one by one, operands before
 //! operators, as on a stack. A type is a word that is read from the right: `pki` is a pointer to a const int.
@@ -67,6 +73,7 @@
 mod files;
 mod runs;
 mod typing;
+mod whole_runs;
 
 use std::alloc::{AllocError, Global};
 use std::io::{self, Read};
@@ -97,6 +104,7 @@ fn line(alloc: Global, row: &str) -> Result<String, AllocError> {
         "type" | "ask" | "text" => typing::line(alloc, word, rest),
         "run" => runs::line(alloc, STEPS, rest),
         "timed" => runs::line(alloc, MANY, rest),
+        "whole" => whole_runs::line(alloc, rest),
         _ => files::line(alloc, word, rest),
     }
 }

@@ -82,7 +82,19 @@ fn multiples(f: i128, g: i128) -> Class
     ensures holds { (x y : ℤ) → IsMultiple f x → IsMultiple g y → InResidue (residue_of result) (x *ℤ y) }
     ensures folds { (c : ℤ) → IsAlignment c → IsMultiple c f ⊎ IsMultiple c g → IsFoldResidue c (residue_of result) }
 {
-    Class::of(0, power_in(f) * power_in(g))
+    Class::of(0, powers_product(power_in(f), power_in(g)))
+}
+
+// The product of two powers of two up to the 50th.
+fn powers_product(p: i128, q: i128) -> i128
+    requires p_low { pos 1 ≤ℤ p }
+    requires p_high { p ≤ℤ pos (2 ^ 50) }
+    requires q_low { pos 1 ≤ℤ q }
+    requires q_high { q ≤ℤ pos (2 ^ 50) }
+    ensures not_negative { pos 0 ≤ℤ result }
+    ensures value { result ≡ p *ℤ q }
+{
+    p * q
 }
 
 // The greatest power of two up to the 50th that divides `n`.
