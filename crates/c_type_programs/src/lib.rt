@@ -9,15 +9,14 @@
 //!
 //! | What | Stated in `Settled` of c_typing | Promised by |
 //! |---|---|---|
-//! | the type of an object at the end | `last_type` | `settled_place` |
-//! | expressions, places and arguments | `settled_expr`, `settled_place`, `settled_exprs` | `settled_expr`, `settled_place`, `settled_exprs` |
-//! | items of initialisers | `settled_init` | `settled_init`, `settled_inits` |
-//! | statements | `settled_stmt`, `settled_stmts` | `settled_stmt`, `settled_stmts` |
-//! | a function | `settled_function` | `settled_function` |
+//! | the type of an object at the end | `last_type` | `settle_place` |
+//! | expressions, places and arguments | `settled_expr`, `settled_place`, `settled_exprs` | `settle_expr`, `settle_place`, `settle_exprs` |
+//! | items of initialisers | `settled_init` | `settle_init`, `settle_inits` |
+//! | statements | `settled_stmt`, `settled_stmts` | `settle_stmt`, `settle_stmts` |
+//! | a function | `settled_function` | `settle_function`, `settle_functions` |
 //!
-//! A tree is made anew from the one that is there, node by node; a type is shared. Each item of the body that a function had
-//! is let go of before the next is settled, so that one item at most is there twice. Trees nest no deeper than the text does,
-//! and lists are walked by loops.
+//! A tree is changed where it stands, and takes no memory: only the types of names are put in, and these are shared. Trees nest
+//! no deeper than the text does, and lists are walked by loops.
 //!
 //! # The typed program at the end of its file
 //!
@@ -43,8 +42,8 @@ mod initials;
 mod programs;
 mod stmts;
 
-pub use exprs::{settled_expr, settled_exprs, settled_place};
-pub use functions::settled_function;
+pub use exprs::{settle_expr, settle_exprs, settle_place};
+pub use functions::{settle_function, settle_functions};
 pub use initials::static_initials;
 pub use programs::program_of;
-pub use stmts::{settled_init, settled_inits, settled_stmt, settled_stmts};
+pub use stmts::{settle_init, settle_inits, settle_stmt, settle_stmts};
