@@ -1,6 +1,7 @@
 -- The lines of a file, as the code goes through them.
-use Rattle.std.proofs.Common.{◌≡◌, refl, sym, ap, ◌∙◌, subst, ℕ, zero, suc, ◌+◌, ◌<◌, ◌≤◌, List, [], ◌∷◌, length, map, drop, get_or, drop-cons, add-one, arith, false}
-use Rattle.std.specs.Prelude.{⊤}
+use Rattle.std.proofs.Common.{◌≡◌, sym, ap, ◌∙◌, subst, List, [], ◌∷◌, ◌++◌, map, false}
+use Rattle.std.specs.Prelude.{⊤, reverse}
+use Rattle.std.proofs.lemmas.List.{reverse-append, reverse-reverse}
 use Rattle.c_written.specs.declared.place.Pos.{Pos}
 use Rattle.c_written.specs.declared.file.Outer.{Outer}
 use Rattle.c_written.specs.Written.{SpecTrees, DeclaratorTree}
@@ -44,23 +45,19 @@ outers_line : (w : World) (around : Context) (outer : OuterTree) (rest : List Ou
 unfolding TypesOuters
 outers_line w around outer rest o p = p
 
-falls : {A : Type 0} (xs : List A) (k : ℕ) (x : A) → x ≡ get_or xs k x → k < length xs → drop k xs ≡ x ∷ drop (k + 1) xs
-falls xs k x e h = rw add-one (drop-cons xs k x h ∙ ap (λ y. y ∷ drop (suc k) xs) (sym e))
+-- what is left, its first item at the end
+abbrev pub TypesLeft : World → Context → List Outer → Outcome ⊤ → Type 0
+TypesLeft w around left o = TypesOuters w around (map outer_tree (reverse left)) o
 
-drop_past : {A : Type 0} (xs : List A) (k : ℕ) → length xs ≤ k → drop k xs ≡ []
-drop_past [] zero h = refl
-drop_past [] (suc k) h = refl
-drop_past (x ∷ xs) zero h = absurd (omega (arith, h))
-drop_past (x ∷ xs) (suc k) h = drop_past xs k (omega arith)
+pub all_left : (w : World) (around : Context) (items left : List Outer) (o : Outcome ⊤) → left ≡ reverse items
+    → TypesLeft w around left o → TypesOuters w around (map outer_tree items) o
+all_left w around items left o e p = subst (λ list. TypesOuters w around (map outer_tree list) o) (ap reverse e ∙ reverse-reverse items) p
 
--- what is left from a place on
-abbrev pub TypesFrom : World → Context → List Outer → ℕ → Outcome ⊤ → Type 0
-TypesFrom w around items k o = TypesOuters w around (map outer_tree (drop k items)) o
+pub next_outer : (w : World) (around : Context) (left rest : List Outer) (x : Outer) (o : Outcome ⊤) → left ≡ rest ++ x ∷ []
+    → Then (TypesOuter w around (outer_tree x)) (λ unit w1. TypesLeft w1 around rest) o → TypesLeft w around left o
+next_outer w around left rest x o e p =
+    subst (λ list. TypesOuters w around (map outer_tree list) o) (sym (ap reverse e ∙ reverse-append rest (x ∷ [])))
+    (outers_line w around (outer_tree x) (map outer_tree (reverse rest)) o p)
 
-pub next_outer : (w : World) (around : Context) (xs : List Outer) (k : ℕ) (x : Outer) (o : Outcome ⊤) → x ≡ get_or xs k x → k < length xs
-    → Then (TypesOuter w around (outer_tree x)) (λ unit w1. TypesFrom w1 around xs (k + 1)) o → TypesFrom w around xs k o
-next_outer w around xs k x o e h p =
-    subst (λ list. TypesOuters w around (map outer_tree list) o) (sym (falls xs k x e h)) (outers_line w around (outer_tree x) (map outer_tree (drop (k + 1) xs)) o p)
-
-pub last_outer : (w : World) (around : Context) (xs : List Outer) (k : ℕ) (o : Outcome ⊤) → length xs ≤ k → o ≡ Typed tt w → TypesFrom w around xs k o
-last_outer w around xs k o h p = subst (λ list. TypesOuters w around (map outer_tree list) o) (sym (drop_past xs k h)) (no_outers_line w around o p)
+pub last_outer : (w : World) (around : Context) (left : List Outer) (o : Outcome ⊤) → left ≡ [] → o ≡ Typed tt w → TypesLeft w around left o
+last_outer w around left o e p = subst (λ list. TypesOuters w around (map outer_tree (reverse list)) o) (sym e) (no_outers_line w around o p)

@@ -30,27 +30,29 @@ pub fn check(alloc: Global, file: File) -> Result<TProgram, TypeError>
     // The laws that the last two clauses rest on.
     files_have_one();
     typed_is_well_typed();
-    checked(alloc, &file)
+    checked(alloc, file)
 }
 
-// The same of a file that is lent.
-fn checked(alloc: Global, file: &File) -> Result<TProgram, TypeError>
-    ensures { Checks (file_tree file.now) result }
+// The outcome of a file.
+fn checked(alloc: Global, file: File) -> Result<TProgram, TypeError>
+    ensures { Checks (file_tree file) result }
 {
-    let names = FileNames::of(alloc, file)?;
+    let names = FileNames::of(alloc, &file)?;
     let around = Context::of_file(&names);
     let mut world = World::new(alloc);
-    typed!(outers(&mut world, around, file.outers.as_slice()));
+    typed!(outers(&mut world, around, file.outers.into_vec()));
     let program = program_of(world)?;
     Ok(program)
 }
 
-// Declarations and functions, in their order.
-fn outers(world: &mut World, around: Context, items: &[Outer]) -> Result<(), TypeError>
-    ensures { Answers (files.TypesOuters (world_of world.old) (context_tree around.entry) (map outer_tree items.now)) (λ _. tt) (world_of world.new) result }
+// Declarations and functions, in their order, each of which is let go of once it is typed.
+fn outers(world: &mut World, around: Context, items: Vec<Outer>) -> Result<(), TypeError>
+    ensures { Answers (files.TypesOuters (world_of world.old) (context_tree around.entry) (map outer_tree items.items)) (λ _. tt) (world_of world.new) result }
 {
-    'each: for item in items {
-        typed!(outer(world, around, item));
+    let mut left = items;
+    left.reverse();
+    'each: while let Some(item) = left.pop() {
+        typed!(outer(world, around, &item));
     }
     Ok(())
 }

@@ -14,7 +14,8 @@
 //! | that a typed program is well typed | `WellTyped` of c_layout | `check`, `well_typed` |
 //!
 //! `check` takes any tree, also one that no text has. A file has any number of declarations, which are gone through by a
-//! loop; how deep the calls go is bounded by the nesting of statements, expressions and initialisers.
+//! loop, and let go of one by one once they are typed; how deep the calls go is bounded by the nesting of statements,
+//! expressions and initialisers.
 #![tactic(auto)]
 
 // What a part is typed as, or its refusal as that of the whole. `?` would convert the refusal as well.

@@ -1,7 +1,7 @@
 // Expressions and places, settled where they stand.
 #![tactic(auto, unfolding(c_syntax::specs::TypedExpr::texpr_tree, c_typing::specs::Settled::settled_expr))]
 
-ghost use Rattle.std.specs.Prelude.{◌≡◌, IfOk, map};
+ghost use Rattle.std.specs.Prelude.{◌≡◌, OnOk, map};
 ghost use Rattle.c_syntax.specs.TypedExpr.{texpr_tree, texprs_tree, tlvalue_tree};
 ghost use Rattle.c_syntax.specs.Types.{ctype_tree, object_tree};
 ghost use Rattle.c_typing.specs.Settled as typing;
@@ -14,7 +14,7 @@ use std::mem;
 /// out, part of the expression has been settled.
 #[cycle(settles)]
 pub fn settle_expr(alloc: Global, objects: &[Object], e: &mut TExpr) -> Result<(), NoMemory>
-    ensures { IfOk result (λ _. texpr_tree e.new ≡ typing.settled_expr (map object_tree objects.now) (texpr_tree e.old)) }
+    ensures { OnOk result (texpr_tree e.new ≡ typing.settled_expr (map object_tree objects.now) (texpr_tree e.old)) }
 {
     match e {
         TExpr::Const { .. } | TExpr::Null { .. } | TExpr::Any { .. } => Ok(()),
@@ -52,7 +52,7 @@ pub fn settle_expr(alloc: Global, objects: &[Object], e: &mut TExpr) -> Result<(
 #[tactic(auto, unfolding(c_syntax::specs::TypedExpr::tlvalue_tree, c_typing::specs::Settled::settled_place))]
 #[cycle(settles)]
 pub fn settle_place(alloc: Global, objects: &[Object], place: &mut TLvalue) -> Result<(), NoMemory>
-    ensures { IfOk result (λ _. tlvalue_tree place.new ≡ typing.settled_place (map object_tree objects.now) (tlvalue_tree place.old)) }
+    ensures { OnOk result (tlvalue_tree place.new ≡ typing.settled_place (map object_tree objects.now) (tlvalue_tree place.old)) }
 {
     match place {
         TLvalue::Var { object, ty, .. } => settle_type(objects, *object, ty),
@@ -64,7 +64,7 @@ pub fn settle_place(alloc: Global, objects: &[Object], place: &mut TLvalue) -> R
 // The type that an object has at the end, where there is that object.
 #[tactic(auto)]
 fn settle_type(objects: &[Object], object: u64, ty: &mut CType) -> Result<(), NoMemory>
-    ensures { IfOk result (λ _. ctype_tree ty.new ≡ typing.last_type (map object_tree objects.now) object (ctype_tree ty.old)) }
+    ensures { OnOk result (ctype_tree ty.new ≡ typing.last_type (map object_tree objects.now) object (ctype_tree ty.old)) }
 {
     if let Some(last) = objects.get(object as usize) {
         *ty = last.ty.copy()?;
@@ -80,8 +80,8 @@ fn settle_two(
     left: &mut TExpr,
     right: &mut TExpr,
 ) -> Result<(), NoMemory>
-    ensures left { IfOk result (λ _. texpr_tree left.new ≡ typing.settled_expr (map object_tree objects.now) (texpr_tree left.old)) }
-    ensures right { IfOk result (λ _. texpr_tree right.new ≡ typing.settled_expr (map object_tree objects.now) (texpr_tree right.old)) }
+    ensures left { OnOk result (texpr_tree left.new ≡ typing.settled_expr (map object_tree objects.now) (texpr_tree left.old)) }
+    ensures right { OnOk result (texpr_tree right.new ≡ typing.settled_expr (map object_tree objects.now) (texpr_tree right.old)) }
 {
     settle_expr(alloc, objects, left)?;
     settle_expr(alloc, objects, right)
@@ -95,8 +95,8 @@ fn settle_store(
     place: &mut TLvalue,
     value: &mut TExpr,
 ) -> Result<(), NoMemory>
-    ensures place { IfOk result (λ _. tlvalue_tree place.new ≡ typing.settled_place (map object_tree objects.now) (tlvalue_tree place.old)) }
-    ensures value { IfOk result (λ _. texpr_tree value.new ≡ typing.settled_expr (map object_tree objects.now) (texpr_tree value.old)) }
+    ensures place { OnOk result (tlvalue_tree place.new ≡ typing.settled_place (map object_tree objects.now) (tlvalue_tree place.old)) }
+    ensures value { OnOk result (texpr_tree value.new ≡ typing.settled_expr (map object_tree objects.now) (texpr_tree value.old)) }
 {
     settle_place(alloc, objects, place)?;
     settle_expr(alloc, objects, value)
@@ -106,7 +106,7 @@ fn settle_store(
 /// out, the list is left with nothing in it.
 #[cycle(settles)]
 pub fn settle_exprs(alloc: Global, objects: &[Object], list: &mut TExprs) -> Result<(), NoMemory>
-    ensures { IfOk result (λ _. texprs_tree list.new ≡ typing.settled_exprs (map object_tree objects.now) (texprs_tree list.old)) }
+    ensures { OnOk result (texprs_tree list.new ≡ typing.settled_exprs (map object_tree objects.now) (texprs_tree list.old)) }
 {
     let mut items = mem::replace(list, TExprs::new(alloc)).into_vec();
     for item in items.iter_mut() {

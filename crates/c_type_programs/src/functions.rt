@@ -1,7 +1,7 @@
 // Functions, settled where they stand.
 #![tactic(auto)]
 
-ghost use Rattle.std.specs.Prelude.{◌≡◌, IfOk, map};
+ghost use Rattle.std.specs.Prelude.{◌≡◌, OnOk, map};
 ghost use Rattle.c_syntax.specs.Program.{tfunction_tree};
 ghost use Rattle.c_syntax.specs.Types.{object_tree};
 ghost use Rattle.c_typing.specs.Settled as typing;
@@ -17,7 +17,7 @@ pub fn settle_function(
     objects: &[Object],
     function: &mut TFunction,
 ) -> Result<(), NoMemory>
-    ensures { IfOk result (λ _. tfunction_tree function.new ≡ typing.settled_function (map object_tree objects.now) (tfunction_tree function.old)) }
+    ensures { OnOk result (tfunction_tree function.new ≡ typing.settled_function (map object_tree objects.now) (tfunction_tree function.old)) }
 {
     match &mut function.body {
         None => Ok(()),
@@ -31,7 +31,7 @@ pub fn settle_functions(
     objects: &[Object],
     functions: &mut [TFunction],
 ) -> Result<(), NoMemory>
-    ensures { IfOk result (λ _. map tfunction_tree functions.new
+    ensures { OnOk result (map tfunction_tree functions.new
         ≡ map (typing.settled_function (map object_tree objects.now)) (map tfunction_tree functions.old)) }
 {
     for function in functions.iter_mut() {

@@ -1,7 +1,7 @@
 // Statements, and what initialises objects, settled where they stand.
 #![tactic(auto, unfolding(c_syntax::specs::TypedStmt::tstmt_tree, c_typing::specs::Settled::settled_stmt))]
 
-ghost use Rattle.std.specs.Prelude.{◌≡◌, IfOk, map, option_map};
+ghost use Rattle.std.specs.Prelude.{◌≡◌, OnOk, map, option_map};
 ghost use Rattle.c_syntax.specs.TypedExpr.{texpr_tree};
 ghost use Rattle.c_syntax.specs.TypedStmt.{tinit_tree, tstmt_tree, tstmts_tree};
 ghost use Rattle.c_syntax.specs.Types.{object_tree};
@@ -16,7 +16,7 @@ use std::mem;
 /// out, part of the statement has been settled.
 #[cycle(settles)]
 pub fn settle_stmt(alloc: Global, objects: &[Object], stmt: &mut TStmt) -> Result<(), NoMemory>
-    ensures { IfOk result (λ _. tstmt_tree stmt.new ≡ typing.settled_stmt (map object_tree objects.now) (tstmt_tree stmt.old)) }
+    ensures { OnOk result (tstmt_tree stmt.new ≡ typing.settled_stmt (map object_tree objects.now) (tstmt_tree stmt.old)) }
 {
     match stmt {
         TStmt::Empty { .. } | TStmt::Static { .. } => Ok(()),
@@ -73,8 +73,8 @@ fn settle_loop(
     condition: &mut TExpr,
     body: &mut TStmt,
 ) -> Result<(), NoMemory>
-    ensures condition { IfOk result (λ _. texpr_tree condition.new ≡ typing.settled_expr (map object_tree objects.now) (texpr_tree condition.old)) }
-    ensures body { IfOk result (λ _. tstmt_tree body.new ≡ typing.settled_stmt (map object_tree objects.now) (tstmt_tree body.old)) }
+    ensures condition { OnOk result (texpr_tree condition.new ≡ typing.settled_expr (map object_tree objects.now) (texpr_tree condition.old)) }
+    ensures body { OnOk result (tstmt_tree body.new ≡ typing.settled_stmt (map object_tree objects.now) (tstmt_tree body.old)) }
 {
     settle_expr(alloc, objects, condition)?;
     settle_stmt(alloc, objects, body)
@@ -84,7 +84,7 @@ fn settle_loop(
 /// out, the list is left with nothing in it.
 #[cycle(settles)]
 pub fn settle_stmts(alloc: Global, objects: &[Object], list: &mut TStmts) -> Result<(), NoMemory>
-    ensures { IfOk result (λ _. tstmts_tree list.new ≡ typing.settled_stmts (map object_tree objects.now) (tstmts_tree list.old)) }
+    ensures { OnOk result (tstmts_tree list.new ≡ typing.settled_stmts (map object_tree objects.now) (tstmts_tree list.old)) }
 {
     let mut items = mem::replace(list, TStmts::new(alloc)).into_vec();
     for item in items.iter_mut() {
@@ -100,7 +100,7 @@ fn settle_option(
     objects: &[Object],
     value: &mut Option<TExpr>,
 ) -> Result<(), NoMemory>
-    ensures { IfOk result (λ _. option_map texpr_tree value.new ≡ option_map (typing.settled_expr (map object_tree objects.now)) (option_map texpr_tree value.old)) }
+    ensures { OnOk result (option_map texpr_tree value.new ≡ option_map (typing.settled_expr (map object_tree objects.now)) (option_map texpr_tree value.old)) }
 {
     match value {
         None => Ok(()),
@@ -111,7 +111,7 @@ fn settle_option(
 /// Gives each name of an object in the items of an initialiser the type that the object has at the end of the file. Where
 /// memory runs out, the list is left with nothing in it.
 pub fn settle_inits(alloc: Global, objects: &[Object], list: &mut TInits) -> Result<(), NoMemory>
-    ensures { IfOk result (λ _. map tinit_tree list.new ≡ map (typing.settled_init (map object_tree objects.now)) (map tinit_tree list.old)) }
+    ensures { OnOk result (map tinit_tree list.new ≡ map (typing.settled_init (map object_tree objects.now)) (map tinit_tree list.old)) }
 {
     let mut items = mem::replace(list, TInits::new(alloc)).into_vec();
     for item in items.iter_mut() {
@@ -125,7 +125,7 @@ pub fn settle_inits(alloc: Global, objects: &[Object], list: &mut TInits) -> Res
 /// part of the item has been settled.
 #[tactic(auto, using(c_syntax::proofs::TypedStmtTrees::typed_stmt_trees))]
 pub fn settle_init(alloc: Global, objects: &[Object], item: &mut TInit) -> Result<(), NoMemory>
-    ensures { IfOk result (λ _. tinit_tree item.new ≡ typing.settled_init (map object_tree objects.now) (tinit_tree item.old)) }
+    ensures { OnOk result (tinit_tree item.new ≡ typing.settled_init (map object_tree objects.now) (tinit_tree item.old)) }
 {
     match item {
         TInit::Store { value, .. } => settle_expr(alloc, objects, value),

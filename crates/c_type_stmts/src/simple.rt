@@ -21,6 +21,7 @@ use c_type_decls::{Made, declaration};
 use c_type_jumps::{Context, break_of, continue_of, goto_of};
 use c_type_names::{TypeError, World};
 use c_type_stmt_parts::{dropped, empty_node, expression_node, return_of};
+use std::alloc::AllocError as NoMemory;
 
 /// One statement behind what stands before it, or its refusal.
 pub(crate) fn one_behind(done: Made, typed: Result<TStmt, TypeError>) -> Result<Made, TypeError>
@@ -29,8 +30,19 @@ pub(crate) fn one_behind(done: Made, typed: Result<TStmt, TypeError>) -> Result<
 {
     let mut done = done;
     let node = typed!(typed);
+    make_room(&mut done)?;
     done.push(node)?;
     Ok(done)
+}
+
+// Room for one statement alone where there is none yet: most lists have no more, and a list that grows begins with four.
+fn make_room(done: &mut Made) -> Result<(), NoMemory>
+    ensures { made_tree done.new ≡ made_tree done.old }
+{
+    if done.items.is_empty() {
+        done.items.reserve_exact(1)?;
+    }
+    Ok(())
 }
 
 /// A declaration behind what stands before it.
