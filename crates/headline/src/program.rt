@@ -33,7 +33,7 @@ pub fn program_of(alloc: Global, bytes: &[u8]) -> Result<Read, AllocError>
     ensures { IfOk result (λ read. Tells bytes.now read) }
 {
     match lex(alloc, 0, bytes) {
-        Ok(tokens) => parsed(alloc, &tokens),
+        Ok(tokens) => parsed(alloc, tokens),
         Err(LexError::NoMemory) => Err(AllocError),
         Err(LexError::BadByte(at)) => Ok(Read::Refused(Refusal::Lexing(Reason::BadByte, at))),
         Err(LexError::Unterminated(at)) => {
@@ -46,11 +46,13 @@ pub fn program_of(alloc: Global, bytes: &[u8]) -> Result<Read, AllocError>
     }
 }
 
-// The program of bytes that are cut into these tokens.
-fn parsed(alloc: Global, tokens: &Tokens) -> Result<Read, AllocError>
-    ensures { IfOk result (λ read. (bytes : List ℕ) → length bytes ≤ 4194304 → IsCut 0 bytes tokens.now → Tells bytes read) }
+// The program of bytes that are cut into these tokens, which are let go of before their file is typed.
+fn parsed(alloc: Global, tokens: Tokens) -> Result<Read, AllocError>
+    ensures { IfOk result (λ read. (bytes : List ℕ) → length bytes ≤ 4194304 → IsCut 0 bytes tokens → Tells bytes read) }
 {
-    match parse(alloc, tokens) {
+    let tree = parse(alloc, &tokens);
+    drop(tokens);
+    match tree {
         Ok(file) => typed(alloc, file),
         Err(ParseError::NoMemory) => Err(AllocError),
         Err(ParseError::Syntax(at)) => Ok(Read::Refused(Refusal::Syntax(at))),

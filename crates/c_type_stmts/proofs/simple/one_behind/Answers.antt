@@ -1,8 +1,8 @@
-use Rattle.std.proofs.Common.{ap}
+use Rattle.std.proofs.Common.{ap, ◌∙◌}
 use Rattle.std.proofs.lemmas.Option.{IfSome_then}
 use Rattle.c_syntax.specs.TypedStmt.{tstmt_tree}
 use Rattle.c_typing.specs.Decls.{Made}
-use Rattle.c_typing.specs.Stmts.{TypesStmt, one}
+use Rattle.c_typing.specs.Stmts.{TypesStmt, one, with_items}
 use Rattle.c_typing.specs.World.{Typed, goes_on, stops}
 use Rattle.c_type_names.specs.Views.{refusal_of}
 use Rattle.c_type_stmts.proofs.Results.{typed_in, refused_in}
@@ -16,4 +16,5 @@ returns-in-Err c w v around s p =
 pub returns : goal.returns
 returns c w v around s p =
     goes_on (typed_in (TypesStmt w around s) (λ node. one (tstmt_tree node)) v c.args.typed c.in-Ok.typed c.in-Ok.is p)
-    (ap (λ (made : Made). Typed made v) c.in_ok-push.ensures)
+    (ap (λ (made : Made). Typed made v)
+    (c.in_ok-push.ensures ∙ ap (λ (made : Made). with_items made (one (tstmt_tree c.in-Ok.typed))) c.make_room.ensures))
