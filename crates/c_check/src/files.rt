@@ -52,7 +52,14 @@ fn outers(world: &mut World, around: Context, items: Vec<Outer>) -> Result<(), T
     let mut left = items;
     left.reverse();
     'each: while let Some(item) = left.pop() {
-        typed!(outer(world, around, &item));
+        typed!(outer_once(world, around, item));
     }
     Ok(())
+}
+
+// A declaration or a function, which is let go of once it is typed.
+fn outer_once(world: &mut World, around: Context, item: Outer) -> Result<(), TypeError>
+    ensures { Answers (files.TypesOuter (world_of world.old) (context_tree around.entry) (outer_tree item)) (λ _. tt) (world_of world.new) result }
+{
+    outer(world, around, &item)
 }
