@@ -43,6 +43,6 @@ pub use program::{
     InitByte, InitBytes, Initial, Initials, Member, Members, Objects, Plan, StructDef, StructDefs,
     TFunction, TFunctions, TProgram,
 };
-pub use statement::{BlockKind, TBlock, TInit, TInits, TStmt, TStmts};
+pub use statement::{BlockKind, TInit, TInits, TStmt, TStmts};
 pub use typed::{TExpr, TExprs, TLvalue};
 pub use types::{CType, Object, Target, same_type};

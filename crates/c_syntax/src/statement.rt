@@ -1,9 +1,9 @@
 // Typed statements.
 #![tactic(auto, using(crate::proofs::Trees::the_trees))]
 
-ghost use Rattle.std.specs.Prelude.{◌≡◌, MatchResult};
+ghost use Rattle.std.specs.Prelude.{◌≡◌};
 ghost use Rattle.c_syntax.specs.TypedParts.{tstmt_pos};
-ghost use Rattle.c_syntax.specs.TypedStmt.{none, Block, tstmt_tree, tstmts_from, tstmts_tree};
+ghost use Rattle.c_syntax.specs.TypedStmt.{none, tstmt_tree, tstmts_from, tstmts_tree};
 
 use crate::{CType, Extent, Numbers, Pos, TExpr};
 use std::alloc::Global;
@@ -232,15 +232,6 @@ pub struct TStmts {
     items: Vec<TStmt>,
 }
 
-/// What a block is made of.
-#[derive(Drop)]
-pub struct TBlock {
-    pub pos: Pos,
-    pub kind: BlockKind,
-    pub objects: Numbers,
-    pub items: TStmts,
-}
-
 impl TStmt {
     /// The place of the node.
     pub fn pos(&self) -> Pos
@@ -264,26 +255,6 @@ impl TStmt {
             | TStmt::Label { pos, .. }
             | TStmt::Case { pos, .. }
             | TStmt::Default { pos, .. } => *pos,
-        }
-    }
-
-    /// What the block is made of, given back without taking memory; the statement itself where it is no block.
-    pub fn into_block(self) -> Result<TBlock, TStmt>
-        ensures { MatchResult result (λ b. tstmt_tree self ≡ Block b.pos b.kind b.objects (tstmts_tree b.items)) (λ other. other ≡ self) }
-    {
-        match self {
-            TStmt::Block {
-                pos,
-                kind,
-                objects,
-                items,
-            } => Ok(TBlock {
-                pos,
-                kind,
-                objects,
-                items,
-            }),
-            other => Err(other),
         }
     }
 }
