@@ -9,8 +9,8 @@ use Rattle.std.proofs.lemmas.Nat.{mod-pow-add, shr-shr}
 use Rattle.std.proofs.lemmas.List.{get_or-take, get_or-drop, ext_get_or}
 use Rattle.std.proofs.lemmas.Bool.Decides.{Decides-int_eq}
 use mir.Val.{bits}
-use Rattle.c_written.specs.declared.int_type.IntType.{IntType}
-use Rattle.c_written.specs.declared.int_type.IntType.TheVariants.{Char, SChar, UChar, Short, UShort, Int, UInt, Long, ULong, LLong, ULLong}
+use Rattle.c_syntax_written.specs.declared.int_type.IntType.{IntType}
+use Rattle.c_syntax_written.specs.declared.int_type.IntType.TheVariants.{Char, SChar, UChar, Short, UShort, Int, UInt, Long, ULong, LLong, ULLong}
 use Rattle.block_mem.specs.declared.types.Byte.{Byte}
 use Rattle.block_mem.specs.declared.types.Byte.TheVariants.{Undef, Num, Frag}
 use Rattle.block_mem.specs.declared.types.Pointer.{Pointer}
@@ -18,7 +18,7 @@ use Rattle.block_mem.specs.declared.types.Value.{Value}
 use Rattle.block_mem.specs.declared.types.Value.TheVariants as values
 use Rattle.block_mem.specs.declared.types.Scalar.{Scalar}
 use Rattle.block_mem.specs.declared.types.Scalar.TheVariants as scalars
-use Rattle.c_written.specs.Integer.{std_width, is_signed, HasNumber}
+use Rattle.c_syntax_written.specs.Integer.{std_width, is_signed, HasNumber}
 use Rattle.block_mem.specs.Numbers.{bits_in, number_in, low_bytes, low_first, number_of}
 use Rattle.block_mem.specs.Pieces.{pieces, is_piece, are_pieces, is_cut, cut_byte, cut, get_bytes, put_bytes, stored}
 use Rattle.block_mem.specs.Bytes.{size_of, IsOf, bytes_of, has_undef, value_of, pointer_of}

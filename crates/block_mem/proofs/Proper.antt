@@ -12,7 +12,7 @@ use Rattle.block_mem.specs.declared.types.Pointer.{Pointer}
 use Rattle.block_mem.specs.declared.types.Value.{Value}
 use Rattle.block_mem.specs.declared.types.Value.TheVariants as values
 use Rattle.block_mem.specs.declared.types.Scalar.{Scalar}
-use Rattle.c_written.specs.Integer.{std_width}
+use Rattle.c_syntax_written.specs.Integer.{std_width}
 use Rattle.block_mem.specs.Numbers.{bits_in, low_bytes}
 use Rattle.block_mem.specs.Pieces.{pieces, is_cut, cut_byte, is_whole, taken_byte, taken, stored}
 use Rattle.block_mem.specs.Bytes.{size_of, IsOf, bytes_of}

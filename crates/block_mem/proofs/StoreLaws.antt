@@ -4,7 +4,7 @@ use Rattle.std.specs.Int.{byte_len}
 use Rattle.std.specs.Option.{ok_or}
 use Rattle.std.proofs.lemmas.Bool.{leb-true}
 use Rattle.std.proofs.lemmas.List.{drop-take, take-take, drop-drop}
-use Rattle.c_written.specs.declared.int_type.IntType.{IntType}
+use Rattle.c_syntax_written.specs.declared.int_type.IntType.{IntType}
 use Rattle.c_syntax.specs.declared.alarm.WrongKind.{WrongKind}
 use Rattle.c_syntax.specs.declared.alarm.WrongKind.TheVariants.{Dangling, Access, Alignment, ReadOnly, Fragment, Indeterminate}
 use Rattle.block_mem.specs.declared.types.Byte.{Byte}
@@ -14,7 +14,7 @@ use Rattle.block_mem.specs.declared.types.Value.{Value}
 use Rattle.block_mem.specs.declared.types.Value.TheVariants as values
 use Rattle.block_mem.specs.declared.types.Scalar.{Scalar}
 use Rattle.block_mem.specs.declared.types.Scalar.TheVariants as scalars
-use Rattle.c_written.specs.Integer.{std_width}
+use Rattle.c_syntax_written.specs.Integer.{std_width}
 use Rattle.block_mem.specs.Numbers.{bits_in, number_in, low_bytes}
 use Rattle.block_mem.specs.Pieces.{get_bytes, stored, taken, cut_byte}
 use Rattle.block_mem.specs.Bytes.{size_of, IsOf, bytes_of, value_of}

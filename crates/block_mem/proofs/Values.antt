@@ -1,14 +1,14 @@
 -- Bytes of values.
 use Rattle.std.proofs.Common.{ℕ, ℤ, zero, suc, ◌≡◌, ◌+◌, ◌<◌, ◌≤◌, ◌%◌, ◌/◌, true, List, ◌∷◌, length, take, drop, get_or, refl, subst, ap, ◌∙◌, arith, lit≤, drop-cons}
 use Rattle.std.specs.Int.{byte_len}
-use Rattle.c_written.specs.declared.int_type.IntType.{IntType}
-use Rattle.c_written.specs.declared.int_type.IntType.TheVariants.{Char, SChar, UChar, Short, UShort, Int, UInt, Long, ULong, LLong, ULLong}
+use Rattle.c_syntax_written.specs.declared.int_type.IntType.{IntType}
+use Rattle.c_syntax_written.specs.declared.int_type.IntType.TheVariants.{Char, SChar, UChar, Short, UShort, Int, UInt, Long, ULong, LLong, ULLong}
 use Rattle.block_mem.specs.declared.types.Byte.{Byte}
 use Rattle.block_mem.specs.declared.types.Byte.TheVariants.{Undef, Num, Frag}
 use Rattle.block_mem.specs.declared.types.Value.TheVariants as values
 use Rattle.block_mem.specs.declared.types.Scalar.{Scalar}
 use Rattle.block_mem.specs.declared.types.Scalar.TheVariants as scalars
-use Rattle.c_written.specs.Integer.{std_width}
+use Rattle.c_syntax_written.specs.Integer.{std_width}
 use Rattle.block_mem.specs.Numbers.{bits_in, low_bytes}
 use Rattle.block_mem.specs.Bytes.{size_of, IsOf, bytes_of, has_undef}
 

@@ -1,13 +1,13 @@
 -- What holds of memory after bytes were written.
 use Rattle.std.specs.Prelude.{ℕ, ◌≡◌, ◌≢◌, ◌+◌, ◌*◌, ◌/◌, ◌%◌, ◌^◌, ◌<◌, ◌≤◌, ◌⊎◌, List, length, Ok, slice_index_or}
 use Rattle.std.specs.Int.{byte_len}
-use Rattle.c_written.specs.declared.int_type.IntType.{IntType}
+use Rattle.c_syntax_written.specs.declared.int_type.IntType.{IntType}
 use Rattle.block_mem.specs.declared.types.Byte.TheVariants.{Undef}
 use Rattle.block_mem.specs.declared.types.Pointer.{Pointer}
 use Rattle.block_mem.specs.declared.types.Value.{Value}
 use Rattle.block_mem.specs.declared.types.Value.TheVariants as values
 use Rattle.block_mem.specs.declared.types.Scalar.TheVariants as scalars
-use Rattle.c_written.specs.Integer.{std_width}
+use Rattle.c_syntax_written.specs.Integer.{std_width}
 use Rattle.block_mem.specs.Numbers.{bits_in, number_in}
 use Rattle.block_mem.specs.Pieces.{get_bytes, cut_byte}
 use Rattle.block_mem.specs.Block.{BlockView}

@@ -9,7 +9,7 @@ use Rattle.block_mem.specs.declared.types.Value.{Value}
 use Rattle.block_mem.specs.declared.types.Value.TheVariants as values
 use Rattle.block_mem.specs.declared.types.Scalar.{Scalar}
 use Rattle.block_mem.specs.declared.types.Scalar.TheVariants as scalars
-use Rattle.c_written.specs.Integer.{std_width, HasNumber}
+use Rattle.c_syntax_written.specs.Integer.{std_width, HasNumber}
 use Rattle.block_mem.specs.Numbers.{bits_in, number_in, low_bytes, number_of}
 use Rattle.block_mem.specs.Pieces.{pieces, are_pieces}
 

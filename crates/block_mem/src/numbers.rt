@@ -1,7 +1,7 @@
 // Whole numbers as bytes.
 ghost use Rattle.std.specs.Prelude.{◌≡◌, ◌<◌, ◌≤◌, ◌+◌, ◌*◌, ◌^◌, pos, length, IfSome};
 ghost use Rattle.std.specs.Int.{byte_len};
-ghost use Rattle.c_written.specs.Integer.{std_width, HasNumber};
+ghost use Rattle.c_syntax_written.specs.Integer.{std_width, HasNumber};
 ghost use Rattle.block_mem.specs.Numbers.{bits_in, number_in, low_bytes, number_of};
 
 use crate::types::Byte;

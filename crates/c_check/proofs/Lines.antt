@@ -2,12 +2,12 @@
 use Rattle.std.proofs.Common.{◌≡◌, sym, ap, ◌∙◌, subst, List, [], ◌∷◌, ◌++◌, map, false}
 use Rattle.std.specs.Prelude.{⊤, reverse}
 use Rattle.std.proofs.lemmas.List.{reverse-append, reverse-reverse}
-use Rattle.c_written.specs.declared.place.Pos.{Pos}
-use Rattle.c_written.specs.declared.file.Outer.{Outer}
-use Rattle.c_written.specs.Written.{SpecTrees, DeclaratorTree}
-use Rattle.c_written.specs.WrittenDecl.{DeclTree}
-use Rattle.c_written.specs.WrittenFile.{OuterTree, Declared, BlockItemTrees, outer_tree}
-use Rattle.c_written.specs.WrittenFile as written
+use Rattle.c_syntax_written.specs.declared.place.Pos.{Pos}
+use Rattle.c_syntax_written.specs.declared.file.Outer.{Outer}
+use Rattle.c_syntax_written.specs.Written.{SpecTrees, DeclaratorTree}
+use Rattle.c_syntax_written.specs.WrittenDecl.{DeclTree}
+use Rattle.c_syntax_written.specs.WrittenFile.{OuterTree, Declared, BlockItemTrees, outer_tree}
+use Rattle.c_syntax_written.specs.WrittenFile as written
 use Rattle.c_typing.specs.World.{World, Outcome, Typed, Then, Is}
 use Rattle.c_typing.specs.Specifiers.{no_specs_yet, OfDeclaration, type_told}
 use Rattle.c_typing.specs.Typing.{first_of, TypesSpecs, TypesDeclarator}

@@ -12,17 +12,18 @@
 //! | the outcome of a file | `specs/Checks.antt`, by `File.TypesFile` of c_typing | `check`, `checked` |
 //! | that a file has no other outcome | `specs/Checks.antt`, by `Laws` of c_typing | `check`, `alone` |
 //! | that a typed program is well typed | `WellTyped` of c_layout | `check`, `well_typed` |
+//! | that of a text what stands at one place looks at the same | `Sites` of c_sites | `check`, `sites` |
 //!
 //! `check` takes any tree, also one that no text has. A file has any number of declarations, which are gone through by a
-//! loop, and let go of one by one once they are typed; how deep the calls go is bounded by the nesting of statements,
+//! loop, and dropped one by one once they are typed; how deep the calls go is bounded by the nesting of statements,
 //! expressions and initialisers.
 #![tactic(auto)]
 
-// What a part is typed as, or its refusal as that of the whole. `?` would convert the refusal as well.
-macro_rules! typed {
-    ($part:expr) => {
-        match $part {
-            Ok(typed) => typed,
+// The value that a call answered; its error is returned as it is. `?` would convert it as well.
+macro_rules! got {
+    ($answer:expr) => {
+        match $answer {
+            Ok(got) => got,
             Err(error) => return Err(error),
         }
     };
@@ -31,5 +32,5 @@ macro_rules! typed {
 mod files;
 mod outers;
 
-pub use c_type_names::TypeError;
+pub use c_check_names::TypeError;
 pub use files::check;

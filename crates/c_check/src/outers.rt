@@ -1,24 +1,24 @@
 // What stands in a file: declarations, and functions with their bodies.
 #![tactic(auto)]
 
-ghost use Rattle.c_written.specs.Written.{declarator_tree, specs_tree};
-ghost use Rattle.c_written.specs.WrittenFile as written;
-ghost use Rattle.c_written.specs.WrittenFile.{blockitems_tree, outer_tree};
+ghost use Rattle.c_syntax_written.specs.Written.{declarator_tree, specs_tree};
+ghost use Rattle.c_syntax_written.specs.WrittenFile as written;
+ghost use Rattle.c_syntax_written.specs.WrittenFile.{blockitems_tree, outer_tree};
 ghost use Rattle.c_typing.specs.File as files;
-ghost use Rattle.c_type_jumps.specs.ContextViews.{context_tree};
-ghost use Rattle.c_type_names.specs.Views.{Answers};
-ghost use Rattle.c_type_names.specs.Worlds.{world_of};
+ghost use Rattle.c_check_jumps.specs.ContextViews.{context_tree};
+ghost use Rattle.c_check_names.specs.Views.{Answers};
+ghost use Rattle.c_check_names.specs.Worlds.{world_of};
 
-use c_type_bodies::{definition, definition_ends};
-use c_type_declarators::{SpecPlace, type_told};
-use c_type_decls::declaration;
-use c_type_exprs::{declarator, first_of, specs};
-use c_type_jumps::{Context, Function, labels_of};
-use c_type_names::{TypeError, World};
-use c_type_stmts::block_items;
-use c_written::{BlockItems, Declarator, Outer, Pos, Specs};
+use c_check_declarators::{SpecPlace, type_told};
+use c_check_decls::declaration;
+use c_check_exprs::{declarator, first_of, specs};
+use c_check_functions::{definition, definition_ends};
+use c_check_jumps::{Context, Function, labels_of};
+use c_check_names::{TypeError, World};
+use c_check_stmts::block_items;
+use c_syntax_written::{BlockItems, Declarator, Outer, Pos, Specs};
 
-/// A declaration, or a function with its body. What a refusal leaves of the program is not told, and after want of memory
+/// A declaration, or a function with its body. What a refusal leaves of the program is not told, and once out of memory
 /// the program is only dropped.
 pub(crate) fn outer(world: &mut World, around: Context, item: &Outer) -> Result<(), TypeError>
     ensures { Answers (files.TypesOuter (world_of world.old) (context_tree around.entry) (outer_tree item.now)) (λ _. tt) (world_of world.new) result }
@@ -52,16 +52,16 @@ fn function(
         (written.Function pos (specs_tree words.now) (declarator_tree shape.now) brace (blockitems_tree body.now))) (λ _. tt) (world_of world.new) result }
 {
     let first = first_of(pos, words);
-    let made = typed!(specs(world, false, words));
+    let made = got!(specs(world, false, words));
     let storage = made.storage.clone()?;
-    let base = typed!(type_told(world.alloc(), SpecPlace::Declaration, first, made));
-    let shape = typed!(declarator(world, shape));
-    let begun = typed!(definition(world, around, first, storage.as_slice(), base, shape));
+    let base = got!(type_told(world.alloc(), SpecPlace::Declaration, first, made));
+    let shape = got!(declarator(world, shape));
+    let begun = got!(definition(world, around, first, storage.as_slice(), base, shape));
     let function = Function {
         labels: labels_of(world.alloc(), body)?,
         result: begun.result.copy()?,
     };
-    let items = typed!(block_items(world, around.in_function(&function), body));
+    let items = got!(block_items(world, around.in_function(&function), body));
     definition_ends(world, begun, brace, items);
     Ok(())
 }

@@ -1,10 +1,10 @@
 -- Constructs of a part that reads nothing, of the end, and of a part that comes first in another.
 use Rattle.std.proofs.Common.{◌≡◌, refl, sym, ◌∙◌, ap, Bool, true, false, not, ◌&&◌, ◌||◌, List, [], ◌∷◌, Some, None, true≢false}
-use Rattle.c_written.specs.declared.construct.Construct.{Construct}
-use Rattle.c_written.specs.declared.construct.Construct.TheVariants as constructs
-use Rattle.c_written.specs.declared.token.Placed.{Placed}
-use Rattle.c_written.specs.declared.token.Token.{Token}
-use Rattle.c_written.specs.declared.token.Token.TheVariants as kinds
+use Rattle.c_syntax_written.specs.declared.construct.Construct.{Construct}
+use Rattle.c_syntax_written.specs.declared.construct.Construct.TheVariants as constructs
+use Rattle.c_syntax_written.specs.declared.token.Placed.{Placed}
+use Rattle.c_syntax_written.specs.declared.token.Token.{Token}
+use Rattle.c_syntax_written.specs.declared.token.Token.TheVariants as kinds
 use Rattle.c_grammar.specs.declared.parts.Level.{Level}
 use Rattle.c_grammar.specs.declared.parts.Level.TheVariants.{Commas}
 use Rattle.c_grammar.specs.declared.parts.Role.{Role}

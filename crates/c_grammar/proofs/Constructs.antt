@@ -1,10 +1,10 @@
 -- Tokens that bear a construct of a part begin it, and none bears one of itself; nor does one that continues a part.
 use Rattle.std.proofs.Common.{◌≡◌, refl, sym, subst, Bool, true, false, not, ◌&&◌, ◌||◌, List, ◌∷◌, Option, Some, None}
-use Rattle.c_written.specs.declared.construct.Construct.{Construct}
-use Rattle.c_written.specs.declared.token.Keyword.{Keyword}
-use Rattle.c_written.specs.declared.token.Placed.{Placed}
-use Rattle.c_written.specs.declared.token.Token.{Token}
-use Rattle.c_written.specs.declared.token.Token.TheVariants as kinds
+use Rattle.c_syntax_written.specs.declared.construct.Construct.{Construct}
+use Rattle.c_syntax_written.specs.declared.token.Keyword.{Keyword}
+use Rattle.c_syntax_written.specs.declared.token.Placed.{Placed}
+use Rattle.c_syntax_written.specs.declared.token.Token.{Token}
+use Rattle.c_syntax_written.specs.declared.token.Token.TheVariants as kinds
 use Rattle.c_grammar.specs.declared.parts.Setting.{Setting}
 use Rattle.c_grammar.specs.declared.parts.Setting.TheVariants.{AtFile, InBlock, InSwitch}
 use Rattle.c_grammar.specs.declared.parts.Level.{Level}

@@ -1,11 +1,11 @@
 -- The descent takes a production that reads nothing where no token comes that continues its part.
 use Rattle.std.proofs.Common.{◌≡◌, refl, sym, ap, subst, nat_le, Bool, true, false, not, ◌&&◌, ◌||◌, List, [], ◌∷◌, Option, Some, None}
-use Rattle.c_written.specs.declared.token.Keyword.TheVariants as keywords
-use Rattle.c_written.specs.declared.token.Placed.{Placed}
-use Rattle.c_written.specs.declared.token.Punctuator.TheVariants as signs
-use Rattle.c_written.specs.declared.token.Token.{Token}
-use Rattle.c_written.specs.declared.token.Token.TheVariants as kinds
-use Rattle.c_written.specs.Written.{ExprTree, DeclaratorTree}
+use Rattle.c_syntax_written.specs.declared.token.Keyword.TheVariants as keywords
+use Rattle.c_syntax_written.specs.declared.token.Placed.{Placed}
+use Rattle.c_syntax_written.specs.declared.token.Punctuator.TheVariants as signs
+use Rattle.c_syntax_written.specs.declared.token.Token.{Token}
+use Rattle.c_syntax_written.specs.declared.token.Token.TheVariants as kinds
+use Rattle.c_syntax_written.specs.Written.{ExprTree, DeclaratorTree}
 use Rattle.c_grammar.specs.declared.parts.Level.{Level}
 use Rattle.c_grammar.specs.declared.parts.Level.TheVariants.{Commas, Ors, Ands, BitOrs, BitXors, BitAnds, Equalities, Relations, Shifts, Sums, Products}
 use Rattle.c_grammar.specs.declared.parts.Joint.{Joint}

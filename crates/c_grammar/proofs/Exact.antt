@@ -2,9 +2,9 @@
 -- refused, for the reason that it is.
 use Rattle.std.proofs.Common.{◌≡◌, List, [], ◌∷◌, ◌++◌, refl, sym, ap, ◌∙◌, subst, ◌⊎◌, inl, inr, append_assoc, append-nil}
 use Rattle.std.proofs.lemmas.List.{append_cancel_right}
-use Rattle.c_written.specs.declared.construct.Construct.{Construct}
-use Rattle.c_written.specs.declared.token.Placed.{Placed}
-use Rattle.c_written.specs.WrittenFile.{OuterTree, FileTree}
+use Rattle.c_syntax_written.specs.declared.construct.Construct.{Construct}
+use Rattle.c_syntax_written.specs.declared.token.Placed.{Placed}
+use Rattle.c_syntax_written.specs.WrittenFile.{OuterTree, FileTree}
 use Rattle.c_grammar.specs.Parts.{Outers}
 use Rattle.c_grammar.specs.Grammar.{Derives, at_start}
 use Rattle.c_grammar.specs.Front.{Place, StandsAt, Starts}

@@ -1,6 +1,6 @@
 -- What follows the parts of the productions of expressions.
 use Rattle.std.proofs.Common.{◌≡◌, refl, true, not, lit≤}
-use Rattle.c_written.specs.Written.{ExprTree}
+use Rattle.c_syntax_written.specs.Written.{ExprTree}
 use Rattle.c_grammar.specs.declared.parts.Level.{Level}
 use Rattle.c_grammar.specs.declared.parts.Level.TheVariants.{Commas, Ors}
 use Rattle.c_grammar.specs.declared.parts.Closing.{Closing}

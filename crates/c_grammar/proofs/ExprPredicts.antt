@@ -1,16 +1,16 @@
 -- The descent takes the production of expressions whose first token comes.
 use Rattle.std.proofs.Common.{◌≡◌, refl, ◌∙◌, ap, subst, true, false, List, ◌∷◌, Some}
-use Rattle.c_written.specs.declared.step.StepWay.{StepWay}
-use Rattle.c_written.specs.declared.step.StepWay.TheVariants as ways
-use Rattle.c_written.specs.declared.token.Placed.{Placed}
-use Rattle.c_written.specs.declared.token.Punctuator.TheVariants as signs
-use Rattle.c_written.specs.declared.token.Token.{Token}
-use Rattle.c_written.specs.declared.token.Token.TheVariants as kinds
-use Rattle.c_written.specs.declared.written.AssignOp.{AssignOp}
-use Rattle.c_written.specs.declared.written.AssignOp.TheVariants as assigns
-use Rattle.c_written.specs.declared.written.UnaryOp.{UnaryOp}
-use Rattle.c_written.specs.declared.written.UnaryOp.TheVariants as unaries
-use Rattle.c_written.specs.Written.{ExprTree}
+use Rattle.c_syntax_written.specs.declared.step.StepWay.{StepWay}
+use Rattle.c_syntax_written.specs.declared.step.StepWay.TheVariants as ways
+use Rattle.c_syntax_written.specs.declared.token.Placed.{Placed}
+use Rattle.c_syntax_written.specs.declared.token.Punctuator.TheVariants as signs
+use Rattle.c_syntax_written.specs.declared.token.Token.{Token}
+use Rattle.c_syntax_written.specs.declared.token.Token.TheVariants as kinds
+use Rattle.c_syntax_written.specs.declared.written.AssignOp.{AssignOp}
+use Rattle.c_syntax_written.specs.declared.written.AssignOp.TheVariants as assigns
+use Rattle.c_syntax_written.specs.declared.written.UnaryOp.{UnaryOp}
+use Rattle.c_syntax_written.specs.declared.written.UnaryOp.TheVariants as unaries
+use Rattle.c_syntax_written.specs.Written.{ExprTree}
 use Rattle.c_grammar.specs.declared.parts.Level.{Level}
 use Rattle.c_grammar.specs.declared.parts.Level.TheVariants.{Commas}
 use Rattle.c_grammar.specs.declared.parts.Closing.{Closing}

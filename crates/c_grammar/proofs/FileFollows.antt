@@ -1,10 +1,10 @@
 -- What follows the parts of the productions of initialisers, declarations, statements and files.
 use Rattle.std.proofs.Common.{◌≡◌, refl, sym, ◌∙◌, subst, Bool, true, false, not, ◌&&◌, List, lit≤}
-use Rattle.c_written.specs.declared.place.Pos.{Pos}
-use Rattle.c_written.specs.declared.token.Placed.{Placed}
-use Rattle.c_written.specs.Written.{ExprTree}
-use Rattle.c_written.specs.WrittenFile.{StmtTree}
-use Rattle.c_written.specs.WrittenFile as trees
+use Rattle.c_syntax_written.specs.declared.place.Pos.{Pos}
+use Rattle.c_syntax_written.specs.declared.token.Placed.{Placed}
+use Rattle.c_syntax_written.specs.Written.{ExprTree}
+use Rattle.c_syntax_written.specs.WrittenFile.{StmtTree}
+use Rattle.c_syntax_written.specs.WrittenFile as trees
 use Rattle.c_grammar.specs.Parts.{Scene, Part, within, Statement, Else, AStmt, Value}
 use Rattle.c_grammar.specs.declared.class.Class.{Class}
 use Rattle.c_grammar.specs.Process.{Process, give, part}

@@ -1,10 +1,10 @@
 -- The descent takes the production of initialisers, declarations, statements and files whose first token comes.
 use Rattle.std.proofs.Common.{◌≡◌, refl, ◌∙◌, ap, Bool, true, not, ◌&&◌, List, [], ◌∷◌, None}
-use Rattle.c_written.specs.declared.token.Keyword.TheVariants as keywords
-use Rattle.c_written.specs.declared.token.Placed.{Placed}
-use Rattle.c_written.specs.declared.token.Punctuator.TheVariants as signs
-use Rattle.c_written.specs.declared.token.Token.{Token}
-use Rattle.c_written.specs.declared.token.Token.TheVariants as kinds
+use Rattle.c_syntax_written.specs.declared.token.Keyword.TheVariants as keywords
+use Rattle.c_syntax_written.specs.declared.token.Placed.{Placed}
+use Rattle.c_syntax_written.specs.declared.token.Punctuator.TheVariants as signs
+use Rattle.c_syntax_written.specs.declared.token.Token.{Token}
+use Rattle.c_syntax_written.specs.declared.token.Token.TheVariants as kinds
 use Rattle.c_grammar.specs.declared.parts.Level.TheVariants.{Commas}
 use Rattle.c_grammar.specs.declared.parts.Role.TheVariants.{Naming}
 use Rattle.c_grammar.specs.Parts.{Scene, Part, Assignment, AnExpr, ADeclarator, ADecl, Declarator, Declaration, Initial, Ending, Initialiser, Item, Run, Value}

@@ -1,9 +1,9 @@
 -- What the descent does at its first token, where that is a bracket too many or bears a construct of itself.
 use Rattle.std.proofs.Common.{◌≡◌, ℕ, ◌+◌, ◌<◌, ◌≤◌, Bool, true, false, ◌&&◌, if◌then◌else◌, nat_lt, List, [], ◌∷◌, Some, refl, sym, ap, ◌∙◌, subst, ◌⊎◌, inl, inr, arith}
 use Rattle.std.proofs.lemmas.Bool.{lt-ltb, and_from}
-use Rattle.c_written.specs.declared.construct.Construct.{Construct}
-use Rattle.c_written.specs.declared.token.Placed.{Placed}
-use Rattle.c_written.specs.declared.token.Token.{Token}
+use Rattle.c_syntax_written.specs.declared.construct.Construct.{Construct}
+use Rattle.c_syntax_written.specs.declared.token.Placed.{Placed}
+use Rattle.c_syntax_written.specs.declared.token.Token.{Token}
 use Rattle.c_grammar.specs.Parts.{Scene, AnExpr, Suffixes, Part, Value}
 use Rattle.c_grammar.specs.Process.{Process, give}
 use Rattle.c_grammar.specs.Front.{a_part}

@@ -1,7 +1,7 @@
 -- The grammar's laws: a text is one file, or is refused at one token for one reason; the descent finds which.
 use Rattle.std.proofs.Common.{◌≡◌, List, [], ◌⊎◌, inl, inr}
-use Rattle.c_written.specs.declared.token.Placed.{Placed}
-use Rattle.c_written.specs.WrittenFile.{OuterTree, FileTree}
+use Rattle.c_syntax_written.specs.declared.token.Placed.{Placed}
+use Rattle.c_syntax_written.specs.WrittenFile.{OuterTree, FileTree}
 use Rattle.c_grammar.specs.Parts.{Outers}
 use Rattle.c_grammar.specs.Grammar.{at_start}
 use Rattle.c_grammar.specs.Refused.{Why, IsFile, IsRefused}

@@ -1,10 +1,10 @@
 -- What is known of the first token of a production, and what the descent takes at a token.
 use Rattle.std.proofs.Common.{◌≡◌, refl, sym, ◌∙◌, ap, ◌⊎◌, inl, inr, Bool, true, false, if◌then◌else◌, List, [], ◌∷◌, true≢false}
-use Rattle.c_written.specs.declared.token.Keyword.TheVariants as keywords
-use Rattle.c_written.specs.declared.token.Placed.{Placed}
-use Rattle.c_written.specs.declared.token.Punctuator.TheVariants as signs
-use Rattle.c_written.specs.declared.token.Token.{Token}
-use Rattle.c_written.specs.declared.token.Token.TheVariants as kinds
+use Rattle.c_syntax_written.specs.declared.token.Keyword.TheVariants as keywords
+use Rattle.c_syntax_written.specs.declared.token.Placed.{Placed}
+use Rattle.c_syntax_written.specs.declared.token.Punctuator.TheVariants as signs
+use Rattle.c_syntax_written.specs.declared.token.Token.{Token}
+use Rattle.c_syntax_written.specs.declared.token.Token.TheVariants as kinds
 use Rattle.c_grammar.specs.Parts.{Scene, Part, Value}
 use Rattle.c_grammar.specs.Classes.{Fits}
 use Rattle.c_grammar.specs.Process.{Process, give, token, part, only}

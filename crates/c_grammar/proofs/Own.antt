@@ -1,16 +1,16 @@
 -- The token of each operator, word or end is of the set that it belongs to.
 use Rattle.std.proofs.Common.{◌≡◌, refl, sym, subst, true, false, ◌||◌, Some, true≢false}
-use Rattle.c_written.specs.declared.step.StepWay.{StepWay}
-use Rattle.c_written.specs.declared.step.StepWay.TheVariants as ways
-use Rattle.c_written.specs.declared.written.AssignOp.{AssignOp}
-use Rattle.c_written.specs.declared.written.AssignOp.TheVariants as assigns
-use Rattle.c_written.specs.declared.written.BinaryOp.TheVariants as binaries
-use Rattle.c_written.specs.declared.written.StorageWord.{StorageWord}
-use Rattle.c_written.specs.declared.written.StorageWord.TheVariants as storages
-use Rattle.c_written.specs.declared.written.TypeWord.{TypeWord}
-use Rattle.c_written.specs.declared.written.TypeWord.TheVariants as type_words
-use Rattle.c_written.specs.declared.written.UnaryOp.{UnaryOp}
-use Rattle.c_written.specs.declared.written.UnaryOp.TheVariants as unaries
+use Rattle.c_syntax_written.specs.declared.step.StepWay.{StepWay}
+use Rattle.c_syntax_written.specs.declared.step.StepWay.TheVariants as ways
+use Rattle.c_syntax_written.specs.declared.written.AssignOp.{AssignOp}
+use Rattle.c_syntax_written.specs.declared.written.AssignOp.TheVariants as assigns
+use Rattle.c_syntax_written.specs.declared.written.BinaryOp.TheVariants as binaries
+use Rattle.c_syntax_written.specs.declared.written.StorageWord.{StorageWord}
+use Rattle.c_syntax_written.specs.declared.written.StorageWord.TheVariants as storages
+use Rattle.c_syntax_written.specs.declared.written.TypeWord.{TypeWord}
+use Rattle.c_syntax_written.specs.declared.written.TypeWord.TheVariants as type_words
+use Rattle.c_syntax_written.specs.declared.written.UnaryOp.{UnaryOp}
+use Rattle.c_syntax_written.specs.declared.written.UnaryOp.TheVariants as unaries
 use Rattle.c_grammar.specs.declared.parts.Level.{Level}
 use Rattle.c_grammar.specs.declared.parts.Joint.{Joint}
 use Rattle.c_grammar.specs.declared.parts.Joint.TheVariants.{Comma as comma, Binary as binary}

@@ -1,6 +1,6 @@
 -- Before each token that was read there is a place that reads it.
 use Rattle.std.proofs.Common.{◌≡◌, ℕ, Bool, true, false, List, ◌∷◌, refl, inl, inr}
-use Rattle.c_written.specs.declared.token.Placed.{Placed}
+use Rattle.c_syntax_written.specs.declared.token.Placed.{Placed}
 use Rattle.c_grammar.specs.Parts.{Scene, Part, Value}
 use Rattle.c_grammar.specs.declared.class.Class.{Class}
 use Rattle.c_grammar.specs.Classes.{Fits}

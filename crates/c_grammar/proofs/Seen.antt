@@ -1,6 +1,6 @@
 -- What the descent has read is derived, and readings go forward. Views of the descent's steps, by the process.
 use Rattle.std.proofs.Common.{◌≡◌, ℕ, Bool, true, List, ◌∷◌}
-use Rattle.c_written.specs.declared.token.Placed.{Placed}
+use Rattle.c_syntax_written.specs.declared.token.Placed.{Placed}
 use Rattle.c_grammar.specs.Parts.{Scene, Part, Value}
 use Rattle.c_grammar.specs.declared.class.Class.{Class}
 use Rattle.c_grammar.specs.Classes.{Fits}

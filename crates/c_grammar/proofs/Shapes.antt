@@ -1,6 +1,6 @@
 -- How each production begins.
 use Rattle.std.proofs.Common.{◌≡◌, refl, false}
-use Rattle.c_written.specs.Written as trees
+use Rattle.c_syntax_written.specs.Written as trees
 use Rattle.c_grammar.specs.declared.parts.Level.{Level}
 use Rattle.c_grammar.specs.declared.parts.Level.TheVariants.{Commas}
 use Rattle.c_grammar.specs.Parts.{Scene, Part, AnExpr, Value}

@@ -1,6 +1,6 @@
 -- What a part or a production leaves is the end of the tokens; which of them can read nothing.
 use Rattle.std.proofs.Common.{◌≡◌, refl, sym, ◌∙◌, ap, subst, ◌≤◌, Bool, true, false, not, ◌||◌, List, [], ◌∷◌, ◌++◌, length, length-append, append_assoc, true≢false, arith}
-use Rattle.c_written.specs.declared.token.Placed.{Placed}
+use Rattle.c_syntax_written.specs.declared.token.Placed.{Placed}
 use Rattle.c_grammar.specs.declared.parts.Level.{Level}
 use Rattle.c_grammar.specs.declared.parts.Level.TheVariants.{Commas}
 use Rattle.c_grammar.specs.declared.parts.Role.{Role}

@@ -1,7 +1,7 @@
 -- How the descent goes into a part whose production it takes, and how it ends, whatever it read.
 use Rattle.std.proofs.Common.{◌≡◌, ℕ, List, Option, Some, None, sym, ap, ◌∙◌, subst}
-use Rattle.c_written.specs.declared.construct.Construct.{Construct}
-use Rattle.c_written.specs.declared.token.Placed.{Placed}
+use Rattle.c_syntax_written.specs.declared.construct.Construct.{Construct}
+use Rattle.c_syntax_written.specs.declared.token.Placed.{Placed}
 use Rattle.c_grammar.specs.Parts.{Scene, Part, Value}
 use Rattle.c_grammar.specs.Process.{Process}
 use Rattle.c_grammar.specs.Grammar.{Produces}

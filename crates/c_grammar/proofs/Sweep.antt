@@ -1,9 +1,9 @@
 -- What holds of each keyword and each punctuator in their lists holds of all of them.
 use Rattle.std.proofs.Common.{◌≡◌, refl, sym, ℕ, zero, suc, Bool, true, false, ◌&&◌, List, [], ◌∷◌, Option, Some, None, true≢false}
-use Rattle.c_written.specs.declared.token.Keyword.{Keyword}
-use Rattle.c_written.specs.declared.token.Keyword.TheVariants as keywords
-use Rattle.c_written.specs.declared.token.Punctuator.{Punctuator}
-use Rattle.c_written.specs.declared.token.Punctuator.TheVariants as signs
+use Rattle.c_syntax_written.specs.declared.token.Keyword.{Keyword}
+use Rattle.c_syntax_written.specs.declared.token.Keyword.TheVariants as keywords
+use Rattle.c_syntax_written.specs.declared.token.Punctuator.{Punctuator}
+use Rattle.c_syntax_written.specs.declared.token.Punctuator.TheVariants as signs
 
 pub and_left : (a b : Bool) → (a && b) ≡ true → a ≡ true
 and_left true b h = refl

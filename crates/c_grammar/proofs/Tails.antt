@@ -1,6 +1,6 @@
 -- Tails of the tokens: where a reading that goes forward stands.
 use Rattle.std.proofs.Common.{◌≡◌, ℕ, suc, ◌<◌, ◌≤◌, List, [], ◌∷◌, ◌++◌, refl, sym, ap, subst, ◌⊎◌, inl, inr, arith}
-use Rattle.c_written.specs.declared.token.Placed.{Placed}
+use Rattle.c_syntax_written.specs.declared.token.Placed.{Placed}
 
 -- the first is the second, or a tail of it
 pub data Tail : List Placed → List Placed → Type 0 where

@@ -1,8 +1,8 @@
 -- The descent has an outcome on all tokens: each part that comes before a token is read is of a lower rank.
 use Rattle.std.proofs.Common.{◌≡◌, ℕ, zero, suc, ◌+◌, ◌<◌, ◌≤◌, Bool, true, List, [], ◌∷◌, Option, Some, None, refl, sym, subst, inl, inr, arith}
 use Rattle.std.proofs.lemmas.Bool.{cases_Bool, cases_lt}
-use Rattle.c_written.specs.declared.construct.Construct.{Construct}
-use Rattle.c_written.specs.declared.token.Placed.{Placed}
+use Rattle.c_syntax_written.specs.declared.construct.Construct.{Construct}
+use Rattle.c_syntax_written.specs.declared.token.Placed.{Placed}
 use Rattle.c_grammar.specs.Parts.{Scene, Part, Value}
 use Rattle.c_grammar.specs.declared.class.Class.{Class}
 use Rattle.c_grammar.specs.Classes.{Fits}

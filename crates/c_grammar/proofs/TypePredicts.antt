@@ -1,15 +1,15 @@
 -- The descent takes the production of specs and declarators whose first token comes.
 use Rattle.std.proofs.Common.{◌≡◌, refl, sym, ◌∙◌, ap, subst, Bool, true, not, ◌&&◌, ◌||◌, List, ◌∷◌, None, true≢false}
-use Rattle.c_written.specs.declared.construct.Construct.TheVariants as constructs
-use Rattle.c_written.specs.declared.place.Pos.{Pos}
-use Rattle.c_written.specs.declared.token.Placed.{Placed}
-use Rattle.c_written.specs.declared.token.Punctuator.TheVariants as signs
-use Rattle.c_written.specs.declared.token.Token.{Token}
-use Rattle.c_written.specs.declared.token.Token.TheVariants as kinds
-use Rattle.c_written.specs.declared.written.StorageWord.{StorageWord}
-use Rattle.c_written.specs.declared.written.StorageWord.TheVariants as storages
-use Rattle.c_written.specs.declared.written.TypeWord.{TypeWord}
-use Rattle.c_written.specs.declared.written.TypeWord.TheVariants as type_words
+use Rattle.c_syntax_written.specs.declared.construct.Construct.TheVariants as constructs
+use Rattle.c_syntax_written.specs.declared.place.Pos.{Pos}
+use Rattle.c_syntax_written.specs.declared.token.Placed.{Placed}
+use Rattle.c_syntax_written.specs.declared.token.Punctuator.TheVariants as signs
+use Rattle.c_syntax_written.specs.declared.token.Token.{Token}
+use Rattle.c_syntax_written.specs.declared.token.Token.TheVariants as kinds
+use Rattle.c_syntax_written.specs.declared.written.StorageWord.{StorageWord}
+use Rattle.c_syntax_written.specs.declared.written.StorageWord.TheVariants as storages
+use Rattle.c_syntax_written.specs.declared.written.TypeWord.{TypeWord}
+use Rattle.c_syntax_written.specs.declared.written.TypeWord.TheVariants as type_words
 use Rattle.c_grammar.specs.declared.parts.Role.{Role}
 use Rattle.c_grammar.specs.Parts.{Scene, Part, Conditional, AnExpr, ASpec, ADeclarator, Spec, Declarator, Direct, AMember, AnEnumerator, Parameter, Value}
 use Rattle.c_grammar.specs.declared.class.Class.TheVariants.{TypeName as type_name, AnyWord as any_word, Word as word}

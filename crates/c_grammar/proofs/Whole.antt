@@ -1,7 +1,7 @@
 -- A whole file: it ends with the tokens, and stands open there. The descent over it from its start.
 use Rattle.std.proofs.Common.{◌≡◌, ℕ, true, false, List, [], ◌∷◌, refl, sym, ◌∙◌, subst, arith}
-use Rattle.c_written.specs.declared.token.Placed.{Placed}
-use Rattle.c_written.specs.WrittenFile.{OuterTree}
+use Rattle.c_syntax_written.specs.declared.token.Placed.{Placed}
+use Rattle.c_syntax_written.specs.WrittenFile.{OuterTree}
 use Rattle.c_grammar.specs.Parts.{Scene, Part, AnOuter, Outer, Outers, Value}
 use Rattle.c_grammar.specs.Process.{Process, give, part, only}
 use Rattle.c_grammar.specs.Ahead.{at_end}

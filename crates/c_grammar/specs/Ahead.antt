@@ -1,11 +1,11 @@
 -- What the tokens that follow tell, where one production must look further than its first token.
 use Rattle.std.specs.Prelude.{Bool, true, false, not, ◌&&◌, ◌||◌, List, [], ◌∷◌}
-use Rattle.c_written.specs.declared.token.Keyword.{Keyword}
-use Rattle.c_written.specs.declared.token.Keyword.TheVariants as keywords
-use Rattle.c_written.specs.declared.token.Placed.{Placed}
-use Rattle.c_written.specs.declared.token.Punctuator.TheVariants as signs
-use Rattle.c_written.specs.declared.token.Token.{Token}
-use Rattle.c_written.specs.declared.token.Token.TheVariants as kinds
+use Rattle.c_syntax_written.specs.declared.token.Keyword.{Keyword}
+use Rattle.c_syntax_written.specs.declared.token.Keyword.TheVariants as keywords
+use Rattle.c_syntax_written.specs.declared.token.Placed.{Placed}
+use Rattle.c_syntax_written.specs.declared.token.Punctuator.TheVariants as signs
+use Rattle.c_syntax_written.specs.declared.token.Token.{Token}
+use Rattle.c_syntax_written.specs.declared.token.Token.TheVariants as kinds
 use Rattle.c_grammar.specs.Parts.{Scene}
 use Rattle.c_grammar.specs.Classes.{names_type}
 

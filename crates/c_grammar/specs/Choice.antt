@@ -1,23 +1,23 @@
 -- Which production a descent takes for a part, by the first token and, where it must, the second. It is a
 -- step of the proof: the grammar says what is right.
 use Rattle.std.specs.Prelude.{◌≡◌, refl, ℕ, Bool, true, false, not, ◌&&◌, if◌then◌else◌, List, [], ◌∷◌, Option, Some, None}
-use Rattle.c_written.specs.declared.step.StepWay.TheVariants as ways
-use Rattle.c_written.specs.declared.place.Pos.{Pos}
-use Rattle.c_written.specs.declared.token.Keyword.{Keyword}
-use Rattle.c_written.specs.declared.token.Keyword.TheVariants as keywords
-use Rattle.c_written.specs.declared.token.Placed.{Placed}
-use Rattle.c_written.specs.declared.token.Punctuator.{Punctuator}
-use Rattle.c_written.specs.declared.token.Punctuator.TheVariants as signs
-use Rattle.c_written.specs.declared.token.Token.{Token}
-use Rattle.c_written.specs.declared.token.Token.TheVariants as kinds
-use Rattle.c_written.specs.declared.written.AssignOp.{AssignOp}
-use Rattle.c_written.specs.declared.written.AssignOp.TheVariants as assigns
-use Rattle.c_written.specs.declared.written.BinaryOp.TheVariants as binaries
-use Rattle.c_written.specs.declared.written.StorageWord.TheVariants as storages
-use Rattle.c_written.specs.declared.written.TypeWord.TheVariants as type_words
-use Rattle.c_written.specs.declared.written.UnaryOp.TheVariants as unaries
-use Rattle.c_written.specs.Written.{ExprTree}
-use Rattle.c_written.specs.Written as trees
+use Rattle.c_syntax_written.specs.declared.step.StepWay.TheVariants as ways
+use Rattle.c_syntax_written.specs.declared.place.Pos.{Pos}
+use Rattle.c_syntax_written.specs.declared.token.Keyword.{Keyword}
+use Rattle.c_syntax_written.specs.declared.token.Keyword.TheVariants as keywords
+use Rattle.c_syntax_written.specs.declared.token.Placed.{Placed}
+use Rattle.c_syntax_written.specs.declared.token.Punctuator.{Punctuator}
+use Rattle.c_syntax_written.specs.declared.token.Punctuator.TheVariants as signs
+use Rattle.c_syntax_written.specs.declared.token.Token.{Token}
+use Rattle.c_syntax_written.specs.declared.token.Token.TheVariants as kinds
+use Rattle.c_syntax_written.specs.declared.written.AssignOp.{AssignOp}
+use Rattle.c_syntax_written.specs.declared.written.AssignOp.TheVariants as assigns
+use Rattle.c_syntax_written.specs.declared.written.BinaryOp.TheVariants as binaries
+use Rattle.c_syntax_written.specs.declared.written.StorageWord.TheVariants as storages
+use Rattle.c_syntax_written.specs.declared.written.TypeWord.TheVariants as type_words
+use Rattle.c_syntax_written.specs.declared.written.UnaryOp.TheVariants as unaries
+use Rattle.c_syntax_written.specs.Written.{ExprTree}
+use Rattle.c_syntax_written.specs.Written as trees
 use Rattle.c_grammar.specs.declared.parts.Level.{Level}
 use Rattle.c_grammar.specs.declared.parts.Level.TheVariants.{Commas, Ors, Ands, BitOrs, BitXors, BitAnds, Equalities, Relations, Shifts, Sums, Products}
 use Rattle.c_grammar.specs.declared.parts.Joint.{Joint}

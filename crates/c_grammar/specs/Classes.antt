@@ -2,24 +2,24 @@
 use Rattle.std.specs.Prelude.{◌≡◌, ℕ, ◌-◌, ◌%◌, ℤ, pos, negsuc, Bool, true, false, List, []}
 use Rattle.std.specs.List.{list_any}
 use Rattle.std.specs.Str.{bytes_eq}
-use Rattle.c_written.specs.declared.step.StepWay.{StepWay}
-use Rattle.c_written.specs.declared.step.StepWay.TheVariants as ways
-use Rattle.c_written.specs.declared.token.Constant.{Constant}
-use Rattle.c_written.specs.declared.token.Keyword.{Keyword}
-use Rattle.c_written.specs.declared.token.Keyword.TheVariants as keywords
-use Rattle.c_written.specs.declared.token.Punctuator.{Punctuator}
-use Rattle.c_written.specs.declared.token.Punctuator.TheVariants as signs
-use Rattle.c_written.specs.declared.token.Token.{Token}
-use Rattle.c_written.specs.declared.token.Token.TheVariants as kinds
-use Rattle.c_written.specs.declared.written.AssignOp.{AssignOp}
-use Rattle.c_written.specs.declared.written.AssignOp.TheVariants as assigns
-use Rattle.c_written.specs.declared.written.BinaryOp.TheVariants as binaries
-use Rattle.c_written.specs.declared.written.StorageWord.{StorageWord}
-use Rattle.c_written.specs.declared.written.StorageWord.TheVariants as storages
-use Rattle.c_written.specs.declared.written.TypeWord.{TypeWord}
-use Rattle.c_written.specs.declared.written.TypeWord.TheVariants as type_words
-use Rattle.c_written.specs.declared.written.UnaryOp.{UnaryOp}
-use Rattle.c_written.specs.declared.written.UnaryOp.TheVariants as unaries
+use Rattle.c_syntax_written.specs.declared.step.StepWay.{StepWay}
+use Rattle.c_syntax_written.specs.declared.step.StepWay.TheVariants as ways
+use Rattle.c_syntax_written.specs.declared.token.Constant.{Constant}
+use Rattle.c_syntax_written.specs.declared.token.Keyword.{Keyword}
+use Rattle.c_syntax_written.specs.declared.token.Keyword.TheVariants as keywords
+use Rattle.c_syntax_written.specs.declared.token.Punctuator.{Punctuator}
+use Rattle.c_syntax_written.specs.declared.token.Punctuator.TheVariants as signs
+use Rattle.c_syntax_written.specs.declared.token.Token.{Token}
+use Rattle.c_syntax_written.specs.declared.token.Token.TheVariants as kinds
+use Rattle.c_syntax_written.specs.declared.written.AssignOp.{AssignOp}
+use Rattle.c_syntax_written.specs.declared.written.AssignOp.TheVariants as assigns
+use Rattle.c_syntax_written.specs.declared.written.BinaryOp.TheVariants as binaries
+use Rattle.c_syntax_written.specs.declared.written.StorageWord.{StorageWord}
+use Rattle.c_syntax_written.specs.declared.written.StorageWord.TheVariants as storages
+use Rattle.c_syntax_written.specs.declared.written.TypeWord.{TypeWord}
+use Rattle.c_syntax_written.specs.declared.written.TypeWord.TheVariants as type_words
+use Rattle.c_syntax_written.specs.declared.written.UnaryOp.{UnaryOp}
+use Rattle.c_syntax_written.specs.declared.written.UnaryOp.TheVariants as unaries
 use Rattle.c_grammar.specs.declared.class.Class.{Class}
 use Rattle.c_grammar.specs.declared.class.Class.TheVariants.{Keyword as keyword, Sign as sign, Word as word, AnyWord as any_word, TypeName as type_name, Number as number, Character as character, Text as text}
 use Rattle.c_grammar.specs.declared.parts.Level.{Level}

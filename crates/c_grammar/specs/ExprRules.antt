@@ -1,13 +1,13 @@
 -- The productions of expressions (C11 6.5).
 use Rattle.std.specs.Prelude.{◌≡◌, ℕ, List, ◌++◌, Some, None}
-use Rattle.c_written.specs.declared.step.StepWay.{StepWay}
-use Rattle.c_written.specs.declared.place.Pos.{Pos}
-use Rattle.c_written.specs.declared.token.Keyword.TheVariants as keywords
-use Rattle.c_written.specs.declared.token.Punctuator.TheVariants as signs
-use Rattle.c_written.specs.declared.written.AssignOp.{AssignOp}
-use Rattle.c_written.specs.declared.written.UnaryOp.{UnaryOp}
-use Rattle.c_written.specs.Written.{ExprTree, ExprTrees, no_exprs, more_exprs, exprs_then}
-use Rattle.c_written.specs.Written as trees
+use Rattle.c_syntax_written.specs.declared.step.StepWay.{StepWay}
+use Rattle.c_syntax_written.specs.declared.place.Pos.{Pos}
+use Rattle.c_syntax_written.specs.declared.token.Keyword.TheVariants as keywords
+use Rattle.c_syntax_written.specs.declared.token.Punctuator.TheVariants as signs
+use Rattle.c_syntax_written.specs.declared.written.AssignOp.{AssignOp}
+use Rattle.c_syntax_written.specs.declared.written.UnaryOp.{UnaryOp}
+use Rattle.c_syntax_written.specs.Written.{ExprTree, ExprTrees, no_exprs, more_exprs, exprs_then}
+use Rattle.c_syntax_written.specs.Written as trees
 use Rattle.c_grammar.specs.declared.parts.Level.{Level}
 use Rattle.c_grammar.specs.declared.parts.Level.TheVariants.{Commas, Ors, Ands, BitOrs, BitXors, BitAnds, Equalities, Relations, Shifts, Sums, Products}
 use Rattle.c_grammar.specs.declared.parts.Joint.{Joint}

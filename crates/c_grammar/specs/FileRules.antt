@@ -1,14 +1,14 @@
 -- The productions of initialisers, declarations, statements and files (C11 6.7, 6.7.9, 6.8 and 6.9).
 use Rattle.std.specs.Prelude.{Bool, true, false, not, List, [], ◌∷◌, ◌++◌, Some, None}
-use Rattle.c_written.specs.declared.place.Pos.{Pos}
-use Rattle.c_written.specs.declared.token.Keyword.TheVariants as keywords
-use Rattle.c_written.specs.declared.token.Punctuator.TheVariants as signs
-use Rattle.c_written.specs.Written.{ExprTree, SpecTrees, DeclaratorTree}
-use Rattle.c_written.specs.WrittenParts.{expr_pos}
-use Rattle.c_written.specs.WrittenDecl.{InitTree, InitTrees, no_inits, more_inits, inits_then, InitDeclaratorTree, DeclTree}
-use Rattle.c_written.specs.WrittenDecl as inits
-use Rattle.c_written.specs.WrittenFile.{StmtTree, BlockItemTrees, none, more, blockitems_then, OuterTree}
-use Rattle.c_written.specs.WrittenFile as trees
+use Rattle.c_syntax_written.specs.declared.place.Pos.{Pos}
+use Rattle.c_syntax_written.specs.declared.token.Keyword.TheVariants as keywords
+use Rattle.c_syntax_written.specs.declared.token.Punctuator.TheVariants as signs
+use Rattle.c_syntax_written.specs.Written.{ExprTree, SpecTrees, DeclaratorTree}
+use Rattle.c_syntax_written.specs.WrittenParts.{expr_pos}
+use Rattle.c_syntax_written.specs.WrittenDecl.{InitTree, InitTrees, no_inits, more_inits, inits_then, InitDeclaratorTree, DeclTree}
+use Rattle.c_syntax_written.specs.WrittenDecl as inits
+use Rattle.c_syntax_written.specs.WrittenFile.{StmtTree, BlockItemTrees, none, more, blockitems_then, OuterTree}
+use Rattle.c_syntax_written.specs.WrittenFile as trees
 use Rattle.c_grammar.specs.declared.parts.Role.TheVariants.{Naming}
 use Rattle.c_grammar.specs.declared.parts.Closing.TheVariants.{BySemicolon as by_semicolon, ByParenthesis as by_parenthesis}
 use Rattle.c_grammar.specs.Parts.{Scene, within, switched, Assignment, Conditional, Declarator, Statement, Else, Declaration, Declared, Initial, Ending, Outer, OuterDeclared, OuterInitial, Part, AnExpr, ADeclarator, AStmt, ADecl, AnOuter, Close, Specs, Initialiser, Initialisers, MoreInitialisers, NextInitialiser, Optionally, ForStart, Items, Item, Outers, Value}

@@ -1,7 +1,7 @@
 -- Which tokens begin a file, what may come behind them, and how many forms are unfinished there.
 use Rattle.std.specs.Prelude.{◌≡◌, ℕ, ◌+◌, Bool, true, false, List, [], ◌∷◌, ◌++◌}
-use Rattle.c_written.specs.declared.token.Placed.{Placed}
-use Rattle.c_written.specs.WrittenFile.{FileTree}
+use Rattle.c_syntax_written.specs.declared.token.Placed.{Placed}
+use Rattle.c_syntax_written.specs.WrittenFile.{FileTree}
 use Rattle.c_grammar.specs.Parts.{Scene, Part, Outers, Value}
 use Rattle.c_grammar.specs.declared.class.Class.{Class}
 use Rattle.c_grammar.specs.Classes.{Fits}

@@ -1,7 +1,7 @@
 -- Which tokens are a file, and with which tree; which tokens begin one (C11 6.5 to 6.9).
 use Rattle.std.specs.Prelude.{◌≡◌, ℕ, Bool, true, List, [], ◌∷◌}
-use Rattle.c_written.specs.declared.token.Placed.{Placed}
-use Rattle.c_written.specs.WrittenFile.{FileTree}
+use Rattle.c_syntax_written.specs.declared.token.Placed.{Placed}
+use Rattle.c_syntax_written.specs.WrittenFile.{FileTree}
 use Rattle.c_grammar.specs.declared.parts.Setting.TheVariants.{AtFile}
 use Rattle.c_grammar.specs.Parts.{Scene, Part, Outers, Value}
 use Rattle.c_grammar.specs.declared.class.Class.{Class}

@@ -1,14 +1,14 @@
 -- What productions ask of, and make from, the trees of their parts.
 use Rattle.std.specs.Prelude.{ℕ, Bool, true, false, ◌||◌, if◌then◌else◌, List, [], ◌∷◌, Option, Some, None}
-use Rattle.c_written.specs.declared.place.Pos.{Pos}
-use Rattle.c_written.specs.declared.written.StorageWord.TheVariants as storages
-use Rattle.c_written.specs.declared.written.TypeWord.TheVariants as type_words
-use Rattle.c_written.specs.Written.{ExprTree, Comma, Binary, SpecTree, Storage, Const, Basic, TypedefName, Struct, StructBody, Enum, EnumBody, SpecTrees, no_specs, more_specs, DeclaratorTree, Absent, Name, Grouped, Pointer, Array, OpenArray, Function, VoidFunction, ParamTree, Named, Abstract, ParamTrees, no_params, more_params}
-use Rattle.c_written.specs.Written.{ExprTree, Word}
-use Rattle.c_written.specs.WrittenParts.{spec_pos}
-use Rattle.c_written.specs.WrittenDecl.{InitDeclaratorTree}
-use Rattle.c_written.specs.WrittenFile as files
-use Rattle.c_written.specs.WrittenFile.{StmtTree, OuterTree}
+use Rattle.c_syntax_written.specs.declared.place.Pos.{Pos}
+use Rattle.c_syntax_written.specs.declared.written.StorageWord.TheVariants as storages
+use Rattle.c_syntax_written.specs.declared.written.TypeWord.TheVariants as type_words
+use Rattle.c_syntax_written.specs.Written.{ExprTree, Comma, Binary, SpecTree, Storage, Const, Basic, TypedefName, Struct, StructBody, Enum, EnumBody, SpecTrees, no_specs, more_specs, DeclaratorTree, Absent, Name, Grouped, Pointer, Array, OpenArray, Function, VoidFunction, ParamTree, Named, Abstract, ParamTrees, no_params, more_params}
+use Rattle.c_syntax_written.specs.Written.{ExprTree, Word}
+use Rattle.c_syntax_written.specs.WrittenParts.{spec_pos}
+use Rattle.c_syntax_written.specs.WrittenDecl.{InitDeclaratorTree}
+use Rattle.c_syntax_written.specs.WrittenFile as files
+use Rattle.c_syntax_written.specs.WrittenFile.{StmtTree, OuterTree}
 use Rattle.c_grammar.specs.declared.parts.Joint.{Joint}
 use Rattle.c_grammar.specs.declared.parts.Joint.TheVariants.{Comma as comma, Binary as binary}
 

@@ -1,16 +1,16 @@
 -- The parts of a file: the nonterminals of the grammar (C11 6.5 to 6.9), and what each stands for.
 -- A repetition is a part of its own, with what was read before it.
 use Rattle.std.specs.Prelude.{ℕ, Bool, List, Option}
-use Rattle.c_written.specs.declared.place.Pos.{Pos}
-use Rattle.c_written.specs.declared.written.Tag.{Tag}
+use Rattle.c_syntax_written.specs.declared.place.Pos.{Pos}
+use Rattle.c_syntax_written.specs.declared.written.Tag.{Tag}
 use Rattle.c_grammar.specs.declared.parts.Setting.{Setting}
 use Rattle.c_grammar.specs.declared.parts.Setting.TheVariants.{InBlock, InSwitch}
 use Rattle.c_grammar.specs.declared.parts.Level.{Level}
 use Rattle.c_grammar.specs.declared.parts.Role.{Role}
 use Rattle.c_grammar.specs.declared.parts.Closing.{Closing}
-use Rattle.c_written.specs.Written.{ExprTree, ExprTrees, SpecTree, SpecTrees, DeclaratorTree, DeclaratorTrees, MemberDeclTree, MemberDeclTrees, EnumeratorTree, EnumeratorTrees, ParamTree, ParamTrees}
-use Rattle.c_written.specs.WrittenDecl.{InitTree, InitTrees, InitDeclaratorTree, DeclTree}
-use Rattle.c_written.specs.WrittenFile.{StmtTree, BlockItemTree, BlockItemTrees, ForStartTree, OuterTree}
+use Rattle.c_syntax_written.specs.Written.{ExprTree, ExprTrees, SpecTree, SpecTrees, DeclaratorTree, DeclaratorTrees, MemberDeclTree, MemberDeclTrees, EnumeratorTree, EnumeratorTrees, ParamTree, ParamTrees}
+use Rattle.c_syntax_written.specs.WrittenDecl.{InitTree, InitTrees, InitDeclaratorTree, DeclTree}
+use Rattle.c_syntax_written.specs.WrittenFile.{StmtTree, BlockItemTree, BlockItemTrees, ForStartTree, OuterTree}
 
 -- the typedef names in force, and where a token stands
 pub record Scene : Type 0 where

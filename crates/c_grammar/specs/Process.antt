@@ -1,6 +1,6 @@
 -- The right side of a production: tokens and parts in their order, and what they make together.
 use Rattle.std.specs.Prelude.{ℕ, List, Bool}
-use Rattle.c_written.specs.declared.token.Placed.{Placed}
+use Rattle.c_syntax_written.specs.declared.token.Placed.{Placed}
 use Rattle.c_grammar.specs.Parts.{Scene, Part, Value}
 use Rattle.c_grammar.specs.declared.class.Class.{Class}
 

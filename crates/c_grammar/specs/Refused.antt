@@ -1,15 +1,15 @@
 -- Which token of a file is refused: one that nests too deep, one that bears a construct that this profile
 -- leaves out, or one that no file goes on with.
 use Rattle.std.specs.Prelude.{◌≡◌, ℕ, ◌+◌, ◌<◌, Bool, true, false, not, ◌&&◌, List, [], ◌∷◌, ◌++◌, Option, Some, None}
-use Rattle.c_written.specs.declared.construct.Construct.{Construct}
-use Rattle.c_written.specs.declared.construct.Construct.TheVariants as constructs
-use Rattle.c_written.specs.declared.token.Keyword.{Keyword}
-use Rattle.c_written.specs.declared.token.Keyword.TheVariants as keywords
-use Rattle.c_written.specs.declared.token.Placed.{Placed}
-use Rattle.c_written.specs.declared.token.Punctuator.{Punctuator}
-use Rattle.c_written.specs.declared.token.Punctuator.TheVariants as signs
-use Rattle.c_written.specs.declared.token.Token.{Token}
-use Rattle.c_written.specs.declared.token.Token.TheVariants as kinds
+use Rattle.c_syntax_written.specs.declared.construct.Construct.{Construct}
+use Rattle.c_syntax_written.specs.declared.construct.Construct.TheVariants as constructs
+use Rattle.c_syntax_written.specs.declared.token.Keyword.{Keyword}
+use Rattle.c_syntax_written.specs.declared.token.Keyword.TheVariants as keywords
+use Rattle.c_syntax_written.specs.declared.token.Placed.{Placed}
+use Rattle.c_syntax_written.specs.declared.token.Punctuator.{Punctuator}
+use Rattle.c_syntax_written.specs.declared.token.Punctuator.TheVariants as signs
+use Rattle.c_syntax_written.specs.declared.token.Token.{Token}
+use Rattle.c_syntax_written.specs.declared.token.Token.TheVariants as kinds
 use Rattle.c_grammar.specs.declared.parts.Setting.{Setting}
 use Rattle.c_grammar.specs.declared.parts.Setting.TheVariants.{AtFile, InBlock, InSwitch}
 use Rattle.c_grammar.specs.declared.parts.Role.{Role}
@@ -19,7 +19,7 @@ use Rattle.c_grammar.specs.declared.class.Class.{Class}
 use Rattle.c_grammar.specs.Classes.{Fits, names_type}
 use Rattle.c_grammar.specs.Made.{is_word, has_type, is_given}
 use Rattle.c_grammar.specs.Ahead.{is_open, is_colon, is_plain_word, params_ahead}
-use Rattle.c_written.specs.WrittenFile.{FileTree}
+use Rattle.c_syntax_written.specs.WrittenFile.{FileTree}
 use Rattle.c_grammar.specs.Grammar.{IsTree}
 use Rattle.c_grammar.specs.Front.{Next, a_token, a_part, a_test, Place, StandsAt, StopsAt}
 

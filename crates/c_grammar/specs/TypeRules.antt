@@ -1,13 +1,13 @@
 -- The productions of specs, declarators, members, enumerators and parameters (C11 6.7.1 to 6.7.7).
 use Rattle.std.specs.Prelude.{ℕ, Bool, true, false, List, Some, None}
-use Rattle.c_written.specs.declared.place.Pos.{Pos}
-use Rattle.c_written.specs.declared.token.Keyword.TheVariants as keywords
-use Rattle.c_written.specs.declared.token.Punctuator.TheVariants as signs
-use Rattle.c_written.specs.declared.written.StorageWord.{StorageWord}
-use Rattle.c_written.specs.declared.written.Tag.{Tag}
-use Rattle.c_written.specs.declared.written.TypeWord.{TypeWord}
-use Rattle.c_written.specs.Written.{SpecTree, SpecTrees, no_specs, more_specs, specs_then, DeclaratorTree, Absent, DeclaratorTrees, no_declarators, more_declarators, declarators_then, MemberDeclTree, MemberDeclTrees, no_members, more_members, memberdecls_then, EnumeratorTree, EnumeratorTrees, no_enumerators, more_enumerators, enumerators_then, ParamTree, ParamTrees, no_params, more_params, params_then}
-use Rattle.c_written.specs.Written as trees
+use Rattle.c_syntax_written.specs.declared.place.Pos.{Pos}
+use Rattle.c_syntax_written.specs.declared.token.Keyword.TheVariants as keywords
+use Rattle.c_syntax_written.specs.declared.token.Punctuator.TheVariants as signs
+use Rattle.c_syntax_written.specs.declared.written.StorageWord.{StorageWord}
+use Rattle.c_syntax_written.specs.declared.written.Tag.{Tag}
+use Rattle.c_syntax_written.specs.declared.written.TypeWord.{TypeWord}
+use Rattle.c_syntax_written.specs.Written.{SpecTree, SpecTrees, no_specs, more_specs, specs_then, DeclaratorTree, Absent, DeclaratorTrees, no_declarators, more_declarators, declarators_then, MemberDeclTree, MemberDeclTrees, no_members, more_members, memberdecls_then, EnumeratorTree, EnumeratorTrees, no_enumerators, more_enumerators, enumerators_then, ParamTree, ParamTrees, no_params, more_params, params_then}
+use Rattle.c_syntax_written.specs.Written as trees
 use Rattle.c_grammar.specs.declared.parts.Role.{Role}
 use Rattle.c_grammar.specs.declared.parts.Role.TheVariants.{Naming, OfMember, OfParameter, OfTypeName}
 use Rattle.c_grammar.specs.Parts.{Scene, Conditional, Spec, Structure, StructureTagged, Enumeration, EnumerationTagged, Declarator, Pointed, Direct, Tails, Size, GroupEnd, Parameters, MoreParameters, Part, AnExpr, ASpec, ADeclarator, Specs, MoreSpecs, Members, MoreMembers, AMember, MoreDeclarators, Enumerators, MoreEnumerators, NextEnumerator, AnEnumerator, EnumeratorValue, Parameter, Value}

@@ -1,6 +1,6 @@
 // Classes of tokens.
 
-use c_written::{Keyword, Punctuator};
+use c_syntax_written::{Keyword, Punctuator};
 
 /// What a production asks of a token.
 #[derive(Clone, Copy, PartialEq, Eq)]

@@ -22,8 +22,8 @@ mod class;
 mod parts;
 
 ghost use Rattle.std.specs.Prelude.{◌≡◌, ◌⊎◌, List};
-ghost use Rattle.c_written.specs.declared.token.Placed.{Placed};
-ghost use Rattle.c_written.specs.WrittenFile.{FileTree};
+ghost use Rattle.c_syntax_written.specs.declared.token.Placed.{Placed};
+ghost use Rattle.c_syntax_written.specs.WrittenFile.{FileTree};
 ghost use Rattle.c_grammar.specs.Refused.{IsFile, IsRefused, Why};
 
 pub use class::Class;

@@ -5,7 +5,7 @@ ghost use Rattle.std.specs.Prelude.{◌≡◌};
 ghost use Rattle.c_grammar.specs.Classes.{closing_sign};
 ghost use Rattle.c_grammar.specs.Refused.{in_member, may_name, may_omit};
 
-use c_written::{BinaryOp, Punctuator};
+use c_syntax_written::{BinaryOp, Punctuator};
 
 /// Where a token stands.
 #[derive(Clone, Copy, PartialEq, Eq)]

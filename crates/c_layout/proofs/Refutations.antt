@@ -1,7 +1,7 @@
 -- Why the small programs are not well typed.
 use Rattle.std.proofs.Common.{◌≡◌, pos, true, false, [], ◌∷◌, refl, inl, inr, arith}
 use Rattle.std.specs.Prelude.{None}
-use Rattle.c_written.specs.declared.int_type.IntType.TheVariants as ints
+use Rattle.c_syntax_written.specs.declared.int_type.IntType.TheVariants as ints
 use Rattle.c_syntax.specs.Types.{ObjectTree}
 use Rattle.c_syntax.specs.TypedExpr.{Const}
 use Rattle.c_syntax.specs.TypedStmt.{TStmtTree, Store}

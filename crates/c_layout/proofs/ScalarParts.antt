@@ -3,9 +3,9 @@ use Rattle.std.proofs.Common.{◌≡◌, ℕ, zero, suc, ◌+◌, ◌*◌, ◌/�
 use Rattle.std.specs.Prelude.{Option, None, Some, option_map, IfSome, IsSomeAnd}
 use Rattle.std.proofs.lemmas.Nat.{div-add-mod'}
 use Rattle.std.proofs.Math.Nat.{mul_assoc, add-mul, mul-le-mul_right, add-mul-mod_self_right, div-lt_iff_lt-mul, mod-lt, mod-eq_of_lt, zero-mod}
-use Rattle.c_written.specs.declared.int_type.IntType.{IntType}
-use Rattle.c_written.specs.declared.int_type.IntType.TheVariants as ints
-use Rattle.c_written.specs.Integer.{bytes}
+use Rattle.c_syntax_written.specs.declared.int_type.IntType.{IntType}
+use Rattle.c_syntax_written.specs.declared.int_type.IntType.TheVariants as ints
+use Rattle.c_syntax_written.specs.Integer.{bytes}
 use Rattle.c_syntax.specs.Types.{CTypeTree, Void, Int, Pointer, Array, Struct, Function}
 use Rattle.c_syntax.specs.Program.{StructDefTree}
 use Rattle.c_layout.specs.Layout.{Space, space_by, in_table, laid_out, size_in}

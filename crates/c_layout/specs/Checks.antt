@@ -1,8 +1,8 @@
 -- The checks that the nodes of a typed program make, and where.
 use Rattle.std.specs.Prelude.{◌-◌, ℕ, ℤ, pos, Bool, ◌&&◌, not, if◌then◌else◌, Option, Some, None, option_and_then, option_map, unwrap_or, List, [], ◌∷◌, ◌++◌, map, Contains, slice_get}
 use Rattle.std.specs.List.{flat_map}
-use Rattle.c_written.specs.declared.place.Pos.{Pos}
-use Rattle.c_written.specs.declared.int_type.IntType.{IntType}
+use Rattle.c_syntax_written.specs.declared.place.Pos.{Pos}
+use Rattle.c_syntax_written.specs.declared.int_type.IntType.{IntType}
 use Rattle.c_syntax.specs.declared.alarm.Check.{Check}
 use Rattle.c_syntax.specs.declared.alarm.WrongKind.{WrongKind}
 use Rattle.c_syntax.specs.declared.alarm.WrongKind.TheVariants.{Overflow, DivideByZero, Quotient, ShiftAmount, ShiftResult, Indeterminate, Fragment, NullUse, Dangling, Bounds, Access, Alignment, ReadOnly, Unrelated, NoValue, AssertFailed}
@@ -25,7 +25,7 @@ use Rattle.c_syntax.specs.TypedExpr as exprs
 use Rattle.c_syntax.specs.TypedStmt.{TInitTree, Store, Copy, TStmtTree, Expr, Block, Declare, If, While, DoWhile, For, Switch, Return, TStmtTrees, none, more}
 use Rattle.c_syntax.specs.TypedParts.{texpr_type, tlvalue_pos, tlvalue_type}
 use Rattle.c_syntax.specs.Program.{TProgramTree}
-use Rattle.c_written.specs.Integer.{width, bytes, is_signed, least, greatest}
+use Rattle.c_syntax_written.specs.Integer.{width, bytes, is_signed, least, greatest}
 use Rattle.c_layout.specs.MainFunction.{is_main}
 use Rattle.c_layout.specs.RowTypes.{is_void}
 

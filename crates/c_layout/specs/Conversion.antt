@@ -1,9 +1,9 @@
 -- Ranks, promotions and the usual arithmetic conversions, and the type of an integer constant.
 use Rattle.std.specs.Prelude.{ℕ, Bool, false, nat_lt, nat_le, if◌then◌else◌, Option}
-use Rattle.c_written.specs.declared.int_type.IntType.{IntType}
-use Rattle.c_written.specs.declared.int_type.IntType.TheVariants.{Char, SChar, UChar, Short, UShort, Int, UInt, Long, ULong, LLong, ULLong}
-use Rattle.c_written.specs.Integer.{width, is_signed}
-use Rattle.c_written.specs.Constant.{constant_type}
+use Rattle.c_syntax_written.specs.declared.int_type.IntType.{IntType}
+use Rattle.c_syntax_written.specs.declared.int_type.IntType.TheVariants.{Char, SChar, UChar, Short, UShort, Int, UInt, Long, ULong, LLong, ULLong}
+use Rattle.c_syntax_written.specs.Integer.{width, is_signed}
+use Rattle.c_syntax_written.specs.Constant.{constant_type}
 
 -- the conversion rank (C11 6.3.1.1p1)
 abbrev pub rank : IntType → ℕ

@@ -1,7 +1,7 @@
 -- Sizes as the code keeps them: each up to 2 to the 40 exactly, and any above as one more than that.
 use Rattle.std.specs.Prelude.{◌≡◌, ℕ, ◌+◌, ◌*◌, ◌^◌, min, option_map}
 use Rattle.c_syntax.specs.Types.{CTypeTree, Int, Pointer, Array, Struct}
-use Rattle.c_written.specs.Integer.{bytes}
+use Rattle.c_syntax_written.specs.Integer.{bytes}
 use Rattle.c_layout.specs.Layout.{Space, no_space, scalar_space}
 use Rattle.c_layout.specs.declared.layout.Room.{Room}
 

@@ -3,7 +3,7 @@ use Rattle.std.specs.Prelude.{ℕ, zero, suc, ◌+◌, ◌-◌, ◌*◌, ◌%◌
 use Rattle.std.specs.Str.{bytes_eq}
 use Rattle.c_syntax.specs.Types.{CTypeTree, Void, Int, Pointer, Array, Struct, Function}
 use Rattle.c_syntax.specs.Program.{MemberTree, StructDefTree}
-use Rattle.c_written.specs.Integer.{bytes}
+use Rattle.c_syntax_written.specs.Integer.{bytes}
 use Rattle.c_layout.specs.declared.layout.Sized.{Sized}
 use Rattle.c_layout.specs.declared.layout.Sized.TheVariants.{Fits, Oversize, Incomplete}
 

@@ -1,6 +1,6 @@
 -- What a plan for a program is.
 use Rattle.std.specs.Prelude.{◌≡◌, ◌<◌, ◌≤◌, ◌==◌, ℕ, if◌then◌else◌, Some, IfSome, IsSome, IsSomeAnd, is_some, List, [], take, length, All, Contains, count_by, slice_get}
-use Rattle.c_written.specs.declared.int_type.IntType.TheVariants as ints
+use Rattle.c_syntax_written.specs.declared.int_type.IntType.TheVariants as ints
 use Rattle.c_syntax.specs.declared.program.Plan.{Plan}
 use Rattle.c_syntax.specs.Types as types
 use Rattle.c_syntax.specs.Program.{TFunctionTree, TProgramTree}

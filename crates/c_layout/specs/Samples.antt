@@ -1,8 +1,8 @@
 -- Small programs by which the definitions are judged: each that is not well typed differs in one thing from one that is.
 use Rattle.std.specs.Prelude.{ℕ, pos, Bool, true, false, None, Some, Option, List, [], ◌∷◌, codes}
-use Rattle.c_written.specs.declared.place.Pos.{Pos}
-use Rattle.c_written.specs.declared.int_type.IntType.{IntType}
-use Rattle.c_written.specs.declared.int_type.IntType.TheVariants as ints
+use Rattle.c_syntax_written.specs.declared.place.Pos.{Pos}
+use Rattle.c_syntax_written.specs.declared.int_type.IntType.{IntType}
+use Rattle.c_syntax_written.specs.declared.int_type.IntType.TheVariants as ints
 use Rattle.c_syntax.specs.declared.statement.BlockKind.TheVariants.{Written}
 use Rattle.c_syntax.specs.Types.{CTypeTree, Int, Pointer, Struct, Function, ObjectTree}
 use Rattle.c_syntax.specs.TypedExpr.{TExprTree, Const, AddressOf, Convert, Call, Any, Var}

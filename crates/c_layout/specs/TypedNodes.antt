@@ -1,6 +1,6 @@
 -- Which expressions and statements of a typed program have the types that C asks for, and name what is there.
 use Rattle.std.specs.Prelude.{◌≡◌, ◌≢◌, ◌⊎◌, ◌+◌, ◌≤◌, ℕ, Bool, true, false, not, IsTrue, Option, Some, None, option_map, unwrap_or, IfSome, IsSomeAnd, List, [], ◌∷◌, ◌++◌, map, All, AllPairs, Contains, slice_get}
-use Rattle.c_written.specs.declared.int_type.IntType.{IntType}
+use Rattle.c_syntax_written.specs.declared.int_type.IntType.{IntType}
 use Rattle.c_syntax.specs.Types.{CTypeTree, Void, Array, Struct, ObjectTree}
 use Rattle.c_syntax.specs.Types as types
 use Rattle.c_syntax.specs.TypedExpr.{TExprTree, Const, Null, Load, AddressOf, Decay, Whole, Unary, Binary, Convert, Assign, AssignStruct, Compound, Step, And, Or, Cond, Comma, Call, Any, Assume, Assert, TLvalueTree, Var, Deref, Member, TExprTrees}
@@ -9,7 +9,7 @@ use Rattle.c_syntax.specs.TypedStmt.{TInitTree, Store, Copy, TStmtTree, Empty, E
 use Rattle.c_syntax.specs.TypedParts.{tlvalue_type, tlvalue_is_const}
 use Rattle.c_syntax.specs.GivenType.{given_type}
 use Rattle.c_syntax.specs.Program.{StructDefTree, TFunctionTree, TProgramTree}
-use Rattle.c_written.specs.Integer.{HasNumber}
+use Rattle.c_syntax_written.specs.Integer.{HasNumber}
 use Rattle.c_layout.specs.Layout.{size_in}
 use Rattle.c_layout.specs.RowTypes.{is_void, is_declared_const, IsInputType, IsScalar, IsPointer, IsPromoted, UnaryRow, LogicalRow, BinaryRow, CondRow, StoreRow, CopyRow, CompoundRow, StepRow, DerefRow, MemberRow, ConvertRow}
 use Rattle.c_layout.specs.ProperTypes.{IsProperType, PartAt}

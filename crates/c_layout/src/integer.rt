@@ -3,8 +3,8 @@
 ghost use Rattle.std.specs.Prelude.{◌≡◌, ◌≤◌, ◌^◌, pos, true, false, nat_le, find};
 ghost use Rattle.c_layout.specs.Conversion as conversion;
 ghost use Rattle.c_layout.specs.Conversion.{balanced, common, literal_type_of, mixed, promoted, unsigned_of};
-ghost use Rattle.c_written.specs.Integer as integer;
-ghost use Rattle.c_written.specs.Integer.{wrapped};
+ghost use Rattle.c_syntax_written.specs.Integer as integer;
+ghost use Rattle.c_syntax_written.specs.Integer.{wrapped};
 
 use c_syntax::IntType;
 

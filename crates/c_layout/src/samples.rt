@@ -1,7 +1,7 @@
 // Laws on small programs, by which the definitions are judged.
 
 ghost use Rattle.std.specs.Prelude.{false, true};
-ghost use Rattle.c_written.specs.declared.int_type.IntType.TheVariants as ints;
+ghost use Rattle.c_syntax_written.specs.declared.int_type.IntType.TheVariants as ints;
 ghost use Rattle.c_layout.specs.WellTyped.{IsWellTyped};
 ghost use Rattle.c_layout.specs.Plans.{HasBody};
 ghost use Rattle.c_layout.specs.Calls.{IsFirstCall};

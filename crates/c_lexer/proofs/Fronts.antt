@@ -2,9 +2,9 @@
 use Rattle.std.proofs.Common.{◌≡◌, ℕ, ◌-◌, ◌<◌, ◌≤◌, ◌⊎◌, inl, inr, List, [], ◌∷◌, ◌++◌, length, get_or, take, drop, refl, sym, ap, ◌∙◌, subst, arith, append_assoc, length-append}
 use Rattle.std.proofs.Math.Seq.{take-append_seam}
 use Rattle.std.proofs.lemmas.List.{take-append-drop}
-use Rattle.c_written.specs.declared.place.Pos.{Pos}
-use Rattle.c_written.specs.declared.token.Token.{Token}
-use Rattle.c_written.specs.declared.token.Placed.{Placed}
+use Rattle.c_syntax_written.specs.declared.place.Pos.{Pos}
+use Rattle.c_syntax_written.specs.declared.token.Token.{Token}
+use Rattle.c_syntax_written.specs.declared.token.Placed.{Placed}
 use Rattle.c_lexer.specs.Cut.{Front, here, white, token, IsWhite, IsNext, moved_of, start_of, IsCut}
 use Rattle.c_lexer.specs.Piece.{IsPiece, HashReason}
 use Rattle.c_lexer.specs.Uncut.{Refuses, IsRefusedAt, IsUncut, TellsUncut, error_at}
@@ -12,7 +12,7 @@ use Rattle.c_lexer.specs.declared.reason.Reason.{Reason}
 use Rattle.c_lexer.specs.declared.reason.Reason.TheVariants as reasons
 use Rattle.c_lexer.specs.declared.cut.LexError.{LexError}
 use Rattle.c_lexer.specs.declared.cut.LexError.TheVariants as errors
-use Rattle.c_written.specs.declared.token.Tokens.{Tokens}
+use Rattle.c_syntax_written.specs.declared.token.Tokens.{Tokens}
 use Rattle.c_lexer.proofs.PieceLemmas.{hash_nothing}
 use Rattle.c_lexer.proofs.Laws.{uncut_of, same_refused}
 use Rattle.c_lexer.specs.declared.piece.Piece.{Piece}

@@ -1,7 +1,7 @@
 -- Keywords by their length.
 use Rattle.std.proofs.Common.{◌≡◌, ◌≢◌, ℕ, ◌<◌, List, length, sym, ap, ◌∙◌, subst, arith}
-use Rattle.c_written.specs.declared.token.Keyword.{Keyword}
-use Rattle.c_written.specs.declared.token.Keyword.TheVariants as keywords
+use Rattle.c_syntax_written.specs.declared.token.Keyword.{Keyword}
+use Rattle.c_syntax_written.specs.declared.token.Keyword.TheVariants as keywords
 use Rattle.c_lexer.specs.Spelling.{keyword_text}
 
 pub of_length : (s : List ℕ) (n : ℕ) → length s ≡ n → ((k : Keyword) → length (keyword_text k) ≡ n → s ≢ keyword_text k) → (k : Keyword) → s ≢ keyword_text k

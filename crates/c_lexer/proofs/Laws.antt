@@ -1,9 +1,9 @@
 -- A text is cut in one way or refused at one place, for one reason.
 use Rattle.std.proofs.Common.{◌≡◌, ℕ, ◌<◌, ◌⊎◌, inl, inr, List, [], ◌∷◌, ◌++◌, length, take, refl, sym, ap, ◌∙◌, subst, arith, length-append}
 use Rattle.std.proofs.lemmas.List.{append_cancel_left, append-nil}
-use Rattle.c_written.specs.declared.place.Pos.{Pos}
-use Rattle.c_written.specs.declared.token.Placed.{Placed}
-use Rattle.c_written.specs.declared.token.Tokens.{Tokens}
+use Rattle.c_syntax_written.specs.declared.place.Pos.{Pos}
+use Rattle.c_syntax_written.specs.declared.token.Placed.{Placed}
+use Rattle.c_syntax_written.specs.declared.token.Tokens.{Tokens}
 use Rattle.c_lexer.specs.declared.reason.Reason.{Reason}
 use Rattle.c_lexer.specs.Cut.{IsToken, moved_of, Front, here, white, token, IsCut, IsBefore}
 use Rattle.c_lexer.specs.Uncut.{Refuses, IsRefusedAt, IsUncut, row_of}

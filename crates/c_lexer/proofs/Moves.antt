@@ -1,6 +1,6 @@
 -- Places after bytes.
 use Rattle.std.proofs.Common.{◌≡◌, ℕ, zero, suc, ◌+◌, ◌<◌, ◌≤◌, List, [], ◌∷◌, length, get_or, drop, refl, sym, ap, ◌∙◌, arith, add-one, drop-cons}
-use Rattle.c_written.specs.declared.place.Pos.{Pos}
+use Rattle.c_syntax_written.specs.declared.place.Pos.{Pos}
 use Rattle.c_lexer.specs.Cut.{moved_of, step}
 
 drop_all : (s : List ℕ) (i : ℕ) → length s ≤ i → drop i s ≡ []

@@ -1,8 +1,8 @@
 -- The tokens of a text stand in order.
 use Rattle.std.proofs.Common.{◌≡◌, ℕ, zero, suc, ◌<◌, ◌≤◌, ◌⊎◌, inr, List, [], ◌∷◌, length, get_or, refl, arith}
 use Rattle.std.proofs.lemmas.Bool.Decides.{nat_tests}
-use Rattle.c_written.specs.declared.place.Pos.{Pos}
-use Rattle.c_written.specs.declared.token.Placed.{Placed}
+use Rattle.c_syntax_written.specs.declared.place.Pos.{Pos}
+use Rattle.c_syntax_written.specs.declared.token.Placed.{Placed}
 use Rattle.c_lexer.specs.Cut.{step, moved_of, Front, here, white, token, IsBefore, StandInOrder}
 use Rattle.c_lexer.proofs.Forms.{form_long}
 

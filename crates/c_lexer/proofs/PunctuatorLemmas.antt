@@ -1,7 +1,7 @@
 -- Punctuators at the front of a text.
 use Rattle.std.proofs.Common.{◌≡◌, ◌≢◌, ℕ, ◌<◌, ◌≤◌, ◌⊎◌, inl, inr, List, [], ◌∷◌, ◌++◌, length, get_or, refl, sym, ap, ◌∙◌, arith}
 use Rattle.std.proofs.lemmas.Bool.{cases_lt}
-use Rattle.c_written.specs.declared.token.Punctuator.{Punctuator}
+use Rattle.c_syntax_written.specs.declared.token.Punctuator.{Punctuator}
 use Rattle.c_lexer.specs.Spelling.{punctuator_text}
 use Rattle.c_lexer.specs.Piece.{HasPunctuator, IsLongestPunctuator}
 use Rattle.c_lexer.proofs.Punctuators.{punctuator_long}

@@ -1,11 +1,11 @@
 -- What has a length at the front of a text, and how a front goes on over it.
 use Rattle.std.proofs.Common.{◌≡◌, ◌≢◌, ℕ, List, [], ◌∷◌, ◌++◌, map, take, drop, refl, ap}
 use Rattle.std.specs.Prelude.{Option, Some, None, MatchOption}
-use Rattle.c_written.specs.declared.place.Pos.{Pos}
-use Rattle.c_written.specs.declared.token.Keyword.{Keyword}
-use Rattle.c_written.specs.declared.token.Token.{Token}
-use Rattle.c_written.specs.declared.token.Token.TheVariants as kinds
-use Rattle.c_written.specs.declared.token.Placed.{Placed}
+use Rattle.c_syntax_written.specs.declared.place.Pos.{Pos}
+use Rattle.c_syntax_written.specs.declared.token.Keyword.{Keyword}
+use Rattle.c_syntax_written.specs.declared.token.Token.{Token}
+use Rattle.c_syntax_written.specs.declared.token.Token.TheVariants as kinds
+use Rattle.c_syntax_written.specs.declared.token.Placed.{Placed}
 use Rattle.c_lexer.specs.Spelling.{keyword_text, Reads}
 use Rattle.c_lexer.specs.Cut.{Front, IsToken, IsWord, moved_of}
 use Rattle.c_lexer.specs.Piece.{IsPiece, IsCharacter}

@@ -1,9 +1,9 @@
 -- A text spells one token at most.
 use Rattle.std.proofs.Common.{◌≡◌, ℕ, zero, suc, ◌+◌, ◌<◌, ◌⊎◌, inl, inr, Bool, true, false, List, [], ◌∷◌, map, Some, length, get_or, refl, sym, ap, ◌∙◌, arith, length-append}
 use Rattle.std.proofs.Math.Seq.{get_or-append-add}
-use Rattle.c_written.specs.declared.token.Constant.{Constant}
-use Rattle.c_written.specs.declared.token.Token.{Token}
-use Rattle.c_written.specs.declared.token.Token.TheVariants as kinds
+use Rattle.c_syntax_written.specs.declared.token.Constant.{Constant}
+use Rattle.c_syntax_written.specs.declared.token.Token.{Token}
+use Rattle.c_syntax_written.specs.declared.token.Token.TheVariants as kinds
 use Rattle.c_lexer.specs.Spelling.{IsUnsignedLetter, IsLong, IsSuffix, IsConstant, constant_suffix, IsLiteral, IsOneCharacter, char_value}
 use Rattle.c_lexer.specs.Cut.{IsToken}
 use Rattle.c_lexer.proofs.Punctuators.{same_keyword, same_punctuator}

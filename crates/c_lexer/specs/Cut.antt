@@ -1,13 +1,13 @@
 -- The cut of a text into tokens (C11 5.1.1.2 phase 3, and 6.4), a relation on the whole text.
 use Rattle.std.specs.Prelude.{◌≡◌, ◌≢◌, ◌⊎◌, ℕ, ◌+◌, ◌-◌, ◌<◌, ◌≤◌, ◌==◌, if◌then◌else◌}
 use Rattle.std.specs.Prelude.{List, [], ◌∷◌, ◌++◌, map, length, slice_index, codes, AllPairs, Option, Some}
-use Rattle.c_written.specs.declared.place.Pos.{Pos}
-use Rattle.c_written.specs.declared.token.Keyword.{Keyword}
-use Rattle.c_written.specs.declared.token.Punctuator.{Punctuator}
-use Rattle.c_written.specs.declared.token.Token.{Token}
-use Rattle.c_written.specs.declared.token.Token.TheVariants as kinds
-use Rattle.c_written.specs.declared.token.Placed.{Placed}
-use Rattle.c_written.specs.declared.token.Tokens.{Tokens}
+use Rattle.c_syntax_written.specs.declared.place.Pos.{Pos}
+use Rattle.c_syntax_written.specs.declared.token.Keyword.{Keyword}
+use Rattle.c_syntax_written.specs.declared.token.Punctuator.{Punctuator}
+use Rattle.c_syntax_written.specs.declared.token.Token.{Token}
+use Rattle.c_syntax_written.specs.declared.token.Token.TheVariants as kinds
+use Rattle.c_syntax_written.specs.declared.token.Placed.{Placed}
+use Rattle.c_syntax_written.specs.declared.token.Tokens.{Tokens}
 use Rattle.c_lexer.specs.Spelling.{keyword_text, punctuator_text, IsConstant, IsLiteral, IsOneCharacter, char_value}
 
 -- a letter or the underscore (C11 6.4.2.1)
@@ -22,7 +22,7 @@ IsDigit b = (48 ≤ b) × (b ≤ 57)
 abbrev pub IsWordByte : ℕ → Type 0
 IsWordByte b = IsLetter b ⊎ IsDigit b
 
--- a white byte (C11 6.4): a tab, a line end, a carriage return, a space
+-- a white byte (C11 6.4): a tab, a line end, a vertical tab, a form feed, a carriage return, a space
 abbrev pub IsBlank : ℕ → Type 0
 IsBlank b = ((9 ≤ b) × (b ≤ 13)) ⊎ (b ≡ 32)
 

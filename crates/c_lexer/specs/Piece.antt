@@ -1,9 +1,9 @@
 -- What stands at the front of a text, as the code that looks at it answers.
 use Rattle.std.specs.Prelude.{◌≡◌, ◌≢◌, ◌⊎◌, ℕ, ◌+◌, ◌^◌, ◌<◌, ◌≤◌, ◌==◌, Bool}
 use Rattle.std.specs.Prelude.{List, [], ◌∷◌, ◌++◌, map, length, slice_index, take, drop, Option, Some, None, IsSome}
-use Rattle.c_written.specs.declared.token.Constant.{Constant}
-use Rattle.c_written.specs.declared.token.Punctuator.{Punctuator}
-use Rattle.c_written.specs.Constant.{constant_type}
+use Rattle.c_syntax_written.specs.declared.token.Constant.{Constant}
+use Rattle.c_syntax_written.specs.declared.token.Punctuator.{Punctuator}
+use Rattle.c_syntax_written.specs.Constant.{constant_type}
 use Rattle.c_lexer.specs.Spelling.{punctuator_text, IsLong, IsSuffix, IsInteger, IsConstant, IsEscape, Reads, IsLiteral, IsOneCharacter}
 use Rattle.c_lexer.specs.Cut.{IsWordByte, IsBlank, GoesOn, BeginsNumber, IsWhite, IsNext}
 use Rattle.c_lexer.specs.Uncut.{Refuses, IsBadEscape, OpensLine}

@@ -1,12 +1,12 @@
 -- How keywords, punctuators, integer constants and literals are spelled (C11 6.4).
 use Rattle.std.specs.Prelude.{◌≡◌, ◌≢◌, ◌⊎◌, ℕ, ◌+◌, ◌-◌, ◌*◌, ◌^◌, ◌<◌, ◌≤◌, ◌==◌, ◌||◌, ℤ, pos, ◌-ℤ◌, if◌then◌else◌, Bool, true, false}
 use Rattle.std.specs.Prelude.{List, [], ◌∷◌, ◌++◌, length, drop, take, slice_index, codes, nat_lt, nat_le, Option, Some, None, IsSome}
-use Rattle.c_written.specs.declared.token.Keyword.{Keyword}
-use Rattle.c_written.specs.declared.token.Keyword.TheVariants as keywords
-use Rattle.c_written.specs.declared.token.Punctuator.{Punctuator}
-use Rattle.c_written.specs.declared.token.Punctuator.TheVariants as punctuators
-use Rattle.c_written.specs.declared.token.Constant.{Constant}
-use Rattle.c_written.specs.Constant.{constant_type}
+use Rattle.c_syntax_written.specs.declared.token.Keyword.{Keyword}
+use Rattle.c_syntax_written.specs.declared.token.Keyword.TheVariants as keywords
+use Rattle.c_syntax_written.specs.declared.token.Punctuator.{Punctuator}
+use Rattle.c_syntax_written.specs.declared.token.Punctuator.TheVariants as punctuators
+use Rattle.c_syntax_written.specs.declared.token.Constant.{Constant}
+use Rattle.c_syntax_written.specs.Constant.{constant_type}
 
 -- the spelling of a keyword (C11 6.4.1)
 abbrev pub keyword_text : Keyword → List ℕ

@@ -1,8 +1,8 @@
 // The lexer.
 
 ghost use Rattle.std.specs.Prelude.{◌≡◌, ◌⊎◌, ℕ, ◌≤◌, List, length, IfOk, IfErr, MatchResult, IsTrue, ◌↔◌};
-ghost use Rattle.c_written.specs.declared.place.Pos.{Pos};
-ghost use Rattle.c_written.specs.declared.token.Tokens.{Tokens};
+ghost use Rattle.c_syntax_written.specs.declared.place.Pos.{Pos};
+ghost use Rattle.c_syntax_written.specs.declared.token.Tokens.{Tokens};
 ghost use Rattle.c_lexer.specs.declared.reason.Reason.{Reason};
 ghost use Rattle.c_lexer.specs.declared.cut.LexError.TheVariants.{NoMemory};
 ghost use Rattle.c_lexer.specs.Cut.{IsBlank, IsCut, StandInOrder};
@@ -12,7 +12,7 @@ ghost use Rattle.c_lexer.specs.Piece.{HashReason};
 use crate::piece::{Piece, is_blank, next_piece};
 use crate::place::moved;
 use crate::reason::Reason;
-use c_written::{Marks, Placed, PlacedList, Pos, Tokens};
+use c_syntax_written::{Marks, Placed, PlacedList, Pos, Tokens};
 use std::alloc::{AllocError, AllocFailed, Global};
 use thiserror::Error;
 

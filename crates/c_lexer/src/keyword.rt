@@ -2,10 +2,10 @@
 // proof that takes several times as long.
 
 ghost use Rattle.std.specs.Prelude.{◌≡◌, ◌≢◌, ◌<◌, ◌↔◌, length, IsTrue, MatchOption};
-ghost use Rattle.c_written.specs.declared.token.Keyword.{Keyword};
+ghost use Rattle.c_syntax_written.specs.declared.token.Keyword.{Keyword};
 ghost use Rattle.c_lexer.specs.Spelling.{keyword_text};
 
-use c_written::Keyword;
+use c_syntax_written::Keyword;
 
 /// The keyword that a word is, where it is one.
 #[tactic(auto, using(crate::proofs::KeywordLemmas::of_length, crate::proofs::KeywordLemmas::of_more, crate::proofs::KeywordLemmas::too_short))]

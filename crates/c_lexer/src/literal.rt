@@ -2,12 +2,12 @@
 
 ghost use Rattle.std.specs.Prelude.{◌≡◌, ◌≢◌, ℕ, ◌+◌, ◌<◌, ◌≤◌, List, [], ◌∷◌, map, length, take, drop, slice_index, Option, Some, MatchOption, IfOk, IsTrue, ◌↔◌, ◌⊎◌};
 ghost use Rattle.c_lexer.specs.Spelling.{digits_of, byte_of, octal_digits, simple_escape, escape_length, escape_value, char_value, IsEscape, Reads, IsLiteral};
-ghost use Rattle.c_written.specs.declared.token.Token.TheVariants.{Character};
+ghost use Rattle.c_syntax_written.specs.declared.token.Token.TheVariants.{Character};
 ghost use Rattle.c_lexer.specs.Uncut.{IsBadEscape, IsOpenLiteral};
 ghost use Rattle.c_lexer.specs.Piece.{Stops, IsCharacter, IsClosedAt, HasCharacters, OneOf};
 
 use crate::digits::{digits_of, value_of};
-use c_written::Token;
+use c_syntax_written::Token;
 use std::alloc::{AllocError as NoMemory, Global};
 
 /// What the characters of a literal are. `Bad` has the place of the first escape that is not

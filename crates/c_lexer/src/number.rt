@@ -1,14 +1,14 @@
 // Numbers.
 
 ghost use Rattle.std.specs.Prelude.{◌≡◌, ℕ, ◌<◌, ◌↔◌, IsTrue, Bool, MatchOption, length};
-ghost use Rattle.c_written.specs.declared.token.Constant.{Constant};
+ghost use Rattle.c_syntax_written.specs.declared.token.Constant.{Constant};
 ghost use Rattle.c_lexer.specs.Spelling.{IsInteger, IsConstant, IsUnsignedLetter, IsLong, IsSuffix, base_of, without_prefix, value_from};
 ghost use Rattle.c_lexer.specs.Cut.{GoesOn, BeginsNumber};
 ghost use Rattle.c_lexer.specs.Piece.{IsNumberRun, IsWithoutU, IsSpelled, IsHeld};
 
 use crate::digits::{digits_len, value_of};
 use crate::word::is_word_byte;
-use c_written::Constant;
+use c_syntax_written::Constant;
 
 /// What a number is.
 #[derive(Clone, Copy)]

@@ -12,7 +12,7 @@ use crate::number::{Spelled, number_len, read_number};
 use crate::punctuation::punctuator;
 use crate::reason::Reason;
 use crate::word::{is_digit, is_letter, is_prefix, word_len, word_token};
-use c_written::{Bytes, Token};
+use c_syntax_written::{Bytes, Token};
 use std::alloc::{AllocError as NoMemory, Global};
 
 /// White space or a token, with its length; a refusal, with its place; or a `#`.

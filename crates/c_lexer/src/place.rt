@@ -3,7 +3,7 @@
 ghost use Rattle.std.specs.Prelude.{◌≡◌, ◌+◌, ◌^◌, ◌<◌, ◌≤◌, length};
 ghost use Rattle.c_lexer.specs.Cut.{step, moved_of};
 
-use c_written::Pos;
+use c_syntax_written::Pos;
 
 /// The place after these bytes.
 pub fn moved(from: Pos, bytes: &[u8]) -> Pos

@@ -1,11 +1,11 @@
 // Punctuators.
 
 ghost use Rattle.std.specs.Prelude.{◌≡◌, ◌≢◌, ℕ, List, [], ◌∷◌, ◌++◌, length, MatchOption};
-ghost use Rattle.c_written.specs.declared.token.Punctuator.{Punctuator};
+ghost use Rattle.c_syntax_written.specs.declared.token.Punctuator.{Punctuator};
 ghost use Rattle.c_lexer.specs.Spelling.{punctuator_text};
 ghost use Rattle.c_lexer.specs.Piece.{HasPunctuator, IsLongestPunctuator};
 
-use c_written::Punctuator;
+use c_syntax_written::Punctuator;
 
 /// The longest punctuator at the front, with its length.
 pub fn punctuator(bytes: &[u8]) -> Option<(Punctuator, usize)>

@@ -1,7 +1,7 @@
 // Whether a text has a cut, told without taking memory.
 
 ghost use Rattle.std.specs.Prelude.{◌≡◌, ◌<◌, ◌≤◌, List, MatchOption, length, slice_index};
-ghost use Rattle.c_written.specs.declared.token.Tokens.{Tokens};
+ghost use Rattle.c_syntax_written.specs.declared.token.Tokens.{Tokens};
 ghost use Rattle.c_lexer.specs.Cut.{IsCut, IsLetter};
 ghost use Rattle.c_lexer.specs.Stretch.{IsStretch, stretch_of};
 ghost use Rattle.c_lexer.specs.Uncut.{IsUncut};
@@ -13,7 +13,7 @@ use crate::piece::{Piece, begins_number, is_blank, number, sign};
 use crate::place::moved;
 use crate::reason::Reason;
 use crate::word::{is_letter, is_prefix, word_len};
-use c_written::Pos;
+use c_syntax_written::Pos;
 
 /// What stands at the front, by its length alone: white space or a token; a refusal, with its place; or
 /// a `#`.

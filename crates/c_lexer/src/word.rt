@@ -5,7 +5,7 @@ ghost use Rattle.c_lexer.specs.Cut.{IsLetter, IsDigit, IsWordByte, IsWord, IsTok
 ghost use Rattle.c_lexer.specs.Piece.{IsWordRun};
 
 use crate::keyword::keyword;
-use c_written::{Name, Token};
+use c_syntax_written::{Name, Token};
 use std::alloc::{AllocError as NoMemory, Global};
 
 pub fn is_letter(byte: u8) -> bool

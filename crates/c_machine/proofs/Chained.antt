@@ -1,6 +1,6 @@
 -- The calls that work leads back to, an item more at its front.
 use Rattle.std.proofs.Common.{◌≡◌, true, false, List, [], ◌∷◌, ◌++◌, Some, None, refl, ap}
-use Rattle.c_written.specs.declared.place.Pos.{Pos}
+use Rattle.c_syntax_written.specs.declared.place.Pos.{Pos}
 use Rattle.c_steps.specs.Work.{Item, Reach}
 use Rattle.c_steps.specs.Runs.{calls_in, chain_of}
 use Rattle.c_machine.specs.declared.jumps.Way.TheVariants as ways

@@ -4,18 +4,18 @@ use Rattle.std.specs.Prelude.{◌<◌, if◌then◌else◌, All, OnOk, Result, O
 use Rattle.c_syntax.specs.TypedStmt.{TStmtTrees}
 use Rattle.std.specs.declared.rc.Rc.{Rc}
 use Rattle.std.specs.declared.alloc.Global.{Global}
-use Rattle.c_shared.specs.declared.statement.SharedStmts.{SharedStmts}
-use Rattle.c_work.specs.declared.items.Item as code
-use Rattle.c_work.specs.declared.items.Item.TheVariants as items_of
-use Rattle.c_work.specs.declared.stack.Held as held
-use Rattle.c_work.specs.Views.{item_of, on_top}
+use Rattle.c_machine_trees.specs.declared.statement.SharedStmts.{SharedStmts}
+use Rattle.c_machine_work.specs.declared.items.Item as code
+use Rattle.c_machine_work.specs.declared.items.Item.TheVariants as items_of
+use Rattle.c_machine_work.specs.declared.stack.Held as held
+use Rattle.c_machine_work.specs.Views.{item_of, on_top}
 use Rattle.c_values.specs.Places.{ObjectMemory}
 use Rattle.c_objects.specs.Opening.{shut, shut_all}
 use Rattle.c_steps.specs.Work.{Item, Again, SwitchEnd, Reach, Close}
 use Rattle.c_steps.specs.States.{Held, Next, goes}
 use Rattle.c_steps.specs.Marks.{AtLabel, has, behind, does}
 use Rattle.c_steps.specs.Jumps.{broken, continued, jumped, left}
-use Rattle.c_row_needs.specs.Needs.{CanBreak, CanContinue, CanGoTo, CanReturn, EndsThere}
+use Rattle.c_steps_laws.specs.Needs.{CanBreak, CanContinue, CanGoTo, CanReturn, EndsThere}
 use Rattle.c_machine.specs.declared.jumps.Way.{Way}
 use Rattle.c_machine.specs.declared.jumps.Way.TheVariants as ways
 use Rattle.c_machine.specs.Landing.{closed, ends_at, memory_at, rest_at}

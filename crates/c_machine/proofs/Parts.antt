@@ -1,13 +1,13 @@
 -- Expressions that have parts.
 use Rattle.std.proofs.Common.{◌≡◌, ℤ, List, refl}
-use Rattle.c_written.specs.declared.int_type.IntType.{IntType}
-use Rattle.c_written.specs.declared.place.Pos.{Pos}
+use Rattle.c_syntax_written.specs.declared.int_type.IntType.{IntType}
+use Rattle.c_syntax_written.specs.declared.place.Pos.{Pos}
 use Rattle.c_syntax.specs.declared.types.CType.{CType}
 use Rattle.c_syntax.specs.Program.{TProgramTree}
 use Rattle.c_values.specs.Places.{ObjectMemory}
-use Rattle.c_shared.specs.declared.expression.SharedExpr.{SharedExpr}
-use Rattle.c_shared.specs.declared.expression.SharedExpr.TheVariants as exprs
-use Rattle.c_shared.specs.Expressions.{expr_tree}
+use Rattle.c_machine_trees.specs.declared.expression.SharedExpr.{SharedExpr}
+use Rattle.c_machine_trees.specs.declared.expression.SharedExpr.TheVariants as exprs
+use Rattle.c_machine_trees.specs.Expressions.{expr_tree}
 use Rattle.c_steps.specs.Work.{Item}
 use Rattle.c_steps.specs.States.{Held, goes}
 use Rattle.c_steps.specs.Expressions.{eval_step, parts_of}

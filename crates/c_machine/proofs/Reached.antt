@@ -8,8 +8,8 @@ use Rattle.c_objects.specs.Statics.{AreEightBits}
 use Rattle.c_steps.specs.States.{State, Next, Goes}
 use Rattle.c_steps.specs.Steps.{step}
 use Rattle.c_steps.specs.Runs.{IsReached, goes_on, moved_to, start, steps}
-use Rattle.c_typed_runs.specs.Fits.{Fits}
-use Rattle.c_row_needs.proofs.Runs.{starts_fit, steps_keep_fitting}
+use Rattle.c_steps_laws.specs.Fits.{Fits}
+use Rattle.c_steps_laws.proofs.NeededRuns.{starts_fit, steps_keep_fitting}
 
 last_step : (p : TProgramTree) (n : ℕ) (s : State) → steps p (suc n) s ≡ goes_on p (steps p n s)
 last_step p zero s = refl

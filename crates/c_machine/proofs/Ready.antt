@@ -4,14 +4,14 @@ use Rattle.c_syntax.specs.Program.{TProgramTree}
 use Rattle.c_values.specs.Places.{ObjectMemory}
 use Rattle.c_steps.specs.Work.{Item, LoadAt, StoreAt, Named, CopyAt, Modify, StepAt, Un, Bin, Conv, Move, Truth, Sure, Drop, Reach, Fill, FillCopy, Rest}
 use Rattle.c_steps.specs.States.{Held, State}
-use Rattle.c_row_needs.specs.Needs.{Needs}
-use Rattle.c_row_needs.specs.Shapes.{HasShape}
-use Rattle.c_row_needs.specs.Laws.{IsSound}
-use Rattle.c_row_needs.proofs.Shaped.{shaped}
-use Rattle.c_row_needs.proofs.Rows.{needs}
-use Rattle.c_row_needs.proofs.Sound.{sound}
-use Rattle.c_value_rows.specs.Items.{IsValueItem}
-use Rattle.c_value_rows.specs.Needs.{IsReady}
+use Rattle.c_steps_laws.specs.Needs.{Needs}
+use Rattle.c_steps_laws.specs.Shapes.{HasShape}
+use Rattle.c_steps_laws.specs.Laws.{IsSound}
+use Rattle.c_steps_laws.proofs.Shaped.{shaped}
+use Rattle.c_steps_laws.proofs.NeededRows.{needs}
+use Rattle.c_steps_laws.proofs.Sound.{sound}
+use Rattle.c_machine_values.specs.Items.{IsValueItem}
+use Rattle.c_machine_values.specs.Needs.{IsReady}
 use Rattle.c_machine.specs.States.{IsNext, before}
 
 pub shape_of : (p : TProgramTree) (item : Item) (s : State) → IsNext p item s → HasShape item s.stack

@@ -2,7 +2,7 @@
 use Rattle.std.specs.Prelude.{◌≡◌, ℕ, List, map, Option, option_map}
 use Rattle.c_syntax.specs.TypedStmt.{TStmtTree}
 use Rattle.c_syntax.specs.Program.{TFunctionTree, TProgramTree}
-use Rattle.c_shared.specs.Statements.{stmt_tree}
+use Rattle.c_machine_trees.specs.Statements.{stmt_tree}
 use Rattle.c_machine.specs.declared.functions.Callee as code
 use Rattle.c_machine.specs.declared.functions.Functions as tables
 

@@ -5,9 +5,9 @@ use Rattle.c_layout.specs.WellTyped.{IsWellTyped}
 use Rattle.c_steps.specs.Work.{Item}
 use Rattle.c_steps.specs.States.{State, Next, state}
 use Rattle.c_steps.specs.Steps.{item_step}
-use Rattle.c_typed_runs.specs.Fits.{Fits}
-use Rattle.c_value_rows.specs.Contents.{stack_of}
-use Rattle.c_work.specs.Works.{work_of}
+use Rattle.c_steps_laws.specs.Fits.{Fits}
+use Rattle.c_machine_values.specs.Contents.{stack_of}
+use Rattle.c_machine_work.specs.Works.{work_of}
 use Rattle.c_machine.specs.declared.run.Run.{Run}
 
 abbrev pub run_state : Run → State

@@ -3,12 +3,12 @@ use Rattle.std.specs.Prelude.{◌≡◌}
 use Rattle.c_syntax.specs.Program.{TProgramTree}
 use Rattle.c_steps.specs.Work.{Item}
 use Rattle.c_steps.specs.States.{State, Next, Goes, Ended, Waiting, Stopped}
-use Rattle.c_value_rows.specs.Rows.{IsWrongAs}
+use Rattle.c_machine_values.specs.Rows.{IsWrongAs}
 use Rattle.c_machine.specs.declared.step.Step.{Step}
 use Rattle.c_machine.specs.declared.step.Step.TheVariants as steps
 use Rattle.c_machine.specs.States.{row_of}
 
--- what is next is this, and a step that does not go on leaves the state. Want of memory is no step
+-- what is next is this, and a step that does not go on leaves the state. Out of memory is no step
 abbrev pub Comes : Next → State → State → Step → Type 0
 Comes next old new steps.Went = next ≡ Goes new
 Comes next old new (steps.Ended n) = (next ≡ Ended n) × (new ≡ old)

@@ -1,32 +1,32 @@
 // Rows that go on by the truth of a value.
 
 ghost use Rattle.std.specs.Prelude.{◌≡◌, ◌∷◌, IfOk, IsSome, OnOk, suc};
-ghost use Rattle.c_shared.specs.Expressions.{expr_tree};
-ghost use Rattle.c_shared.specs.Statements.{stmt_tree};
+ghost use Rattle.c_machine_trees.specs.Expressions.{expr_tree};
+ghost use Rattle.c_machine_trees.specs.Statements.{stmt_tree};
 ghost use Rattle.c_steps.specs.Expressions.{value_scalar as scalar_of_value};
 ghost use Rattle.c_steps.specs.Statements.{condition_scalar as scalar_of_condition};
 ghost use Rattle.c_steps.specs.Work as steps;
 ghost use Rattle.c_syntax.specs.Program.{TProgramTree};
-ghost use Rattle.c_work.specs.Views.{loop_of};
-ghost use Rattle.c_work.specs.Works.{work_of};
+ghost use Rattle.c_machine_work.specs.Views.{loop_of};
+ghost use Rattle.c_machine_work.specs.Works.{work_of};
 
 use crate::run::Run;
 use crate::shares::put_eval;
 use crate::step::Step;
 use block_mem::Scalar;
-use c_shared::{SharedExpr, SharedStmt};
+use c_machine_trees::{SharedExpr, SharedStmt};
+use c_machine_values::{Tested, put_value};
+use c_machine_work::{Held, Item, Loop, Work, value_scalar};
 use c_syntax::{IntType, Pos};
-use c_value_rows::{Tested, put_value};
 use c_values::{Given, bit, truth};
-use c_work::{Held, Item, Loop, Work, value_scalar};
 use std::alloc::AllocError as NoMemory;
 use std::rc::Rc;
 
 impl Run {
     ghost use Rattle.c_machine.specs.States.{run_state};
-    ghost use Rattle.c_row_needs.specs.Needs.{TestNeeds};
-    ghost use Rattle.c_row_needs.specs.Shapes.{HasValue};
-    ghost use Rattle.c_value_rows.specs.Contents.{stack_of};
+    ghost use Rattle.c_steps_laws.specs.Needs.{TestNeeds};
+    ghost use Rattle.c_steps_laws.specs.Shapes.{HasValue};
+    ghost use Rattle.c_machine_values.specs.Contents.{stack_of};
     ghost use Rattle.c_machine.specs.Steps.{IsRow};
 
     /// `&&`: the right side is evaluated where the left one is true.

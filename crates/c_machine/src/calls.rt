@@ -1,30 +1,30 @@
 // Rows of calls.
-#![tactic(auto, using(c_shared::proofs::SharedTrees::the_shared_trees))]
+#![tactic(auto, using(c_machine_trees::proofs::SharedTrees::the_shared_trees))]
 
 ghost use Rattle.std.specs.Prelude.{◌≡◌, ◌∷◌, IfOk, OnOk};
-ghost use Rattle.c_shared.specs.Statements.{stmt_tree};
+ghost use Rattle.c_machine_trees.specs.Statements.{stmt_tree};
 ghost use Rattle.c_syntax.specs.TypedStmt.{none};
-ghost use Rattle.c_work.specs.Works.{work_of};
+ghost use Rattle.c_machine_work.specs.Works.{work_of};
 ghost use Rattle.c_steps.specs.Work as steps;
 ghost use Rattle.c_syntax.specs.Program.{TProgramTree, tprogram_tree};
-ghost use Rattle.c_work.specs.Views.{end_of};
+ghost use Rattle.c_machine_work.specs.Views.{end_of};
 
 use crate::functions::{Callee, Functions};
 use crate::jumps::Way;
 use crate::run::Run;
 use crate::shares::put_params_end;
 use crate::step::Step;
+use c_machine_values::take_held;
+use c_machine_work::{AtEnd, Item, Work};
 use c_syntax::{Pos, TProgram};
-use c_value_rows::take_held;
-use c_work::{AtEnd, Item, Work};
 use std::alloc::{AllocError as NoMemory, Global};
 
 impl Run {
     ghost use Rattle.c_machine.specs.Functions.{AreFunctions};
     ghost use Rattle.c_machine.specs.States.{run_state};
-    ghost use Rattle.c_row_needs.specs.Needs.{CanReturn, EndsThere, IsEntered};
-    ghost use Rattle.c_row_needs.specs.Shapes.{HasTop};
-    ghost use Rattle.c_value_rows.specs.Contents.{stack_of};
+    ghost use Rattle.c_steps_laws.specs.Needs.{CanReturn, EndsThere, IsEntered};
+    ghost use Rattle.c_steps_laws.specs.Shapes.{HasTop};
+    ghost use Rattle.c_machine_values.specs.Contents.{stack_of};
     ghost use Rattle.c_machine.specs.Steps.{IsRow};
 
     /// A function is entered: its parameters live and have the arguments, and its body is next; behind

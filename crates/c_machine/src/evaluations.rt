@@ -1,8 +1,8 @@
 // Rows of expressions and places.
-#![tactic(auto, using(c_syntax::proofs::Trees::the_trees, c_shared::proofs::SharedTrees::the_shared_trees))]
+#![tactic(auto, using(c_syntax::proofs::Trees::the_trees, c_machine_trees::proofs::SharedTrees::the_shared_trees))]
 
 ghost use Rattle.std.specs.Prelude.{◌≡◌, IfOk};
-ghost use Rattle.c_shared.specs.Expressions.{expr_tree, place_tree};
+ghost use Rattle.c_machine_trees.specs.Expressions.{expr_tree, place_tree};
 ghost use Rattle.c_steps.specs.Expressions.{input_step};
 ghost use Rattle.c_steps.specs.Work as steps;
 ghost use Rattle.c_syntax.specs.Program.{TProgramTree, tprogram_tree};
@@ -12,15 +12,15 @@ use crate::shares::put_eval;
 use crate::step::Step;
 use block_mem::Value;
 use c_layout::wrap;
-use c_shared::{SharedExpr, SharedPlace};
+use c_machine_trees::{SharedExpr, SharedPlace};
+use c_machine_values::put_value;
+use c_machine_work::Item;
 use c_syntax::{IntType, TProgram};
-use c_value_rows::put_value;
-use c_work::Item;
 use std::alloc::AllocError as NoMemory;
 
 impl Run {
     ghost use Rattle.c_machine.specs.States.{run_state};
-    ghost use Rattle.c_row_needs.specs.Needs.{AddrNeeds};
+    ghost use Rattle.c_steps_laws.specs.Needs.{AddrNeeds};
     ghost use Rattle.c_machine.specs.Steps.{Comes, IsRow};
 
     /// Constants give their value at once, and other expressions put their parts in front.

@@ -1,11 +1,11 @@
 // The functions of a program, for calls.
-#![tactic(auto, using(c_syntax::proofs::Trees::the_trees, c_shared::proofs::SharedTrees::the_shared_trees))]
+#![tactic(auto, using(c_syntax::proofs::Trees::the_trees, c_machine_trees::proofs::SharedTrees::the_shared_trees))]
 
 ghost use Rattle.std.specs.Prelude.{◌≡◌, IfOk, IsSome, Some, map, slice_get};
 ghost use Rattle.c_machine.specs.Functions.{CalleeTree, bodied, callee_of, callee_tree, callees_of};
 ghost use Rattle.c_syntax.specs.Program.{tfunction_tree};
 
-use c_shared::{SharedStmt, shared_stmt};
+use c_machine_trees::{SharedStmt, shared_stmt};
 use c_syntax::{Numbers, TFunction, TFunctions};
 use std::alloc::{AllocError as NoMemory, Global};
 use std::rc::Rc;

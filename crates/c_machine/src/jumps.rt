@@ -1,15 +1,15 @@
 // Jumps.
 
 ghost use Rattle.std.specs.Prelude.{◌≡◌, ◌∷◌, [], true};
-ghost use Rattle.c_row_needs.specs.Needs.{CanBreak, CanContinue, CanGoTo, EndsThere};
+ghost use Rattle.c_steps_laws.specs.Needs.{CanBreak, CanContinue, CanGoTo, EndsThere};
 ghost use Rattle.c_machine.specs.Landing.{closed};
-ghost use Rattle.c_work.specs.Views.{item_of};
-ghost use Rattle.c_work.specs.Works.{work_of};
+ghost use Rattle.c_machine_work.specs.Views.{item_of};
+ghost use Rattle.c_machine_work.specs.Works.{work_of};
 
 use crate::marks::{has, put_behind};
 use crate::run::Run;
+use c_machine_work::{Item, Mark};
 use c_objects::ObjectMemory;
-use c_work::{Item, Mark};
 use std::alloc::AllocError as NoMemory;
 
 /// A jump, by the item up to which it drops work: the nearest loop or switch, the nearest loop, the

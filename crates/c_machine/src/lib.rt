@@ -11,7 +11,7 @@
 //!
 //! A machine is made of a well typed program and a plan for it, and steps on that program alone (`IsFor`). Its state is the one
 //! that `c_steps` speaks of (`state_of`), each step is its Step, and the state is one that the run of the plan's main on the
-//! inputs reaches; so it never stands, and each row finds on the stack and in memory what it needs (`c_typed_runs`).
+//! inputs reaches; so it never stands, and each row finds on the stack and in memory what it needs (`c_steps_laws`).
 //!
 //! What a step costs: function bodies are shared once, when the machine is made; from then on an item of the work has a share
 //! of the part of the program that it names, so a loop's turn copies nothing. A step takes as long as its row: a call as long

@@ -4,18 +4,18 @@ ghost use Rattle.std.specs.Prelude.{◌≡◌, [], ◌∷◌, IfOk, None};
 ghost use Rattle.c_steps.specs.Runs.{calls_in, chain_of};
 ghost use Rattle.c_steps.specs.Work as steps;
 ghost use Rattle.c_machine.specs.Chains.{call_in};
-ghost use Rattle.c_work.specs.Views.{in_front, item_of};
-ghost use Rattle.c_work.specs.Works.{work_of};
+ghost use Rattle.c_machine_work.specs.Views.{in_front, item_of};
+ghost use Rattle.c_machine_work.specs.Works.{work_of};
 
 use crate::functions::Functions;
 use crate::inputs::Inputs;
 use crate::jumps::Way;
 use crate::run::Run;
 use crate::step::Step;
+use c_machine_values::Values;
+use c_machine_work::{AtEnd, Item, Stack, Work};
 use c_objects::ObjectMemory;
 use c_syntax::{Places, Plan, Pos, TProgram};
-use c_value_rows::Values;
-use c_work::{AtEnd, Item, Stack, Work};
 use std::alloc::{AllocError as NoMemory, Global};
 
 /// A run of a program, step by step.

@@ -1,14 +1,14 @@
 // Where jumps and switches go on in a block.
-#![tactic(auto, using(c_shared::proofs::SharedTrees::the_shared_trees))]
+#![tactic(auto, using(c_machine_trees::proofs::SharedTrees::the_shared_trees))]
 
 ghost use Rattle.std.specs.Prelude.{◌≡◌, true, MatchOption, None, OnOk, Some};
-ghost use Rattle.c_shared.specs.Statements.{stmts_tree};
+ghost use Rattle.c_machine_trees.specs.Statements.{stmts_tree};
 ghost use Rattle.c_steps.specs.Marks.{behind, chosen as chosen_of, does, has as has_mark};
-ghost use Rattle.c_work.specs.Marks.{mark_of};
-ghost use Rattle.c_work.specs.Works.{work_of};
+ghost use Rattle.c_machine_work.specs.Marks.{mark_of};
+ghost use Rattle.c_machine_work.specs.Works.{work_of};
 
-use c_shared::SharedStmts;
-use c_work::{Mark, Work};
+use c_machine_trees::SharedStmts;
+use c_machine_work::{Mark, Work};
 use std::alloc::AllocError as NoMemory;
 
 /// Whether the mark stands among the items.

@@ -1,14 +1,14 @@
 // The row of an item.
-#![tactic(auto, using(c_shared::proofs::SharedTrees::the_shared_trees))]
+#![tactic(auto, using(c_machine_trees::proofs::SharedTrees::the_shared_trees))]
 
 ghost use Rattle.std.specs.Prelude.{◌≡◌, [], ◌∷◌, IfOk};
-ghost use Rattle.c_shared.specs.Statements.{stmts_tree};
+ghost use Rattle.c_machine_trees.specs.Statements.{stmts_tree};
 ghost use Rattle.c_steps.specs.Work as steps;
 ghost use Rattle.c_syntax.specs.Program.{TProgramTree, tprogram_tree};
 ghost use Rattle.c_steps.specs.States.{held};
-ghost use Rattle.c_row_needs.specs.Shapes.{HasNumber};
-ghost use Rattle.c_work.specs.Views.{item_of, loop_of, on_top};
-ghost use Rattle.c_written.specs.declared.int_type.IntType.{IntType};
+ghost use Rattle.c_steps_laws.specs.Shapes.{HasNumber};
+ghost use Rattle.c_machine_work.specs.Views.{item_of, loop_of, on_top};
+ghost use Rattle.c_syntax_written.specs.declared.int_type.IntType.{IntType};
 
 use crate::functions::Functions;
 use crate::marks::{chosen, put_behind};
@@ -16,21 +16,21 @@ use crate::run::Run;
 use crate::shares::{put_effect, put_eval, put_switch_end};
 use crate::step::Step;
 use block_mem::Value;
-use c_shared::SharedStmts;
+use c_machine_trees::SharedStmts;
+use c_machine_values::{Row, put_value, take_value};
+use c_machine_work::{Item, Loop, Stack};
 use c_syntax::{IntType, Numbers, TProgram};
-use c_value_rows::{Row, put_value, take_value};
 use c_values::bit;
-use c_work::{Item, Loop, Stack};
 use std::alloc::{AllocError as NoMemory, Global};
 use std::rc::Rc;
 
 impl Run {
     ghost use Rattle.c_machine.specs.Functions.{AreFunctions};
-    ghost use Rattle.c_value_rows.specs.Items.{IsValueItem};
+    ghost use Rattle.c_machine_values.specs.Items.{IsValueItem};
     ghost use Rattle.c_machine.specs.States.{IsNext, run_state};
-    ghost use Rattle.c_row_needs.specs.Needs.{AreThere, FinishNeeds};
-    ghost use Rattle.c_value_rows.specs.Contents.{stack_of};
-    ghost use Rattle.c_work.specs.Works.{work_of};
+    ghost use Rattle.c_steps_laws.specs.Needs.{AreThere, FinishNeeds};
+    ghost use Rattle.c_machine_values.specs.Contents.{stack_of};
+    ghost use Rattle.c_machine_work.specs.Works.{work_of};
     ghost use Rattle.c_machine.specs.Steps.{IsRow};
 
     /// The row of an item that was taken off the work.

@@ -1,8 +1,8 @@
 // The state of a run.
 
 use crate::inputs::Inputs;
-use c_value_rows::Values;
-use c_work::Work;
+use c_machine_values::Values;
+use c_machine_work::Work;
 
 /// The state of a run: the work that is left, the stack and the memory, and the inputs, of which so
 /// many were read.

@@ -1,16 +1,16 @@
 // Parts that rows put in front of the work, each with a share of its own.
-#![tactic(auto, using(c_shared::proofs::SharedTrees::the_shared_trees))]
+#![tactic(auto, using(c_machine_trees::proofs::SharedTrees::the_shared_trees))]
 
 ghost use Rattle.std.specs.Prelude.{◌≡◌, ◌∷◌, OnOk};
-ghost use Rattle.c_shared.specs.Expressions.{expr_tree};
-ghost use Rattle.c_shared.specs.Statements.{stmts_tree};
+ghost use Rattle.c_machine_trees.specs.Expressions.{expr_tree};
+ghost use Rattle.c_machine_trees.specs.Statements.{stmts_tree};
 ghost use Rattle.c_steps.specs.Work as steps;
 ghost use Rattle.c_syntax.specs.TypedStmt.{none};
-ghost use Rattle.c_work.specs.Works.{work_of};
+ghost use Rattle.c_machine_work.specs.Works.{work_of};
 
-use c_shared::{SharedExpr, SharedStmts};
+use c_machine_trees::{SharedExpr, SharedStmts};
+use c_machine_work::{Item, Work};
 use c_syntax::Numbers;
-use c_work::{Item, Work};
 use std::alloc::{AllocError as NoMemory, Global};
 use std::rc::Rc;
 

@@ -1,9 +1,9 @@
 // Rows of statements.
-#![tactic(auto, using(c_syntax::proofs::Trees::the_trees, c_shared::proofs::SharedTrees::the_shared_trees))]
+#![tactic(auto, using(c_syntax::proofs::Trees::the_trees, c_machine_trees::proofs::SharedTrees::the_shared_trees))]
 
 ghost use Rattle.std.specs.Prelude.{◌≡◌, ◌∷◌, IfOk, IsSome, List, OnOk, Some, map};
 ghost use Rattle.c_objects.specs.Opening.{open_all, undefined};
-ghost use Rattle.c_shared.specs.Statements.{inits_tree, option_tree, stmt_tree, stmts_tree};
+ghost use Rattle.c_machine_trees.specs.Statements.{inits_tree, option_tree, stmt_tree, stmts_tree};
 ghost use Rattle.c_steps.specs.Marks.{does};
 ghost use Rattle.c_steps.specs.States.{Goes, state};
 ghost use Rattle.c_steps.specs.Statements.{do_step, init_items, rest_items, return_step};
@@ -13,22 +13,22 @@ ghost use Rattle.c_syntax.specs.TypedStmt.{none};
 ghost use Rattle.c_syntax.specs.Types.{ObjectTree, object_tree};
 ghost use Rattle.c_machine.specs.Kinds.{EvaluatesFirst, IsJump, IsLoop};
 ghost use Rattle.c_values.specs.Places.{ObjectMemory, place_of};
-ghost use Rattle.c_work.specs.Views.{loop_of};
+ghost use Rattle.c_machine_work.specs.Views.{loop_of};
 
 use crate::run::Run;
 use crate::shares::{put_effect, put_eval, put_select};
 use crate::step::Step;
-use c_shared::{SharedExpr, SharedInits, SharedStmt, SharedStmts};
+use c_machine_trees::{SharedExpr, SharedInits, SharedStmt, SharedStmts};
+use c_machine_work::{Held, Item, Loop};
 use c_syntax::{Numbers, Object, TProgram};
 use c_values::Given;
-use c_work::{Held, Item, Loop};
 use std::alloc::{AllocError as NoMemory, Global};
 use std::rc::Rc;
 
 impl Run {
     ghost use Rattle.c_machine.specs.States.{run_state};
-    ghost use Rattle.c_row_needs.specs.Needs.{AreThere, DoNeeds};
-    ghost use Rattle.c_work.specs.Works.{work_of};
+    ghost use Rattle.c_steps_laws.specs.Needs.{AreThere, DoNeeds};
+    ghost use Rattle.c_machine_work.specs.Works.{work_of};
     ghost use Rattle.c_machine.specs.Steps.{IsRow};
 
     /// A statement is taken apart.

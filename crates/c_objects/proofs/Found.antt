@@ -4,14 +4,14 @@ use Rattle.std.proofs.Common.{Option, Some, None}
 use Rattle.std.specs.Prelude.{IfSome, nat_abs, ◌≤ℤ◌, ◌+ℤ◌, if◌then◌else◌, not, neg_ℤ, Result, Ok, Err, IfOk, slice_get}
 use Rattle.std.specs.Int.{w64, w128}
 use Rattle.std.proofs.lemmas.Int.{ints}
-use Rattle.c_written.specs.declared.int_type.IntType.{IntType}
+use Rattle.c_syntax_written.specs.declared.int_type.IntType.{IntType}
 use Rattle.c_syntax.specs.declared.alarm.Spot.{Spot}
 use Rattle.c_syntax.specs.declared.alarm.Spot.TheVariants as spots
 use Rattle.c_syntax.specs.declared.alarm.WrongKind.{WrongKind}
 use Rattle.c_syntax.specs.declared.alarm.WrongKind.TheVariants as kinds
 use Rattle.c_syntax.specs.declared.operator.TUnaryOp.{TUnaryOp}
 use Rattle.c_syntax.specs.declared.operator.TUnaryOp.TheVariants as unaries
-use Rattle.c_written.specs.declared.int_type.IntType.TheVariants as ints
+use Rattle.c_syntax_written.specs.declared.int_type.IntType.TheVariants as ints
 use Rattle.c_syntax.specs.declared.operator.Arithmetic.{Arithmetic}
 use Rattle.c_syntax.specs.declared.operator.Shift.{Shift}
 use Rattle.c_syntax.specs.declared.operator.TBinaryOp.{TBinaryOp}

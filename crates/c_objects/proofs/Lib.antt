@@ -9,3 +9,6 @@ pub mod Starting
 pub mod Reading
 pub mod OneScalar
 pub mod Rising
+pub mod Listed
+pub mod Places
+pub mod Starts

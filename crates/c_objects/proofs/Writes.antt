@@ -3,7 +3,7 @@ use Rattle.std.proofs.Common.{◌≡◌, ℕ, zero, suc, ◌<◌, ◌≤◌, pos
 use Rattle.std.proofs.Common.{Some, None}
 use Rattle.std.specs.Prelude.{option_map, if◌then◌else◌}
 use Rattle.std.proofs.lemmas.List.{length-replicate}
-use Rattle.c_written.specs.declared.int_type.IntType.TheVariants as ints
+use Rattle.c_syntax_written.specs.declared.int_type.IntType.TheVariants as ints
 use Rattle.c_syntax.specs.declared.alarm.WrongKind.{WrongKind}
 use Rattle.c_syntax.specs.Types.{ObjectTree}
 use Rattle.c_syntax.specs.TypedStmt.{TInitTree}

@@ -4,7 +4,7 @@ use Rattle.std.specs.Prelude.{nat_le, if◌then◌else◌}
 use Rattle.std.specs.Int.{w64}
 use Rattle.std.proofs.lemmas.Bool.{le-leb}
 use Rattle.std.proofs.lemmas.Int.{to_z_pos}
-use Rattle.c_written.specs.declared.int_type.IntType.TheVariants as ints
+use Rattle.c_syntax_written.specs.declared.int_type.IntType.TheVariants as ints
 use Rattle.block_mem.specs.declared.types.Value.TheVariants as values
 use Rattle.block_mem.specs.Block.{BlockView}
 use Rattle.block_mem.specs.Blocks.{block_at, store, wrong_access}

@@ -6,7 +6,7 @@ use Rattle.c_syntax.specs.declared.alarm.Spot.{Spot}
 use Rattle.c_syntax.specs.declared.alarm.WrongKind.{WrongKind}
 use Rattle.c_syntax.specs.Types.{CTypeTree, Int, ObjectTree}
 use Rattle.c_syntax.specs.Program.{StructDefTree}
-use Rattle.c_written.specs.Integer.{is_signed}
+use Rattle.c_syntax_written.specs.Integer.{is_signed}
 use Rattle.c_layout.specs.Scalars.{EachScalar, IsScalarAt}
 use Rattle.block_mem.specs.declared.types.Byte.{Byte}
 use Rattle.block_mem.specs.declared.types.Scalar.{Scalar}

@@ -4,3 +4,4 @@ pub mod Statics
 pub mod Kept
 pub mod Cells
 pub mod FactsIn
+pub mod Lifetimes

@@ -1,7 +1,7 @@
 // What every memory of objects keeps.
 ghost use Rattle.std.specs.Prelude.{◌≡◌, ◌<◌, ◌↔◌, ℕ, ℤ, Bool, List, length, slice_get, IsSome, Option, None, Some};
-ghost use Rattle.c_written.specs.declared.int_type.IntType.{IntType};
-ghost use Rattle.c_written.specs.Integer.{is_signed};
+ghost use Rattle.c_syntax_written.specs.declared.int_type.IntType.{IntType};
+ghost use Rattle.c_syntax_written.specs.Integer.{is_signed};
 ghost use Rattle.c_syntax.specs.declared.alarm.Cell.{Cell};
 ghost use Rattle.c_syntax.specs.Types.{CTypeTree, Int, ObjectTree, Pointer};
 ghost use Rattle.c_syntax.specs.Program.{StructDefTree, TProgramTree};

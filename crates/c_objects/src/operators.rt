@@ -11,7 +11,7 @@ ghost use Rattle.c_values.specs.Operators as operators;
 ghost use Rattle.c_values.specs.Operators.{elements, pair_operand};
 ghost use Rattle.c_values.specs.Places as places;
 ghost use Rattle.c_values.specs.Places.{spot_at};
-ghost use Rattle.c_written.specs.declared.int_type.IntType.{IntType};
+ghost use Rattle.c_syntax_written.specs.declared.int_type.IntType.{IntType};
 ghost use Rattle.c_values.specs.Typed.{IsInteger, IsNear, TakesBoth, TakesNumbers, TakesOne};
 ghost use Rattle.c_objects.specs.Kept.{AllFit, AreSmall};
 

@@ -2,10 +2,10 @@
 use Rattle.std.proofs.Common.{◌≡◌, ℕ, List, [], ◌∷◌, ◌++◌, length, refl, sym, ap, ◌∙◌, subst, arith, ◌⊎◌, inl, inr, Bor}
 use Rattle.std.proofs.lemmas.Bool.{eqb-true}
 use Rattle.std.specs.Prelude.{true, false, ◌==◌, map, Ok, Result, MatchResult, IsErrAnd}
-use Rattle.c_written.specs.declared.file.Outer.{Outer}
-use Rattle.c_written.specs.declared.token.Placed.{Placed}
-use Rattle.c_written.specs.declared.token.Tokens.{Tokens}
-use Rattle.c_written.specs.WrittenFile.{OuterTree, FileTree, outer_tree}
+use Rattle.c_syntax_written.specs.declared.file.Outer.{Outer}
+use Rattle.c_syntax_written.specs.declared.token.Placed.{Placed}
+use Rattle.c_syntax_written.specs.declared.token.Tokens.{Tokens}
+use Rattle.c_syntax_written.specs.WrittenFile.{OuterTree, FileTree, outer_tree}
 use Rattle.c_grammar.specs.Parts as parts
 use Rattle.c_grammar.specs.declared.parts.Setting.TheVariants.{AtFile}
 use Rattle.c_grammar.specs.Parts.{Scene, AnOuter, Outers}
@@ -17,15 +17,15 @@ use Rattle.c_grammar.specs.Grammar.{at_start, file_rule}
 use Rattle.c_grammar.specs.Refused.{Why, Syntax, Unsupported, TooDeep, IsFile, IsRefused}
 use Rattle.c_grammar.specs.Descent.{Outcome, Done, Stop, Goes, by_rule, is_done, passes}
 use Rattle.c_grammar.proofs.Laws.{found, file_only, refusal_only}
-use Rattle.c_parse_steps.specs.declared.fault.Fault.{Fault}
-use Rattle.c_parse_steps.specs.declared.fault.Fault.TheVariants as faults
-use Rattle.c_parse_steps.specs.Answers.{Gives, Halts, syntax, unsupported, too_deep}
+use Rattle.c_parser_steps.specs.declared.fault.Fault.{Fault}
+use Rattle.c_parser_steps.specs.declared.fault.Fault.TheVariants as faults
+use Rattle.c_parser_steps.specs.Answers.{Gives, Halts, syntax, unsupported, too_deep}
 use Rattle.c_parser.specs.declared.parsing.ParseError.{ParseError}
 use Rattle.c_parser.specs.declared.parsing.ParseError.TheVariants as errors
-use Rattle.c_parse_steps.proofs.Paths.{Path, begin, behind, goes_so}
+use Rattle.c_parser_steps.proofs.Paths.{Path, begin, behind, goes_so}
 use Rattle.c_parser.specs.Refusals.{IsError, IsErrorOf, TellsRefused}
-use Rattle.c_parse_steps.proofs.Last.{same, last_part}
-use Rattle.c_parse_steps.proofs.Steps.{passed_on}
+use Rattle.c_parser_steps.proofs.Last.{same, last_part}
+use Rattle.c_parser_steps.proofs.Steps.{passed_on}
 
 -- the descent through the file ends so
 abbrev pub Reads : List Placed → Outcome (List OuterTree) → Type 0

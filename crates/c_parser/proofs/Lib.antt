@@ -1,3 +1,11 @@
 pub mod Answered
 pub mod Made
 pub mod NewTypes
+pub mod DeclStarts
+pub mod DeclSteps
+pub mod Heads
+pub mod MadeDecls
+pub mod SimpleStarts
+pub mod SimpleSteps
+pub mod Starts
+pub mod Steps

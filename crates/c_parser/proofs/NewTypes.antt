@@ -4,21 +4,21 @@ use Rattle.std.specs.Prelude.{◌||◌, map, Option, Some, None}
 use Rattle.std.proofs.lemmas.List.{append-nil, at_drop_more, at_drop_all}
 use Rattle.std.specs.declared.alloc.Global.{Global}
 use Rattle.std.specs.declared.boxed.Box.{Box}
-use Rattle.c_written.specs.declared.declaration.Decl.{Decl}
-use Rattle.c_written.specs.declared.declaration.InitDeclarator.{InitDeclarator}
-use Rattle.c_written.specs.declared.file.BlockItems.{BlockItems}
-use Rattle.c_written.specs.declared.file.Outer.{Outer}
-use Rattle.c_written.specs.declared.file.Outer.TheVariants as outers
-use Rattle.c_written.specs.declared.place.Pos.{Pos}
-use Rattle.c_written.specs.declared.written.Declarator.{Declarator}
-use Rattle.c_written.specs.declared.written.Spec.{Spec}
-use Rattle.c_written.specs.declared.written.Specs.{Specs}
-use Rattle.c_written.specs.Written.{spec_tree, specs_from, specs_tree, declarator_tree}
-use Rattle.c_written.specs.WrittenDecl.{initdeclarator_tree}
-use Rattle.c_written.specs.WrittenFile.{outer_tree}
-use Rattle.c_written.proofs.WrittenFileTrees.{outer_declared, outer_function}
+use Rattle.c_syntax_written.specs.declared.declaration.Decl.{Decl}
+use Rattle.c_syntax_written.specs.declared.declaration.InitDeclarator.{InitDeclarator}
+use Rattle.c_syntax_written.specs.declared.file.BlockItems.{BlockItems}
+use Rattle.c_syntax_written.specs.declared.file.Outer.{Outer}
+use Rattle.c_syntax_written.specs.declared.file.Outer.TheVariants as outers
+use Rattle.c_syntax_written.specs.declared.place.Pos.{Pos}
+use Rattle.c_syntax_written.specs.declared.written.Declarator.{Declarator}
+use Rattle.c_syntax_written.specs.declared.written.Spec.{Spec}
+use Rattle.c_syntax_written.specs.declared.written.Specs.{Specs}
+use Rattle.c_syntax_written.specs.Written.{spec_tree, specs_from, specs_tree, declarator_tree}
+use Rattle.c_syntax_written.specs.WrittenDecl.{initdeclarator_tree}
+use Rattle.c_syntax_written.specs.WrittenFile.{outer_tree}
+use Rattle.c_syntax_written.proofs.WrittenFileTrees.{outer_declared, outer_function}
 use Rattle.c_grammar.specs.Made.{declared_word, declared_words, has_typedef, is_typedef, new_types, with_word}
-use Rattle.c_parse_steps.proofs.Steps.{if_false}
+use Rattle.c_parser_steps.proofs.Steps.{if_false}
 
 abbrev pub typedef_among : List Spec → Bool
 typedef_among specs = has_typedef (specs_from specs)

@@ -1,1 +1,4 @@
 pub mod Refusals
+pub mod Answers
+pub mod HeadKinds
+pub mod SimpleKinds

@@ -1,11 +1,11 @@
 -- What an error tells of the tokens.
 use Rattle.std.specs.Prelude.{◌≡◌, List, [], ◌∷◌}
-use Rattle.c_written.specs.declared.place.Pos.{Pos}
-use Rattle.c_written.specs.declared.token.Placed.{Placed}
-use Rattle.c_written.specs.declared.token.Tokens.{Tokens}
+use Rattle.c_syntax_written.specs.declared.place.Pos.{Pos}
+use Rattle.c_syntax_written.specs.declared.token.Placed.{Placed}
+use Rattle.c_syntax_written.specs.declared.token.Tokens.{Tokens}
 use Rattle.c_grammar.specs.Refused.{Why, Syntax, Unsupported, TooDeep, IsRefused}
-use Rattle.c_parse_steps.specs.declared.fault.Fault.{Fault}
-use Rattle.c_parse_steps.specs.declared.fault.Fault.TheVariants as faults
+use Rattle.c_parser_steps.specs.declared.fault.Fault.{Fault}
+use Rattle.c_parser_steps.specs.declared.fault.Fault.TheVariants as faults
 use Rattle.c_parser.specs.declared.parsing.ParseError.{ParseError}
 use Rattle.c_parser.specs.declared.parsing.ParseError.TheVariants as errors
 

@@ -1,23 +1,24 @@
 // The declarations of a file.
-#![tactic(auto, using(c_written::proofs::Trees::the_written_trees))]
+#![tactic(auto, using(c_syntax_written::proofs::Trees::the_written_trees))]
 
 ghost use Rattle.std.specs.Prelude.{◌≡◌, ℕ, ◌+◌, ◌<◌, ◌≤◌, ◌++◌, true, List, [], length, map, IfOk};
-ghost use Rattle.c_written.specs.Written.{declarator_tree, spec_tree, specs_from, specs_tree};
-ghost use Rattle.c_written.specs.WrittenDecl.{initdeclarator_tree};
-ghost use Rattle.c_written.specs.WrittenFile.{Function, blockitems_tree, outer_tree};
+ghost use Rattle.c_syntax_written.specs.Written.{declarator_tree, spec_tree, specs_from, specs_tree};
+ghost use Rattle.c_syntax_written.specs.WrittenDecl.{initdeclarator_tree};
+ghost use Rattle.c_syntax_written.specs.WrittenFile.{Function, blockitems_tree, outer_tree};
 ghost use Rattle.c_grammar.specs.Made.{declared_word, declared_words, has_typedef, is_typedef, new_types, specs_pos, with_word};
 ghost use Rattle.c_grammar.specs.Parts as part;
 ghost use Rattle.c_grammar.specs.Refused.{first_is, is_brace};
-ghost use Rattle.c_parse_steps.specs.Answers.{Answers};
-ghost use Rattle.c_parse_steps.specs.Views.{boxed_declarator, scene_of};
+ghost use Rattle.c_parser_steps.specs.Answers.{Answers};
+ghost use Rattle.c_parser_steps.specs.Views.{boxed_declarator, scene_of};
 
+use crate::decl::{initial, no_declarators};
+use crate::stmt::block_items;
 use c_grammar::{Class, Role};
-use c_parse_exprs::{declarator, specs};
-use c_parse_steps::{
+use c_parser_exprs::{declarator, specs};
+use c_parser_steps::{
     Context, Lookahead, Reading, TypeNames, comes, declared_word, specs_pos, taken,
 };
-use c_parse_stmts::{block_items, initial, no_declarators};
-use c_written::{
+use c_syntax_written::{
     BlockItems, Declarator, InitDeclarator, Outer, Placed, Pos, Punctuator, Spec, Specs,
     StorageWord,
 };

@@ -1,21 +1,21 @@
 // The whole of a file.
-#![tactic(auto, using(c_written::proofs::Trees::the_written_trees))]
+#![tactic(auto, using(c_syntax_written::proofs::Trees::the_written_trees))]
 
 ghost use Rattle.std.specs.Prelude.{◌≡◌, ◌⊎◌, ℕ, ◌<◌, List, [], map, length, IfOk, IfErr, MatchResult};
-ghost use Rattle.c_written.specs.WrittenFile.{FileTree, file_tree, outer_tree};
-ghost use Rattle.c_written.specs.declared.token.Placed.{Placed};
+ghost use Rattle.c_syntax_written.specs.WrittenFile.{FileTree, file_tree, outer_tree};
+ghost use Rattle.c_syntax_written.specs.declared.token.Placed.{Placed};
 ghost use Rattle.c_grammar.specs.Refused.{IsFile, IsRefused, Why};
 ghost use Rattle.c_parser.specs.Refusals.{IsError, IsErrorOf, TellsRefused, place_of};
 ghost use Rattle.c_grammar.specs.Parts as part;
-ghost use Rattle.c_parse_steps.specs.Answers.{Answers, Halts};
+ghost use Rattle.c_parser_steps.specs.Answers.{Answers, Halts};
 ghost use Rattle.c_grammar.specs.Grammar.{at_start};
 ghost use Rattle.c_grammar.specs.Descent.{Done, Goes, Stop};
 ghost use Rattle.c_parser.specs.declared.parsing.ParseError.TheVariants.{NoMemory};
 
 use crate::outer::{outer, types_after};
 use c_grammar::Setting;
-use c_parse_steps::{Context, Fault, Reading, TypeNames};
-use c_written::{Construct, File, Outer, Outers, Placed, Pos, Tokens};
+use c_parser_steps::{Context, Fault, Reading, TypeNames};
+use c_syntax_written::{Construct, File, Outer, Outers, Placed, Pos, Tokens};
 use std::alloc::Global;
 use thiserror::Error;
 

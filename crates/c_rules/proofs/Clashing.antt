@@ -1,4 +1,4 @@
--- What the tests of c_sides tell of two sides of a node.
+-- What the tests of c_rules_order tell of two sides of a node.
 use Rattle.std.proofs.Common.{◌≡◌, ◌⊎◌, inl, inr, ℕ, Bool, true, false, ◌||◌, List, Some, None, refl, sym, subst}
 use Rattle.std.specs.Prelude.{◌↔◌, Err, IfOk, Ok, Result, Option, All, Contains, MatchOption}
 use Rattle.std.specs.List.{list_any}
@@ -6,16 +6,16 @@ use Rattle.std.proofs.lemmas.Bool.{or_cases}
 use Rattle.std.proofs.lemmas.List.Elements.{Contains-append_cases, Contains-append_left, Contains-append_right}
 use Rattle.c_syntax.specs.Program.{TProgramTree}
 use Rattle.c_layout.specs.Calls.{PlacedCall}
-use Rattle.c_effects.specs.declared.touch.Touch.{Touch}
-use Rattle.c_effects.specs.Meeting.{Meet}
-use Rattle.c_effects.specs.declared.effects.Effects.{Effects}
-use Rattle.c_effects.specs.Effects.{called}
-use Rattle.c_effects.specs.Met.{met}
-use Rattle.c_effects.proofs.Tests.{tells}
-use Rattle.c_sides.specs.declared.known.Known.{Known}
-use Rattle.c_sides.specs.declared.side.Side.{Side}
-use Rattle.c_sides.specs.declared.side.Comparison.{Comparison}
-use Rattle.c_sides.specs.Firsts.{all_reads, all_touches, all_writes, called_reads, called_writes, clashes, or_first, writes_into}
+use Rattle.c_rules_effects.specs.declared.touch.Touch.{Touch}
+use Rattle.c_rules_effects.specs.Meeting.{Meet}
+use Rattle.c_rules_effects.specs.declared.effects.Effects.{Effects}
+use Rattle.c_rules_effects.specs.Effects.{called}
+use Rattle.c_rules_effects.specs.Met.{met}
+use Rattle.c_rules_effects.proofs.Tests.{tells}
+use Rattle.c_rules_order.specs.declared.known.Known.{Known}
+use Rattle.c_rules_order.specs.declared.side.Side.{Side}
+use Rattle.c_rules_order.specs.declared.side.Comparison.{Comparison}
+use Rattle.c_rules_order.specs.Firsts.{all_reads, all_touches, all_writes, called_reads, called_writes, clashes, or_first, writes_into}
 use Rattle.c_rules.specs.Earliest.{IsEarliest, IsFirst}
 use Rattle.c_rules.specs.Sequenced.{Clash, compared_by, IsClashOf, IsEffectsOfSide, IsFirstClash, IsKnownOf, IsSequenced, Reads, Writes, WritesInto}
 use Rattle.c_rules.proofs.Members.{first_is_one, first_true, in_flat_map, into_flat_map, none_true, some_true, true_some, all_not_first}

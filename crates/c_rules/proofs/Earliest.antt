@@ -2,9 +2,9 @@
 use Rattle.std.proofs.Common.{◌≡◌, ◌⊎◌, inl, inr, ℕ, ◌+◌, ◌<◌, ◌≤◌, Some, None, sym, subst, arith}
 use Rattle.std.specs.Prelude.{Option, MatchOption}
 use Rattle.std.proofs.lemmas.Bool.{cases_eq, cases_lt}
-use Rattle.c_written.specs.declared.place.Pos.{Pos}
+use Rattle.c_syntax_written.specs.declared.place.Pos.{Pos}
 use Rattle.c_layout.specs.Calls.{IsBefore}
-use Rattle.c_calls.proofs.Firsts.{before_after, never_before_itself}
+use Rattle.c_rules_calls.proofs.Firsts.{before_after, never_before_itself}
 use Rattle.c_rules.specs.Earliest.{IsEarlier, IsEarliest, IsEarliestBelow, IsFoundBelow}
 
 module _ {A : Type 0} (place : A → Pos) (IsFirstOf : ℕ → A → Type 0) where

@@ -3,12 +3,12 @@ use Rattle.std.proofs.Common.{◌≡◌, ℕ, ◌<◌, ◌≤◌, List, [], ◌�
 use Rattle.std.specs.Prelude.{Option, MatchOption, option_and_then, option_map, slice_get, unwrap_or}
 use Rattle.std.proofs.lemmas.List.{length-map}
 use Rattle.std.proofs.lemmas.Option.{slice_get-map, slice_get-get_or, slice_get_past}
-use Rattle.c_written.specs.declared.place.Pos.{Pos}
+use Rattle.c_syntax_written.specs.declared.place.Pos.{Pos}
 use Rattle.c_syntax.specs.declared.program.TFunction.{TFunction}
 use Rattle.c_syntax.specs.TypedStmt.{TStmtTree}
 use Rattle.c_syntax.specs.Program.{TFunctionTree, TProgramTree, tfunction_tree}
-use Rattle.c_calls.specs.Gotos.{strays}
-use Rattle.c_sides.specs.Sides.{compared_in_stmt}
+use Rattle.c_rules_calls.specs.Gotos.{strays}
+use Rattle.c_rules_order.specs.Sides.{compared_in_stmt}
 use Rattle.c_rules.specs.Earliest.{IsEarliest}
 use Rattle.c_rules.specs.Rules.{IsFirstStray, IsStrayOf, strays_by}
 use Rattle.c_rules.specs.Sequenced.{compared_by}

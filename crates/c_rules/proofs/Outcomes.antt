@@ -7,18 +7,18 @@ use Rattle.std.proofs.lemmas.List.{take_all, take_more}
 use Rattle.std.proofs.lemmas.List.Elements.{All-contains, All-head, All-nil, All-push, All-tail}
 use Rattle.std.proofs.lemmas.List.Sums.{sum_by-cons}
 use Rattle.std.proofs.lemmas.Option.{slice_get-get_or}
-use Rattle.c_written.specs.declared.place.Pos.{Pos}
+use Rattle.c_syntax_written.specs.declared.place.Pos.{Pos}
 use Rattle.c_syntax.specs.Program.{TProgramTree}
 use Rattle.c_layout.specs.Calls.{PlacedCall, IsBefore}
-use Rattle.c_calls.specs.Graph.{calls_from, graph_of, IsDefined, IsOrderOf, OrdersExcludeClosedLists}
-use Rattle.c_calls.specs.Inlined.{AreInlined, ended, sizes_of}
-use Rattle.c_calls.proofs.Orders.{contains_counted}
+use Rattle.c_rules_calls.specs.Graph.{calls_from, graph_of, IsDefined, IsOrderOf, OrdersExcludeClosedLists}
+use Rattle.c_rules_calls.specs.Inlined.{AreInlined, ended, sizes_of}
+use Rattle.c_rules_calls.proofs.Orders.{contains_counted}
 use Rattle.c_rules.specs.declared.error.RuleError.{RuleError}
 use Rattle.c_rules.specs.declared.error.RuleError.TheVariants as errors
 use Rattle.c_rules.specs.Outcomes.{IsSameRefusal, question, told_place, told_size}
 use Rattle.c_rules.specs.Rules.{Begins, HasOrder, HasSize, IsAdmitted, IsComplete, IsFirstStray, IsMain, IsRefused, IsShallow, IsSmall, IsUndefinedAt, KeepsGotos}
 use Rattle.c_rules.specs.Sequenced.{compared_by, Clash, IsUnsequencedAt}
-use Rattle.c_effects.specs.declared.effects.Effects.{Effects}
+use Rattle.c_rules_effects.specs.declared.effects.Effects.{Effects}
 use Rattle.c_rules.proofs.Mains.{one_main}
 use Rattle.c_rules.proofs.Members.{all_not_first}
 use Rattle.c_rules.proofs.Stages.{main_defined}

@@ -10,11 +10,11 @@ use Rattle.c_layout.specs.Calls.{PlacedCall, function_calls, IsChain, stmt_calls
 use Rattle.c_layout.specs.Jumps.{GotosStay}
 use Rattle.c_layout.specs.Plans.{HasBody, IsOrdered, IsPlanFor, IsStart}
 use Rattle.c_layout.specs.WellTyped.{EachOf}
-use Rattle.c_calls.specs.Graph.{calls_from, calls_in, graph_of, IsDefined, IsOrderOf, IsWay}
-use Rattle.c_calls.proofs.Orders.{times_none}
-use Rattle.c_calls.specs.Gotos.{strays}
-use Rattle.c_calls.proofs.Stays.{stays}
-use Rattle.c_sides.proofs.GraphCalls.{graph_calls}
+use Rattle.c_rules_calls.specs.Graph.{calls_from, calls_in, graph_of, IsDefined, IsOrderOf, IsWay}
+use Rattle.c_rules_calls.proofs.Orders.{times_none}
+use Rattle.c_rules_calls.specs.Gotos.{strays}
+use Rattle.c_rules_calls.proofs.Stays.{stays}
+use Rattle.c_rules_order.proofs.GraphCalls.{graph_calls}
 use Rattle.c_rules.specs.Rules.{IsMain, KeepsGotos, strays_by}
 
 not_some : false ≡ true → ⊥

@@ -6,9 +6,9 @@ use Rattle.c_syntax.specs.TypedStmt.{TStmtTree}
 use Rattle.c_syntax.specs.Program.{TFunctionTree, TProgramTree}
 use Rattle.c_layout.specs.Calls.{PlacedCall, stmt_calls}
 use Rattle.c_layout.specs.Plans.{IsStart}
-use Rattle.c_calls.specs.Graph.{AreDefined, calls_in, graph_of, IsClosedList, IsDefined, IsOrderOf, IsWay}
-use Rattle.c_calls.specs.Inlined.{IsInlinedSize, sizes_of}
-use Rattle.c_calls.specs.Undefined.{IsFirstUndefined}
+use Rattle.c_rules_calls.specs.Graph.{AreDefined, calls_in, graph_of, IsClosedList, IsDefined, IsOrderOf, IsWay}
+use Rattle.c_rules_calls.specs.Inlined.{IsInlinedSize, sizes_of}
+use Rattle.c_rules_calls.specs.Undefined.{IsFirstUndefined}
 use Rattle.c_rules.specs.declared.error.RuleError.TheVariants as errors
 use Rattle.c_rules.specs.Rules.{HasOrder, IsComplete, IsMain, IsRefused, IsShallow, IsSmall}
 use Rattle.c_rules.proofs.Mains.{one_main}

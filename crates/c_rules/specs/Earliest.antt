@@ -1,6 +1,6 @@
 -- The first in a list, and the first in the text of what is the first of its function.
 use Rattle.std.specs.Prelude.{◌≡◌, ◌⊎◌, ◌<◌, ℕ, Option, None, Some, List, ◌∷◌, ◌++◌, All, MatchOption}
-use Rattle.c_written.specs.declared.place.Pos.{Pos}
+use Rattle.c_syntax_written.specs.declared.place.Pos.{Pos}
 use Rattle.c_layout.specs.Calls.{IsBefore}
 
 -- of those of which this is so the first in the list

@@ -1,12 +1,12 @@
 -- What two outcomes of one program have in common.
 use Rattle.std.specs.Prelude.{◌≡◌, ◌≢◌, ℕ, Option, None, Some}
-use Rattle.c_written.specs.declared.place.Pos.{Pos}
+use Rattle.c_syntax_written.specs.declared.place.Pos.{Pos}
 use Rattle.c_syntax.specs.Program.{TProgramTree}
 use Rattle.c_rules.specs.declared.error.RuleError.{RuleError}
 use Rattle.c_rules.specs.declared.error.RuleError.TheVariants as errors
 use Rattle.c_rules.specs.Rules.{IsAdmitted, IsRefused}
 
--- the number of the question whose answer is no; want of memory answers none
+-- the number of the question whose answer is no; out of memory answers none
 abbrev pub question : RuleError → ℕ
 question errors.NoMemory = 0
 question errors.NoMain = 1

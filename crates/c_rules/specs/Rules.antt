@@ -1,14 +1,14 @@
 -- Which programs are admitted, and for what another is refused (this profile).
 use Rattle.std.specs.Prelude.{◌≡◌, ◌<◌, ◌≤◌, ℕ, Some, option_and_then, option_map, unwrap_or, IsSomeAnd, List, [], length, slice_get}
-use Rattle.c_written.specs.declared.place.Pos.{Pos}
+use Rattle.c_syntax_written.specs.declared.place.Pos.{Pos}
 use Rattle.c_syntax.specs.Program.{TProgramTree}
 use Rattle.c_layout.specs.Calls.{PlacedCall}
 use Rattle.c_layout.specs.MainFunction.{main_of}
 use Rattle.c_layout.specs.Plans.{IsStart}
-use Rattle.c_calls.specs.Graph.{AreDefined, graph_of, IsClosedList, IsOrderOf, IsWay}
-use Rattle.c_calls.specs.Inlined.{IsInlinedSize, sizes_of}
-use Rattle.c_calls.specs.Undefined.{IsFirstUndefined}
-use Rattle.c_calls.specs.Gotos.{strays}
+use Rattle.c_rules_calls.specs.Graph.{AreDefined, graph_of, IsClosedList, IsOrderOf, IsWay}
+use Rattle.c_rules_calls.specs.Inlined.{IsInlinedSize, sizes_of}
+use Rattle.c_rules_calls.specs.Undefined.{IsFirstUndefined}
+use Rattle.c_rules_calls.specs.Gotos.{strays}
 use Rattle.c_rules.specs.declared.error.RuleError.{RuleError}
 use Rattle.c_rules.specs.declared.error.RuleError.TheVariants as errors
 use Rattle.c_rules.specs.Earliest.{IsEarliest}

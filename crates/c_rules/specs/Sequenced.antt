@@ -1,17 +1,17 @@
 -- Which nodes of a program have two sides of which one writes what the other touches (C11 6.5p2 and p3; this profile).
 use Rattle.std.specs.Prelude.{◌≡◌, ◌↔◌, ◌⊎◌, ℕ, option_and_then, option_map, unwrap_or, List, [], All, Contains, slice_get}
-use Rattle.c_written.specs.declared.place.Pos.{Pos}
+use Rattle.c_syntax_written.specs.declared.place.Pos.{Pos}
 use Rattle.c_syntax.specs.Program.{TProgramTree}
 use Rattle.c_layout.specs.Calls.{PlacedCall}
-use Rattle.c_effects.specs.declared.touch.Touch.{Touch}
-use Rattle.c_effects.specs.Meeting.{Meet}
-use Rattle.c_effects.specs.declared.effects.Effects.{Effects}
-use Rattle.c_effects.specs.Taken.{taken_table}
-use Rattle.c_sides.specs.Closed.{AreClosed, IsCalledRead, IsCalledWrite}
-use Rattle.c_sides.specs.declared.known.Known.{Known}
-use Rattle.c_sides.specs.declared.side.Side.{Side}
-use Rattle.c_sides.specs.declared.side.Comparison.{Comparison}
-use Rattle.c_sides.specs.Sides.{compared_in_stmt}
+use Rattle.c_rules_effects.specs.declared.touch.Touch.{Touch}
+use Rattle.c_rules_effects.specs.Meeting.{Meet}
+use Rattle.c_rules_effects.specs.declared.effects.Effects.{Effects}
+use Rattle.c_rules_effects.specs.Taken.{taken_table}
+use Rattle.c_rules_order.specs.Closed.{AreClosed, IsCalledRead, IsCalledWrite}
+use Rattle.c_rules_order.specs.declared.known.Known.{Known}
+use Rattle.c_rules_order.specs.declared.side.Side.{Side}
+use Rattle.c_rules_order.specs.declared.side.Comparison.{Comparison}
+use Rattle.c_rules_order.specs.Sides.{compared_in_stmt}
 use Rattle.c_rules.specs.Earliest.{IsEarliest, IsFirst}
 
 -- what a side reads: itself, or in a function that it calls

@@ -3,17 +3,17 @@
 
 ghost use Rattle.std.specs.Prelude.{◌≡◌, ℕ, [], None, option_map, unwrap_or, IfOk, MatchOption};
 ghost use Rattle.c_syntax.specs.Program.{tfunction_tree, tprogram_tree};
-ghost use Rattle.c_effects.specs.Taken.{taken_table};
-ghost use Rattle.c_sides.specs.Closed.{AreClosed};
-ghost use Rattle.c_calls.specs.Graph.{AreDefined, graph_of, IsOrderOf};
-ghost use Rattle.c_sides.specs.Firsts.{or_first};
-ghost use Rattle.c_sides.specs.Sides.{compared_in_stmt};
+ghost use Rattle.c_rules_effects.specs.Taken.{taken_table};
+ghost use Rattle.c_rules_order.specs.Closed.{AreClosed};
+ghost use Rattle.c_rules_calls.specs.Graph.{AreDefined, graph_of, IsOrderOf};
+ghost use Rattle.c_rules_order.specs.Firsts.{or_first};
+ghost use Rattle.c_rules_order.specs.Sides.{compared_in_stmt};
 ghost use Rattle.c_rules.specs.Earliest.{IsEarlier};
 ghost use Rattle.c_rules.specs.Sequenced.{IsEffectsOfSide, IsFirstClash, IsKnownOf, IsSequenced};
 
-use c_calls::{CallGraph, is_before};
-use c_effects::{Effects, taken_table};
-use c_sides::{Comparison, Known, Side, closed_effects, effects_of_side, first_clash};
+use c_rules_calls::{CallGraph, is_before};
+use c_rules_effects::{Effects, taken_table};
+use c_rules_order::{Comparison, Known, Side, closed_effects, effects_of_side, first_clash};
 use c_syntax::{Numbers, TFunction, TProgram};
 use std::alloc::{AllocError as NoMemory, Global};
 

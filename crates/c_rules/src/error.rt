@@ -3,8 +3,8 @@
 ghost use Rattle.std.specs.Prelude.{◌≡◌};
 ghost use Rattle.c_rules.specs.declared.error.RuleError.TheVariants.{NoMemory};
 
-use c_calls::Calls;
-use c_effects::Effects;
+use c_rules_calls::Calls;
+use c_rules_effects::Effects;
 use c_syntax::Pos;
 use std::alloc::AllocError;
 

@@ -11,7 +11,7 @@
 //! | What | Stated in `specs/` | Promised by |
 //! |---|---|---|
 //! | what is admitted, and what else is refused for | `Rules` | `admit` |
-//! | the order rule | `Sequenced`, over `Sides` of c_sides | `admit` |
+//! | the order rule | `Sequenced`, over `Sides` of c_rules_order | `admit` |
 //! | the plan | `Plans` of c_layout | `admit` |
 //! | what two outcomes of one program have in common | `Outcomes` | `refusals_are_one`, `admitted_is_not_refused` |
 #![tactic(auto)]

@@ -4,7 +4,7 @@
 ghost use Rattle.std.specs.Prelude.{◌≡◌, IfErr, IfOk, MatchOption};
 ghost use Rattle.c_syntax.specs.Program.{tprogram_tree};
 ghost use Rattle.c_layout.specs.Plans.{IsPlanFor};
-ghost use Rattle.c_calls.specs.Graph.{graph_of, IsOrderOf};
+ghost use Rattle.c_rules_calls.specs.Graph.{graph_of, IsOrderOf};
 ghost use Rattle.c_rules.specs.Sequenced.{IsFirstClash, IsKnownOf, IsSequenced};
 ghost use Rattle.c_rules.specs.Rules.{HasOrder, IsAdmitted, IsComplete, IsMain, IsRefused, IsShallow, IsSmall, KeepsGotos};
 
@@ -12,10 +12,10 @@ use crate::clashes::{first_of_all, known_of, side_effects};
 use crate::error::RuleError;
 use crate::start::main_function;
 use crate::strays::first_stray;
-use c_calls::{
+use c_rules_calls::{
     CallGraph, DepthError, OrderError, check_depth, inlined_size, order_of, undefined_call,
 };
-use c_sides::{Comparison, Known};
+use c_rules_order::{Comparison, Known};
 use c_syntax::{Numbers, Plan, TProgram};
 use std::alloc::{AllocError as NoMemory, Global};
 

@@ -3,11 +3,11 @@
 
 ghost use Rattle.std.specs.Prelude.{◌≡◌, ℕ, [], option_map, unwrap_or, slice_get, IfOk, MatchOption};
 ghost use Rattle.c_syntax.specs.Program.{tfunction_tree, tprogram_tree};
-ghost use Rattle.c_calls.specs.Gotos.{strays};
+ghost use Rattle.c_rules_calls.specs.Gotos.{strays};
 ghost use Rattle.c_rules.specs.Earliest.{IsEarlier};
 ghost use Rattle.c_rules.specs.Rules.{IsFirstStray, strays_by};
 
-use c_calls::{is_before, stray_goto};
+use c_rules_calls::{is_before, stray_goto};
 use c_syntax::{Pos, TFunction, TProgram};
 use std::alloc::{AllocError as NoMemory, Global};
 

@@ -1,7 +1,7 @@
 -- Calls: arguments become the values of parameters, and what a function gives whose end is reached (C11 6.5.2.2, 6.9.1).
 use Rattle.std.specs.Prelude.{ℕ, zero, suc, ℤ, pos, Bool, if◌then◌else◌, List, [], ◌∷◌, length, Option, Some, None, option_and_then, slice_get}
-use Rattle.c_written.specs.declared.place.Pos.{Pos}
-use Rattle.c_written.specs.declared.int_type.IntType.TheVariants as ints
+use Rattle.c_syntax_written.specs.declared.place.Pos.{Pos}
+use Rattle.c_syntax_written.specs.declared.int_type.IntType.TheVariants as ints
 use Rattle.c_syntax.specs.declared.alarm.WrongKind.TheVariants as kinds
 use Rattle.c_syntax.specs.Types.{CTypeTree, ObjectTree}
 use Rattle.c_syntax.specs.Operand.{End}

@@ -1,8 +1,8 @@
 -- Stores, copies, `op=`, `++` and `--`, and what fills an object.
 use Rattle.std.specs.Prelude.{ℕ, ℤ, List, ◌∷◌, Option, Some, option_and_then}
-use Rattle.c_written.specs.declared.place.Pos.{Pos}
-use Rattle.c_written.specs.declared.step.StepWay.{StepWay}
-use Rattle.c_written.specs.declared.step.StepWay.TheVariants as ways
+use Rattle.c_syntax_written.specs.declared.place.Pos.{Pos}
+use Rattle.c_syntax_written.specs.declared.step.StepWay.{StepWay}
+use Rattle.c_syntax_written.specs.declared.step.StepWay.TheVariants as ways
 use Rattle.c_syntax.specs.declared.operator.Arithmetic.TheVariants.{Add, Subtract}
 use Rattle.c_syntax.specs.declared.operator.Extent.{Extent}
 use Rattle.c_syntax.specs.declared.operator.Stride.{Stride}

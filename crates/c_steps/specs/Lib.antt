@@ -11,3 +11,6 @@ pub mod Runs
 pub mod Bounds
 pub mod Laws
 pub mod Samples
+pub mod Sound
+pub mod Admission
+pub mod Order

@@ -1,6 +1,6 @@
 -- Runs: the state after n steps, and going wrong (this profile).
 use Rattle.std.specs.Prelude.{◌≡◌, ℕ, zero, suc, ℤ, List, [], ◌∷◌, ◌++◌, Some, None}
-use Rattle.c_written.specs.declared.place.Pos.{Pos}
+use Rattle.c_syntax_written.specs.declared.place.Pos.{Pos}
 use Rattle.c_syntax.specs.declared.alarm.WrongKind.{WrongKind}
 use Rattle.c_syntax.specs.Operand.{Operand}
 use Rattle.c_syntax.specs.Program.{TProgramTree}

@@ -1,7 +1,7 @@
 -- Rows of statements (C11 6.8).
 use Rattle.std.specs.Prelude.{ℕ, ℤ, Bool, true, false, List, [], ◌∷◌, Option, Some, None, option_map, unwrap_or}
-use Rattle.c_written.specs.declared.place.Pos.{Pos}
-use Rattle.c_written.specs.declared.int_type.IntType.TheVariants as ints
+use Rattle.c_syntax_written.specs.declared.place.Pos.{Pos}
+use Rattle.c_syntax_written.specs.declared.int_type.IntType.TheVariants as ints
 use Rattle.c_syntax.specs.Types.{Int, ObjectTree}
 use Rattle.c_syntax.specs.TypedExpr.{TExprTree}
 use Rattle.c_syntax.specs.TypedParts.{texpr_type}

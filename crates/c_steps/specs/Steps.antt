@@ -1,6 +1,6 @@
 -- Step: one item is taken off, and its row is done. There is no choice (this profile).
 use Rattle.std.specs.Prelude.{suc, ℤ, true, false, if◌then◌else◌, List, [], ◌∷◌, Option, Some, None}
-use Rattle.c_written.specs.declared.place.Pos.{Pos}
+use Rattle.c_syntax_written.specs.declared.place.Pos.{Pos}
 use Rattle.c_syntax.specs.declared.operator.StepTime.TheVariants.{Before}
 use Rattle.c_syntax.specs.Types.{ObjectTree}
 use Rattle.c_syntax.specs.Program.{TProgramTree}

@@ -1,7 +1,7 @@
 -- Work items: what is still to be done, the first of them next (this profile).
 use Rattle.std.specs.Prelude.{ℕ, List, Option}
-use Rattle.c_written.specs.declared.place.Pos.{Pos}
-use Rattle.c_written.specs.declared.step.StepWay.{StepWay}
+use Rattle.c_syntax_written.specs.declared.place.Pos.{Pos}
+use Rattle.c_syntax_written.specs.declared.step.StepWay.{StepWay}
 use Rattle.c_syntax.specs.declared.operator.Extent.{Extent}
 use Rattle.c_syntax.specs.declared.operator.Stride.{Stride}
 use Rattle.c_syntax.specs.declared.operator.StepTime.{StepTime}

@@ -5,9 +5,9 @@ use Rattle.c_syntax.specs.declared.statement.TStmt.{TStmt}
 use Rattle.c_syntax.specs.declared.statement.TInit.{TInit}
 use Rattle.c_syntax.specs.TypedExpr.{texpr_tree, texprs_from}
 use Rattle.c_syntax.specs.TypedStmt.{tinit_tree, tstmt_tree, tstmts_from}
-use Rattle.c_written.specs.Sizes.{list_size}
+use Rattle.c_syntax_written.specs.Sizes.{list_size}
 use Rattle.c_syntax.specs.Sizes.{texpr_size, texprs_size, tinit_size, tstmt_size, tstmts_size}
-use Rattle.c_written.proofs.Sizes.{item_below}
+use Rattle.c_syntax_written.proofs.Sizes.{item_below}
 use Rattle.c_syntax.proofs.TypedExprTrees.{texprs_cons}
 use Rattle.c_syntax.proofs.TypedStmtTrees.{tstmts_cons}
 

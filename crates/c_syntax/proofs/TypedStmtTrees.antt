@@ -3,7 +3,7 @@ use Rattle.std.proofs.Common.{◌≡◌, ℕ, ℤ, Bool, List, [], ◌∷◌, �
 use Rattle.std.specs.Prelude.{Option, option_map}
 use Rattle.std.specs.declared.boxed.Box.{Box}
 use Rattle.std.specs.declared.alloc.Global.{Global}
-use Rattle.c_written.specs.declared.place.Pos.{Pos}
+use Rattle.c_syntax_written.specs.declared.place.Pos.{Pos}
 use Rattle.c_syntax.specs.declared.types.CType.{CType}
 use Rattle.c_syntax.specs.declared.operator.Extent.{Extent}
 use Rattle.c_syntax.specs.declared.typed.TExpr.{TExpr}

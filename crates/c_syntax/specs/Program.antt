@@ -1,6 +1,6 @@
 -- Typed programs as trees without pointers.
 use Rattle.std.specs.Prelude.{ℕ, List, map, Option, option_map}
-use Rattle.c_written.specs.declared.place.Pos.{Pos}
+use Rattle.c_syntax_written.specs.declared.place.Pos.{Pos}
 use Rattle.c_syntax.specs.declared.program.Member.{Member}
 use Rattle.c_syntax.specs.declared.program.StructDef.{StructDef}
 use Rattle.c_syntax.specs.declared.program.TFunction.{TFunction}

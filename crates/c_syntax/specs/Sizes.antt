@@ -1,6 +1,6 @@
 -- How large a typed tree is: a node counts one, an item of a list one, and each what it holds. So what stands in a node or a list is smaller than it.
 use Rattle.std.specs.Prelude.{ℕ, ◌+◌}
-use Rattle.c_written.specs.Sizes.{list_size, option_size}
+use Rattle.c_syntax_written.specs.Sizes.{list_size, option_size}
 use Rattle.c_syntax.specs.TypedExpr as exprs
 use Rattle.c_syntax.specs.TypedExpr.{TExprTree, TLvalueTree, TExprTrees}
 use Rattle.c_syntax.specs.TypedStmt as stmts

@@ -1,6 +1,6 @@
 -- Typed statements as trees without pointers. Each constructor has the fields of the code's variant, in their order.
 use Rattle.std.specs.Prelude.{ℕ, ℤ, Bool, List, [], ◌∷◌, map, Option, option_map}
-use Rattle.c_written.specs.declared.place.Pos.{Pos}
+use Rattle.c_syntax_written.specs.declared.place.Pos.{Pos}
 use Rattle.c_syntax.specs.declared.operator.Extent.{Extent}
 use Rattle.c_syntax.specs.declared.statement.BlockKind.{BlockKind}
 use Rattle.c_syntax.specs.declared.statement.TInit.{TInit}

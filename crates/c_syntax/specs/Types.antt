@@ -1,7 +1,7 @@
 -- Types and objects as trees without pointers, so that two types with one spelling are equal.
 use Rattle.std.specs.Prelude.{ℕ, Bool, List}
-use Rattle.c_written.specs.declared.place.Pos.{Pos}
-use Rattle.c_written.specs.declared.int_type.IntType.{IntType}
+use Rattle.c_syntax_written.specs.declared.place.Pos.{Pos}
+use Rattle.c_syntax_written.specs.declared.int_type.IntType.{IntType}
 use Rattle.c_syntax.specs.declared.types.CType.{CType}
 use Rattle.c_syntax.specs.declared.types.CType.TheVariants as types
 use Rattle.c_syntax.specs.declared.types.Object.{Object}

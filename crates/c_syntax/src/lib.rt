@@ -28,7 +28,7 @@ mod value_type;
 pub use alarm::{
     Alarm, Alarms, Cell, Check, Example, Fact, Facts, Pointers, Shown, Spot, WrongKind,
 };
-pub use c_written::{
+pub use c_syntax_written::{
     AssignOp, BinaryOp, BlockItem, BlockItems, Bytes, Constant, Construct, Decl, Declarator,
     Declarators, Enumerator, Enumerators, Expr, Exprs, File, ForHead, ForStart, Init,
     InitDeclarator, InitDeclarators, Inits, IntType, Keyword, Mark, Marks, MemberDecl, MemberDecls,

@@ -3,7 +3,7 @@ use Rattle.std.proofs.Common.{◌≡◌, sym, ◌∙◌, subst, ap, refl}
 use Rattle.std.specs.Prelude.{ℕ, zero, suc, Option, Some, None, option_map, unwrap_or, IsSomeAnd, List, [], ◌∷◌, ◌++◌, set, slice_get}
 use Rattle.c_syntax.specs.Types.{CTypeTree}
 use Rattle.c_syntax.specs.Program.{StructDefTree}
-use Rattle.c_written.specs.WrittenFile.{OuterTree}
+use Rattle.c_syntax_written.specs.WrittenFile.{OuterTree}
 use Rattle.c_typing.proofs.Changes.{Changes, Any}
 use Rattle.c_typing.specs.World.{World, Typed}
 use Rattle.std.proofs.lemmas.List.Elements.{All-nil}

@@ -1,14 +1,14 @@
 -- Statements, functions and files only make the changes of Reaches.
 use Rattle.std.proofs.Common.{sym, subst, refl}
 use Rattle.std.specs.Prelude.{ℕ, ℤ, Bool, true, false, if◌then◌else◌, Option, Some, None, List, [], ◌∷◌, length, map, All, ⊤}
-use Rattle.c_written.specs.declared.place.Pos.{Pos}
-use Rattle.c_written.specs.declared.int_type.IntType.{IntType}
-use Rattle.c_written.specs.declared.written.StorageWord.{StorageWord}
-use Rattle.c_written.specs.declared.written.StorageWord.TheVariants.{Typedef}
-use Rattle.c_written.specs.Written as written
-use Rattle.c_written.specs.WrittenParts.{expr_pos}
-use Rattle.c_written.specs.WrittenFile as files
-use Rattle.c_written.specs.WrittenFile.{StmtTree, BlockItemTrees, ForStartTree, OuterTree}
+use Rattle.c_syntax_written.specs.declared.place.Pos.{Pos}
+use Rattle.c_syntax_written.specs.declared.int_type.IntType.{IntType}
+use Rattle.c_syntax_written.specs.declared.written.StorageWord.{StorageWord}
+use Rattle.c_syntax_written.specs.declared.written.StorageWord.TheVariants.{Typedef}
+use Rattle.c_syntax_written.specs.Written as written
+use Rattle.c_syntax_written.specs.WrittenParts.{expr_pos}
+use Rattle.c_syntax_written.specs.WrittenFile as files
+use Rattle.c_syntax_written.specs.WrittenFile.{StmtTree, BlockItemTrees, ForStartTree, OuterTree}
 use Rattle.c_syntax.specs.Types.{CTypeTree, Void, Int, Pointer, Array, Struct, Function}
 use Rattle.c_syntax.specs.TypedExpr.{TExprTree}
 use Rattle.c_syntax.specs.TypedStmt.{TStmtTree, TStmtTrees}

@@ -1,7 +1,7 @@
 -- A world and a tree have one outcome.
 use Rattle.std.proofs.Common.{◌≡◌, sym, ◌∙◌, subst}
 use Rattle.std.specs.Prelude.{Bool}
-use Rattle.c_written.specs.Written as written
+use Rattle.c_syntax_written.specs.Written as written
 use Rattle.c_typing.specs.World.{World, Outcome, Typed, Refused, Then, goes_on, stops, Is}
 use Rattle.c_typing.specs.Operands.{OperandTree}
 use Rattle.c_typing.specs.Typing.{Types, TypesArgs, TypesSpecs, TypesSpec, TypesMembers, TypesMemberNames, TypesEnumerators, TypesDeclarator, TypesParams, Valued}

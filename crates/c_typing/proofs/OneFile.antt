@@ -1,11 +1,11 @@
 -- Initialisers, declarations, statements and files have one outcome.
 use Rattle.std.proofs.Common.{◌≡◌, sym, ◌∙◌, subst, ap, refl}
 use Rattle.std.specs.Prelude.{Bool, true, false, Option, Some, None, List, [], ◌∷◌}
-use Rattle.c_written.specs.Written as written
-use Rattle.c_written.specs.WrittenDecl as inits
-use Rattle.c_written.specs.WrittenDecl.{InitTree, InitTrees, DeclTree, InitDeclaratorTree}
-use Rattle.c_written.specs.WrittenFile as files
-use Rattle.c_written.specs.WrittenFile.{StmtTree, BlockItemTrees, ForStartTree, OuterTree}
+use Rattle.c_syntax_written.specs.Written as written
+use Rattle.c_syntax_written.specs.WrittenDecl as inits
+use Rattle.c_syntax_written.specs.WrittenDecl.{InitTree, InitTrees, DeclTree, InitDeclaratorTree}
+use Rattle.c_syntax_written.specs.WrittenFile as files
+use Rattle.c_syntax_written.specs.WrittenFile.{StmtTree, BlockItemTrees, ForStartTree, OuterTree}
 use Rattle.c_syntax.specs.Types.{CTypeTree}
 use Rattle.c_syntax.specs.TypedStmt.{TStmtTrees, TStmtTree}
 use Rattle.c_syntax.specs.TypedExpr.{TExprTree}

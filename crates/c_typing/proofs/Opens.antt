@@ -1,7 +1,7 @@
 -- The structs that a list of tags declares and does not define yet.
 use Rattle.std.proofs.Common.{◌≡◌, sym, subst, inl, inr, ⊎_elim}
 use Rattle.std.specs.Prelude.{ℕ, zero, suc, ◌⊎◌, Bool, true, false, if◌then◌else◌, Some, None, List, [], ◌∷◌, ◌++◌, map, take, drop, find, bytes_eq}
-use Rattle.c_written.specs.declared.place.Pos.{Pos}
+use Rattle.c_syntax_written.specs.declared.place.Pos.{Pos}
 use Rattle.c_typing.specs.World.{TagBinding, TagMeaning, StructTag}
 use Rattle.c_typing.specs.Names.{tag_become}
 

@@ -1,10 +1,10 @@
 -- A good world and a tree have an outcome.
 use Rattle.std.proofs.Common.{refl}
 use Rattle.std.specs.Prelude.{Bool, Some, []}
-use Rattle.c_written.specs.WrittenParts.{expr_pos}
+use Rattle.c_syntax_written.specs.WrittenParts.{expr_pos}
 use Rattle.c_typing.proofs.Changes.{Any, names_any}
 use Rattle.c_typing.specs.Constants.{constant_value}
-use Rattle.c_written.specs.Written as written
+use Rattle.c_syntax_written.specs.Written as written
 use Rattle.c_typing.specs.World.{World, Outcome, Typed, Refused, Then, goes_on, stops, Is}
 use Rattle.c_typing.specs.Names as names
 use Rattle.c_typing.specs.Operands.{OperandTree}

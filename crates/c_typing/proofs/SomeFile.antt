@@ -2,12 +2,12 @@
 use Rattle.std.proofs.Common.{◌≡◌, ℕ, zero, suc, ◌<◌, ◌≤◌, refl, ap, subst, arith}
 use Rattle.std.specs.Prelude.{Bool, true, false, not, ◌||◌, Option, Some, None, IfSome, List, [], ◌∷◌, All, slice_get, ⊤}
 use Rattle.std.proofs.lemmas.List.Elements.{All-head}
-use Rattle.c_written.specs.Written as written
-use Rattle.c_written.specs.WrittenParts.{expr_pos}
-use Rattle.c_written.specs.WrittenDecl as inits
-use Rattle.c_written.specs.WrittenDecl.{InitTree, InitTrees, DeclTree, InitDeclaratorTree}
-use Rattle.c_written.specs.WrittenFile as files
-use Rattle.c_written.specs.WrittenFile.{StmtTree, BlockItemTrees, ForStartTree, OuterTree}
+use Rattle.c_syntax_written.specs.Written as written
+use Rattle.c_syntax_written.specs.WrittenParts.{expr_pos}
+use Rattle.c_syntax_written.specs.WrittenDecl as inits
+use Rattle.c_syntax_written.specs.WrittenDecl.{InitTree, InitTrees, DeclTree, InitDeclaratorTree}
+use Rattle.c_syntax_written.specs.WrittenFile as files
+use Rattle.c_syntax_written.specs.WrittenFile.{StmtTree, BlockItemTrees, ForStartTree, OuterTree}
 use Rattle.c_syntax.specs.Types.{CTypeTree, Void, Int, Pointer, Array, Struct, Function}
 use Rattle.c_syntax.specs.Program.{MemberTree, StructDefTree}
 use Rattle.c_syntax.specs.TypedExpr.{TExprTree}

@@ -4,13 +4,13 @@ use Rattle.std.specs.Prelude.{ℕ, ◌≤◌, IsSomeAnd, ◌+◌, ◌^◌, ◌<�
 use Rattle.std.proofs.lemmas.Bool.{ltb-true, ltb-false}
 use Rattle.std.proofs.lemmas.List.Elements.{All-nil, All-push, All-drop, All-map, All-weaker}
 use Rattle.std.proofs.lemmas.List.{map-append, length-append, length-set}
-use Rattle.c_written.specs.declared.place.Pos.{Pos}
-use Rattle.c_written.specs.declared.written.Tag.{Tag}
-use Rattle.c_written.specs.Written as written
+use Rattle.c_syntax_written.specs.declared.place.Pos.{Pos}
+use Rattle.c_syntax_written.specs.declared.written.Tag.{Tag}
+use Rattle.c_syntax_written.specs.Written as written
 use Rattle.c_syntax.specs.Types.{CTypeTree, Void, Int, Pointer, Array, Struct, Function}
 use Rattle.c_typing.proofs.Changes.{Changes, within, may_constant, NamesAny, names_within}
 use Rattle.c_typing.specs.World.{World, Form, Plain, Unsized, Callable, Meaning, Object, Missing, Parameter, TypeName, Enumeration, TagMeaning, StructTag, EnumTag, OpenEnumTag, Binding, TagBinding, Refusal, NotConstant, ObjectTooLarge, Unsupported, Outcome, Typed, Refused, Then, goes_on, stops, Is}
-use Rattle.c_written.specs.declared.construct.Construct.TheVariants as constructs
+use Rattle.c_syntax_written.specs.declared.construct.Construct.TheVariants as constructs
 use Rattle.c_layout.specs.RowTypes.{has_const_elements}
 use Rattle.c_typing.specs.World as world
 use Rattle.c_typing.specs.Names as names
@@ -20,7 +20,7 @@ use Rattle.c_typing.specs.Declarators as declarators
 use Rattle.c_typing.specs.Declarators.{DeclaredName, ParameterTree, Step, PointerTo, ArrayOf, OpenArray, FunctionOf, Shape}
 use Rattle.c_typing.specs.Typing as typing
 use Rattle.c_typing.specs.Typing.{Types, TypesArgs, TypesSpecs, TypesSpec, TypesMembers, TypesMemberNames, TypesEnumerators, TypesDeclarator, TypesParams, Valued, MemberMade}
-use Rattle.c_written.specs.WrittenParts.{expr_pos}
+use Rattle.c_syntax_written.specs.WrittenParts.{expr_pos}
 use Rattle.c_typing.specs.Constants.{constant_value}
 use Rattle.c_typing.proofs.Reaches as reaches
 use Rattle.c_typing.proofs.Opens.{Opens, IsOpen, open_either, open_drop, open_apart, distinct_drop, found_open, found_closed}

@@ -1,13 +1,13 @@
 -- What stands round a part of a file, and what the text of the file tells beforehand.
 use Rattle.std.specs.Prelude.{ℕ, Bool, true, false, not, ◌&&◌, ◌||◌, if◌then◌else◌, is_some, Option, Some, None, List, [], ◌∷◌, ◌++◌, find, flat_map, bytes_eq}
-use Rattle.c_written.specs.declared.int_type.IntType.{IntType}
-use Rattle.c_written.specs.declared.written.StorageWord.{StorageWord}
-use Rattle.c_written.specs.declared.written.StorageWord.TheVariants.{Typedef, Extern, Static, Auto, Register}
-use Rattle.c_written.specs.Written as written
-use Rattle.c_written.specs.Written.{SpecTrees, DeclaratorTree}
-use Rattle.c_written.specs.WrittenDecl.{InitDeclaratorTree}
-use Rattle.c_written.specs.WrittenFile.{StmtTree, BlockItemTree, BlockItemTrees, OuterTree, Declared, FileTree}
-use Rattle.c_written.specs.WrittenFile as files
+use Rattle.c_syntax_written.specs.declared.int_type.IntType.{IntType}
+use Rattle.c_syntax_written.specs.declared.written.StorageWord.{StorageWord}
+use Rattle.c_syntax_written.specs.declared.written.StorageWord.TheVariants.{Typedef, Extern, Static, Auto, Register}
+use Rattle.c_syntax_written.specs.Written as written
+use Rattle.c_syntax_written.specs.Written.{SpecTrees, DeclaratorTree}
+use Rattle.c_syntax_written.specs.WrittenDecl.{InitDeclaratorTree}
+use Rattle.c_syntax_written.specs.WrittenFile.{StmtTree, BlockItemTree, BlockItemTrees, OuterTree, Declared, FileTree}
+use Rattle.c_syntax_written.specs.WrittenFile as files
 use Rattle.c_syntax.specs.Types.{CTypeTree, Void}
 
 -- the names of the objects and the functions that the file defines, the labels of the function in the order of the text and its result;

@@ -1,7 +1,7 @@
 -- Which part of an object an item of an initialiser list fills: the current object of C (C11 6.7.9p17 to p20).
 use Rattle.std.specs.Prelude.{ℕ, ◌+◌, ◌*◌, ◌==◌, nat_le, Bool, true, false, not, ◌&&◌, ◌||◌, if◌then◌else◌, IsTrue, IsFalse, Option, Some, None, option_map, unwrap_or, List, [], ◌∷◌, length, slice_get}
-use Rattle.c_written.specs.declared.int_type.IntType.{IntType}
-use Rattle.c_written.specs.declared.int_type.IntType.TheVariants as ints
+use Rattle.c_syntax_written.specs.declared.int_type.IntType.{IntType}
+use Rattle.c_syntax_written.specs.declared.int_type.IntType.TheVariants as ints
 use Rattle.c_syntax.specs.Types.{CTypeTree, Void, Int, Array, Struct}
 use Rattle.c_syntax.specs.Program.{MemberTree, StructDefTree}
 use Rattle.c_layout.specs.Layout.{members_of, size_in}

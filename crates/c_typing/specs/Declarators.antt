@@ -1,7 +1,7 @@
 -- Declarators, from the name outward, and the types that they make.
 use Rattle.std.specs.Prelude.{ℕ, ◌*◌, ◌^◌, nat_lt, Bool, false, if◌then◌else◌, Option, Some, None, List, [], ◌∷◌, length, map, unwrap_or, option_map}
-use Rattle.c_written.specs.declared.place.Pos.{Pos}
-use Rattle.c_written.specs.declared.construct.Construct.TheVariants as constructs
+use Rattle.c_syntax_written.specs.declared.place.Pos.{Pos}
+use Rattle.c_syntax_written.specs.declared.construct.Construct.TheVariants as constructs
 use Rattle.c_syntax.specs.declared.op.Op.TheVariants as ops
 use Rattle.c_syntax.specs.Types.{CTypeTree, Pointer, Array, Struct, Function}
 use Rattle.c_typing.specs.World.{World, Form, Plain, Unsized, Callable, Binding, TagBinding, Refusal, no_rule, NotConstant, ObjectTooLarge, Unsupported, Outcome, Typed, Refused}

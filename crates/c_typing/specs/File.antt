@@ -1,10 +1,10 @@
 -- Functions with bodies, and the file.
 use Rattle.std.specs.Prelude.{◌≡◌, ℕ, ◌+◌, ◌==◌, true, false, if◌then◌else◌, Option, Some, None, option_map, unwrap_or, List, [], ◌∷◌, ◌++◌, map, length, find, slice_get, set, replicate, ⊤}
-use Rattle.c_written.specs.declared.place.Pos.{Pos}
-use Rattle.c_written.specs.declared.written.StorageWord.{StorageWord}
-use Rattle.c_written.specs.declared.written.StorageWord.TheVariants.{Typedef}
-use Rattle.c_written.specs.WrittenFile.{BlockItemTrees, OuterTree, Declared, FileTree}
-use Rattle.c_written.specs.WrittenFile as files
+use Rattle.c_syntax_written.specs.declared.place.Pos.{Pos}
+use Rattle.c_syntax_written.specs.declared.written.StorageWord.{StorageWord}
+use Rattle.c_syntax_written.specs.declared.written.StorageWord.TheVariants.{Typedef}
+use Rattle.c_syntax_written.specs.WrittenFile.{BlockItemTrees, OuterTree, Declared, FileTree}
+use Rattle.c_syntax_written.specs.WrittenFile as files
 use Rattle.c_syntax.specs.declared.op.Op.TheVariants as ops
 use Rattle.c_syntax.specs.declared.program.Initial.{Initial}
 use Rattle.c_syntax.specs.declared.program.InitByte.TheVariants.{Num}

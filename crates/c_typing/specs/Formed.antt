@@ -1,7 +1,7 @@
 -- Types that a program may have so far.
 use Rattle.std.specs.Prelude.{◌<◌, IsSomeAnd, List, All, length}
-use Rattle.c_written.specs.declared.int_type.IntType.TheVariants as ints
-use Rattle.c_written.specs.Integer.{HasNumber}
+use Rattle.c_syntax_written.specs.declared.int_type.IntType.TheVariants as ints
+use Rattle.c_syntax_written.specs.Integer.{HasNumber}
 use Rattle.c_syntax.specs.Types.{CTypeTree, Void, Int, Pointer, Array, Struct, Function}
 use Rattle.c_syntax.specs.Program.{StructDefTree}
 use Rattle.c_layout.specs.Layout.{size_in}

@@ -1,17 +1,17 @@
 -- Initialisers: what they store, and the bytes of static objects.
 use Rattle.std.specs.Prelude.{ℕ, zero, suc, ◌+◌, ◌==◌, nat_lt, ℤ, pos, Bool, true, false, not, ◌&&◌, ◌||◌, if◌then◌else◌, is_some, Option, Some, None, unwrap_or, List, [], ◌∷◌, ◌++◌, map, fold, length, take, drop, replicate}
-use Rattle.c_written.specs.declared.place.Pos.{Pos}
-use Rattle.c_written.specs.declared.int_type.IntType.{IntType}
-use Rattle.c_written.specs.declared.int_type.IntType.TheVariants as ints
-use Rattle.c_written.specs.Integer.{wrapped}
-use Rattle.c_written.specs.Integer as sizes
+use Rattle.c_syntax_written.specs.declared.place.Pos.{Pos}
+use Rattle.c_syntax_written.specs.declared.int_type.IntType.{IntType}
+use Rattle.c_syntax_written.specs.declared.int_type.IntType.TheVariants as ints
+use Rattle.c_syntax_written.specs.Integer.{wrapped}
+use Rattle.c_syntax_written.specs.Integer as sizes
 use Rattle.block_mem.specs.declared.types.Byte.{Byte}
 use Rattle.block_mem.specs.declared.types.Byte.TheVariants as bytes
 use Rattle.block_mem.specs.Numbers.{bits_in, low_bytes}
-use Rattle.c_written.specs.Written as written
-use Rattle.c_written.specs.WrittenParts.{expr_pos}
-use Rattle.c_written.specs.WrittenDecl as inits
-use Rattle.c_written.specs.WrittenDecl.{InitTree, InitTrees}
+use Rattle.c_syntax_written.specs.Written as written
+use Rattle.c_syntax_written.specs.WrittenParts.{expr_pos}
+use Rattle.c_syntax_written.specs.WrittenDecl as inits
+use Rattle.c_syntax_written.specs.WrittenDecl.{InitTree, InitTrees}
 use Rattle.c_syntax.specs.declared.op.Op.TheVariants as ops
 use Rattle.c_syntax.specs.declared.program.InitByte.{InitByte}
 use Rattle.c_syntax.specs.declared.program.InitByte.TheVariants.{Num, Piece}

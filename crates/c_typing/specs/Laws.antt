@@ -1,6 +1,6 @@
 -- What holds of typing.
 use Rattle.std.specs.Prelude.{◌≡◌, ℕ, Bool, IsTrue, Some, IsSomeAnd, List, slice_get}
-use Rattle.c_written.specs.WrittenFile.{FileTree, OuterTree}
+use Rattle.c_syntax_written.specs.WrittenFile.{FileTree, OuterTree}
 use Rattle.c_syntax.specs.Types.{CTypeTree, Array, ObjectTree}
 use Rattle.c_syntax.specs.Program.{StructDefTree, TFunctionTree}
 use Rattle.c_layout.specs.Tables.{IsTypedTable}

@@ -1,6 +1,6 @@
 -- What an expression names or gives, and its conversions.
 use Rattle.std.specs.Prelude.{ℕ, zero, Bool, true, false, if◌then◌else◌, Option, Some, None, List}
-use Rattle.c_written.specs.declared.int_type.IntType.{IntType}
+use Rattle.c_syntax_written.specs.declared.int_type.IntType.{IntType}
 use Rattle.c_syntax.specs.Types.{CTypeTree, Int, Array, Struct}
 use Rattle.c_syntax.specs.TypedExpr.{TExprTree, Null, Load, Decay, Whole, Convert, TLvalueTree}
 use Rattle.c_syntax.specs.TypedParts.{texpr_pos, texpr_type, tlvalue_pos, tlvalue_type}

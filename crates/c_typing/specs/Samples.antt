@@ -1,14 +1,14 @@
 -- Small files as they are written, and what comes of them.
 use Rattle.std.specs.Prelude.{ℕ, ◌+◌, pos, true, false, None, Some, [], ◌∷◌, codes}
-use Rattle.c_written.specs.declared.place.Pos.{Pos}
-use Rattle.c_written.specs.declared.int_type.IntType.TheVariants as ints
-use Rattle.c_written.specs.declared.token.Constant.{Constant}
-use Rattle.c_written.specs.declared.written.TypeWord.TheVariants as words
-use Rattle.c_written.specs.declared.written.BinaryOp.TheVariants as signs
-use Rattle.c_written.specs.Written as written
-use Rattle.c_written.specs.WrittenDecl as inits
-use Rattle.c_written.specs.WrittenFile as files
-use Rattle.c_written.specs.WrittenFile.{FileTree}
+use Rattle.c_syntax_written.specs.declared.place.Pos.{Pos}
+use Rattle.c_syntax_written.specs.declared.int_type.IntType.TheVariants as ints
+use Rattle.c_syntax_written.specs.declared.token.Constant.{Constant}
+use Rattle.c_syntax_written.specs.declared.written.TypeWord.TheVariants as words
+use Rattle.c_syntax_written.specs.declared.written.BinaryOp.TheVariants as signs
+use Rattle.c_syntax_written.specs.Written as written
+use Rattle.c_syntax_written.specs.WrittenDecl as inits
+use Rattle.c_syntax_written.specs.WrittenFile as files
+use Rattle.c_syntax_written.specs.WrittenFile.{FileTree}
 use Rattle.c_syntax.specs.declared.op.Op.TheVariants as ops
 use Rattle.c_syntax.specs.declared.operator.DerefKind.TheVariants as derefs
 use Rattle.c_syntax.specs.declared.operator.TBinaryOp.TheVariants as binaries

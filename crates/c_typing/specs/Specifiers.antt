@@ -1,11 +1,11 @@
 -- What the words and types that begin a declaration say together.
 use Rattle.std.specs.Prelude.{◌==◌, Bool, true, false, ◌&&◌, ◌||◌, if◌then◌else◌, Option, Some, None, option_map, List, [], ◌∷◌, ◌++◌, count_by, find}
-use Rattle.c_written.specs.declared.place.Pos.{Pos}
-use Rattle.c_written.specs.declared.int_type.IntType.TheVariants as ints
-use Rattle.c_written.specs.declared.written.StorageWord.{StorageWord}
-use Rattle.c_written.specs.declared.written.StorageWord.TheVariants.{Register}
-use Rattle.c_written.specs.declared.written.TypeWord.{TypeWord}
-use Rattle.c_written.specs.declared.written.TypeWord.TheVariants as words
+use Rattle.c_syntax_written.specs.declared.place.Pos.{Pos}
+use Rattle.c_syntax_written.specs.declared.int_type.IntType.TheVariants as ints
+use Rattle.c_syntax_written.specs.declared.written.StorageWord.{StorageWord}
+use Rattle.c_syntax_written.specs.declared.written.StorageWord.TheVariants.{Register}
+use Rattle.c_syntax_written.specs.declared.written.TypeWord.{TypeWord}
+use Rattle.c_syntax_written.specs.declared.written.TypeWord.TheVariants as words
 use Rattle.c_syntax.specs.Types.{CTypeTree, Void, Int, Array}
 use Rattle.c_layout.specs.WellTyped.{is_array}
 use Rattle.c_typing.specs.World.{World, Form, Plain, Unsized, Callable, Outcome, Typed, Refused, Undeclared}

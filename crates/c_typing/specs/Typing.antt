@@ -1,13 +1,13 @@
 -- Which operand an expression is, and which type specs and declarators name. Each part is typed in the program that the part before it left,
 -- so the order of the text is that of the parts here.
 use Rattle.std.specs.Prelude.{ℕ, ◌+◌, ◌-◌, nat_lt, nat_le, ◌^◌, ℤ, pos, ◌+ℤ◌, int_le, Bool, false, ◌&&◌, ◌||◌, if◌then◌else◌, Option, Some, None, option_map, unwrap_or, List, [], ◌∷◌, ◌++◌, map, length, slice_get, drop, find, bytes_eq}
-use Rattle.c_written.specs.declared.place.Pos.{Pos}
-use Rattle.c_written.specs.declared.construct.Construct.TheVariants as constructs
-use Rattle.c_written.specs.declared.int_type.IntType.TheVariants as ints
-use Rattle.c_written.specs.Integer.{least, greatest}
-use Rattle.c_written.specs.Written as written
-use Rattle.c_written.specs.Written.{ExprTree, ExprTrees, SpecTree, SpecTrees, MemberDeclTrees, EnumeratorTrees, DeclaratorTree, DeclaratorTrees, ParamTrees}
-use Rattle.c_written.specs.WrittenParts.{expr_pos, spec_pos}
+use Rattle.c_syntax_written.specs.declared.place.Pos.{Pos}
+use Rattle.c_syntax_written.specs.declared.construct.Construct.TheVariants as constructs
+use Rattle.c_syntax_written.specs.declared.int_type.IntType.TheVariants as ints
+use Rattle.c_syntax_written.specs.Integer.{least, greatest}
+use Rattle.c_syntax_written.specs.Written as written
+use Rattle.c_syntax_written.specs.Written.{ExprTree, ExprTrees, SpecTree, SpecTrees, MemberDeclTrees, EnumeratorTrees, DeclaratorTree, DeclaratorTrees, ParamTrees}
+use Rattle.c_syntax_written.specs.WrittenParts.{expr_pos, spec_pos}
 use Rattle.c_syntax.specs.declared.op.Op.TheVariants as ops
 use Rattle.c_syntax.specs.declared.operator.StepTime.TheVariants as times
 use Rattle.c_syntax.specs.Types.{CTypeTree, Int, Struct}

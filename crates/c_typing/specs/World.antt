@@ -1,7 +1,7 @@
 -- What a program has up to a place of its text, and what comes of typing a part of it.
 use Rattle.std.specs.Prelude.{◌≡◌, ℕ, ℤ, Bool, if◌then◌else◌, List, map, Option}
-use Rattle.c_written.specs.declared.place.Pos.{Pos}
-use Rattle.c_written.specs.declared.construct.Construct.{Construct}
+use Rattle.c_syntax_written.specs.declared.place.Pos.{Pos}
+use Rattle.c_syntax_written.specs.declared.construct.Construct.{Construct}
 use Rattle.c_syntax.specs.declared.op.Op.{Op}
 use Rattle.c_syntax.specs.declared.program.Initial.{Initial}
 use Rattle.c_syntax.specs.Types.{CTypeTree, ObjectTree}

@@ -3,7 +3,7 @@ use Rattle.std.proofs.Common.{◌≡◌, ℕ, List, [], ◌∷◌, ◌++◌, len
 use Rattle.std.specs.Prelude.{◌+◌, ◌≤◌, All}
 use Rattle.std.proofs.lemmas.List.{append-nil, append_assoc}
 use Rattle.std.proofs.lemmas.List.Elements.{All-nil, All-append, All-push}
-use Rattle.c_written.specs.declared.place.Pos.{Pos}
+use Rattle.c_syntax_written.specs.declared.place.Pos.{Pos}
 use Rattle.c_syntax.specs.Types.{ObjectTree}
 use Rattle.c_typing.specs.World.{World}
 use Rattle.c_typing.specs.Names.{literal_object, object_limit}

@@ -5,12 +5,12 @@ use Rattle.std.specs.Int.{w8, w16, w32, w64}
 use Rattle.std.proofs.lemmas.Bool.{false≢true, leb-true, eq-eqb}
 use Rattle.std.proofs.lemmas.Option.{same_Some}
 use Rattle.std.proofs.lemmas.Int.{ints, fits_signed_from_abs}
-use Rattle.c_written.specs.declared.place.Pos.{Pos}
-use Rattle.c_written.specs.declared.int_type.IntType.{IntType}
-use Rattle.c_written.specs.declared.int_type.IntType.TheVariants as ints
-use Rattle.c_written.specs.declared.token.Constant.{Constant}
-use Rattle.c_written.specs.Integer.{greatest, HasNumber, wrapped}
-use Rattle.c_written.specs.Constant.{first_holding}
+use Rattle.c_syntax_written.specs.declared.place.Pos.{Pos}
+use Rattle.c_syntax_written.specs.declared.int_type.IntType.{IntType}
+use Rattle.c_syntax_written.specs.declared.int_type.IntType.TheVariants as ints
+use Rattle.c_syntax_written.specs.declared.token.Constant.{Constant}
+use Rattle.c_syntax_written.specs.Integer.{greatest, HasNumber, wrapped}
+use Rattle.c_syntax_written.specs.Constant.{first_holding}
 use Rattle.c_syntax.specs.Types.{CTypeTree, Void, Int, Pointer, Struct}
 use Rattle.c_syntax.specs.TypedExpr.{TExprTree, Const, Null, Load, AddressOf, Decay, Whole, Unary, Binary, Convert, Assign, AssignStruct, Compound, Step, And, Or, Cond, Comma, Call, Any, Assume, Assert}
 use Rattle.c_syntax.specs.TypedParts.{texpr_pos, texpr_type, not_used}

@@ -3,8 +3,8 @@ use Rattle.std.proofs.Common.{◌≡◌, ℕ, zero, suc, ◌*◌, true, false, L
 use Rattle.std.specs.Prelude.{◌⊎◌, Bool, ◌==◌, not, ◌&&◌, if◌then◌else◌, IsTrue, Option, None, Some, IsSomeAnd, option_map, unwrap_or, All, AllPairs, Contains, map, set, slice_get}
 use Rattle.std.proofs.lemmas.Bool.{false≢true, and_parts}
 use Rattle.std.proofs.lemmas.List.Elements.{All-nil, All-map, All-weaker, All-head}
-use Rattle.c_written.specs.declared.written.StorageWord.{StorageWord}
-use Rattle.c_written.specs.WrittenDecl.{InitTree}
+use Rattle.c_syntax_written.specs.declared.written.StorageWord.{StorageWord}
+use Rattle.c_syntax_written.specs.WrittenDecl.{InitTree}
 use Rattle.c_syntax.specs.Types.{CTypeTree, Void, Array, ObjectTree}
 use Rattle.c_syntax.specs.TypedStmt.{TInitTree, Store, Copy}
 use Rattle.c_syntax.specs.Program.{StructDefTree}

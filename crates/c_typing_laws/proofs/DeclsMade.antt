@@ -2,9 +2,9 @@
 use Rattle.std.proofs.Common.{◌≡◌, ◌^◌, true, false, List, [], ◌∷◌, refl}
 use Rattle.std.proofs.lemmas.Bool.{ltb-false}
 use Rattle.std.specs.Prelude.{Bool, nat_lt, ◌==◌, is_some, if◌then◌else◌, Option, None, Some}
-use Rattle.c_written.specs.declared.place.Pos.{Pos}
-use Rattle.c_written.specs.declared.written.StorageWord.{StorageWord}
-use Rattle.c_written.specs.WrittenDecl.{InitTree, InitDeclaratorTree, DeclTree}
+use Rattle.c_syntax_written.specs.declared.place.Pos.{Pos}
+use Rattle.c_syntax_written.specs.declared.written.StorageWord.{StorageWord}
+use Rattle.c_syntax_written.specs.WrittenDecl.{InitTree, InitDeclaratorTree, DeclTree}
 use Rattle.c_syntax.specs.Types.{CTypeTree}
 use Rattle.c_typing.specs.World.{World, Form, Undeclared, NotConstant, ObjectTooLarge, Outcome, Typed, Refused}
 use Rattle.c_typing.specs.Specifiers.{SpecsTree, no_specs_yet, OfDeclaration, or_undeclared, type_told, is_storage_allowed}

@@ -7,7 +7,7 @@ use Rattle.std.proofs.lemmas.List.{get_or-map, length-map}
 use Rattle.std.proofs.lemmas.List.Elements.{All-nil, All-push, All-weaker}
 use Rattle.std.proofs.lemmas.List.Quantifiers.{all_pairs_push}
 use Rattle.std.proofs.lemmas.Slice.Eq.{bytes_eq-Decides}
-use Rattle.c_written.specs.WrittenFile.{FileTree}
+use Rattle.c_syntax_written.specs.WrittenFile.{FileTree}
 use Rattle.c_syntax.specs.Types.{ObjectTree}
 use Rattle.c_syntax.specs.Program.{TFunctionTree, TProgramTree}
 use Rattle.c_typing.specs.World.{World, Linked}

@@ -3,7 +3,7 @@ use Rattle.std.proofs.Common.{◌≡◌, ℕ, ◌+◌, true, false, List, [], �
 use Rattle.std.specs.Prelude.{Bool, ◌==◌, if◌then◌else◌, Option, None, Some, IfSome, IsSomeAnd, option_map, unwrap_or, All, find, replicate, slice_get, ⊤}
 use Rattle.std.proofs.lemmas.List.{append_assoc, length_push, length-replicate}
 use Rattle.std.proofs.lemmas.List.Elements.{All-nil, All-cons, All-map, All-weaker}
-use Rattle.c_written.specs.WrittenFile.{FileTree}
+use Rattle.c_syntax_written.specs.WrittenFile.{FileTree}
 use Rattle.c_syntax.specs.declared.program.Initial.{Initial}
 use Rattle.c_syntax.specs.declared.program.InitByte.TheVariants.{Num}
 use Rattle.c_syntax.specs.Types.{ObjectTree}

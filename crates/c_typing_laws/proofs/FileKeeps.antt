@@ -3,9 +3,9 @@ use Rattle.std.proofs.Common.{◌≡◌, refl, subst}
 use Rattle.std.proofs.lemmas.Bool.{false≢true}
 use Rattle.std.specs.Prelude.{ℕ, Bool, true, false, Option, List, map, length, All}
 use Rattle.std.proofs.lemmas.List.Elements.{All-nil, All-push, All-append, All-map, All-weaker, All-head, All-take}
-use Rattle.c_written.specs.declared.place.Pos.{Pos}
-use Rattle.c_written.specs.Written.{SpecTrees, DeclaratorTree}
-use Rattle.c_written.specs.WrittenFile.{BlockItemTrees, OuterTree}
+use Rattle.c_syntax_written.specs.declared.place.Pos.{Pos}
+use Rattle.c_syntax_written.specs.Written.{SpecTrees, DeclaratorTree}
+use Rattle.c_syntax_written.specs.WrittenFile.{BlockItemTrees, OuterTree}
 use Rattle.c_syntax.specs.Types.{CTypeTree}
 use Rattle.c_typing.specs.World.{World, Form, Meaning, Object, Missing, Parameter, Function, TypeName, Enumeration, Binding, Typed}
 use Rattle.c_typing.specs.Specifiers.{SpecsTree, no_specs_yet, OfDeclaration}

@@ -7,10 +7,10 @@ use Rattle.std.proofs.lemmas.List.{append-nil, length-set, set-set, set-append_l
 use Rattle.std.proofs.lemmas.List.Elements.{All-nil, All-append, All-set, All-head, All-tail, All-weaker, All-cons}
 use Rattle.std.proofs.lemmas.List.Concat.{flat_map-append}
 use Rattle.std.proofs.lemmas.Slice.Eq.{bytes_eq-Decides}
-use Rattle.c_written.specs.declared.place.Pos.{Pos}
-use Rattle.c_written.specs.declared.written.StorageWord.{StorageWord}
-use Rattle.c_written.specs.WrittenDecl.{InitDeclaratorTree, DeclTree}
-use Rattle.c_written.specs.WrittenFile.{BlockItemTrees, OuterTree}
+use Rattle.c_syntax_written.specs.declared.place.Pos.{Pos}
+use Rattle.c_syntax_written.specs.declared.written.StorageWord.{StorageWord}
+use Rattle.c_syntax_written.specs.WrittenDecl.{InitDeclaratorTree, DeclTree}
+use Rattle.c_syntax_written.specs.WrittenFile.{BlockItemTrees, OuterTree}
 use Rattle.c_syntax.specs.declared.statement.BlockKind.TheVariants as kinds
 use Rattle.c_syntax.specs.Types.{CTypeTree, Void}
 use Rattle.c_syntax.specs.TypedStmt.{TStmtTree, TStmtTrees, Block}

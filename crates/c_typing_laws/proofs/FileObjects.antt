@@ -3,8 +3,8 @@ use Rattle.std.proofs.Common.{◌≡◌, ℕ, true, false, List, [], ◌++◌, r
 use Rattle.std.specs.Prelude.{◌⊎◌, Bool, ◌&&◌, IsTrue, Some, All, map, codes, ⊤}
 use Rattle.std.proofs.lemmas.Bool.{false≢true}
 use Rattle.std.proofs.lemmas.List.Elements.{All-nil, All-weaker}
-use Rattle.c_written.specs.declared.place.Pos.{Pos}
-use Rattle.c_written.specs.WrittenFile.{OuterTree}
+use Rattle.c_syntax_written.specs.declared.place.Pos.{Pos}
+use Rattle.c_syntax_written.specs.WrittenFile.{OuterTree}
 use Rattle.c_syntax.specs.Types.{CTypeTree, ObjectTree}
 use Rattle.c_syntax.specs.Program.{StructDefTree, TProgramTree}
 use Rattle.c_layout.specs.RowTypes.{has_const_elements, is_literal, is_declared_const}

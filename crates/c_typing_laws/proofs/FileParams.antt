@@ -3,8 +3,8 @@ use Rattle.std.proofs.Common.{◌≡◌, ℕ, zero, suc, ◌<◌, true, List, []
 use Rattle.std.specs.Prelude.{Option, None, Some, option_map, unwrap_or, IsSomeAnd, IfSome, All, map, set, slice_get, ⊤}
 use Rattle.std.proofs.lemmas.Option.{same_Some}
 use Rattle.std.proofs.lemmas.List.Elements.{All-nil, All-weaker, All-map, All-head, All-tail, All-set}
-use Rattle.c_written.specs.declared.place.Pos.{Pos}
-use Rattle.c_written.specs.WrittenFile.{OuterTree, FileTree}
+use Rattle.c_syntax_written.specs.declared.place.Pos.{Pos}
+use Rattle.c_syntax_written.specs.WrittenFile.{OuterTree, FileTree}
 use Rattle.c_syntax.specs.declared.statement.BlockKind.TheVariants as kinds
 use Rattle.c_syntax.specs.Types.{CTypeTree, Void, ObjectTree}
 use Rattle.c_syntax.specs.TypedStmt.{TStmtTree, Block}

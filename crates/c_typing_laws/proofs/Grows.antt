@@ -5,12 +5,12 @@ use Rattle.std.proofs.lemmas.Bool.{false≢true}
 use Rattle.std.proofs.lemmas.List.{append-nil, append_assoc}
 use Rattle.std.proofs.lemmas.List.Elements.{All-nil, All-append, All-push}
 use Rattle.std.proofs.lemmas.List.Concat.{flat_map-append}
-use Rattle.c_written.specs.declared.place.Pos.{Pos}
-use Rattle.c_written.specs.declared.written.StorageWord.{StorageWord}
-use Rattle.c_written.specs.Written as written
-use Rattle.c_written.specs.WrittenParts.{stmt_pos}
-use Rattle.c_written.specs.WrittenDecl.{InitTree, InitDeclaratorTree, DeclTree}
-use Rattle.c_written.specs.WrittenFile.{ForStartTree, StmtTree, BlockItemTrees}
+use Rattle.c_syntax_written.specs.declared.place.Pos.{Pos}
+use Rattle.c_syntax_written.specs.declared.written.StorageWord.{StorageWord}
+use Rattle.c_syntax_written.specs.Written as written
+use Rattle.c_syntax_written.specs.WrittenParts.{stmt_pos}
+use Rattle.c_syntax_written.specs.WrittenDecl.{InitTree, InitDeclaratorTree, DeclTree}
+use Rattle.c_syntax_written.specs.WrittenFile.{ForStartTree, StmtTree, BlockItemTrees}
 use Rattle.c_syntax.specs.Types.{CTypeTree}
 use Rattle.c_syntax.specs.TypedExpr.{TExprTree}
 use Rattle.c_syntax.specs.declared.statement.BlockKind.{BlockKind}

@@ -4,8 +4,8 @@ use Rattle.std.proofs.lemmas.List.{append-nil, append_assoc, length-append, leng
 use Rattle.std.proofs.lemmas.List.Elements.{All-nil, All-append, All-cons}
 use Rattle.std.proofs.lemmas.List.Quantifiers.{position-Some}
 use Rattle.std.specs.Prelude.{◌≢◌, ℤ, Option, Some, None, All, AllPairs, Contains, position, bytes_eq}
-use Rattle.c_written.specs.declared.place.Pos.{Pos}
-use Rattle.c_written.specs.WrittenFile.{ForStartTree, StmtTree, BlockItemTrees}
+use Rattle.c_syntax_written.specs.declared.place.Pos.{Pos}
+use Rattle.c_syntax_written.specs.WrittenFile.{ForStartTree, StmtTree, BlockItemTrees}
 use Rattle.c_syntax.specs.declared.statement.BlockKind.{BlockKind}
 use Rattle.c_syntax.specs.TypedExpr.{TExprTree}
 use Rattle.c_syntax.specs.TypedStmt.{TStmtTree, TStmtTrees, Block, If, While, DoWhile, For, Switch, Goto, Label, Case, Default, none, more}

@@ -2,7 +2,7 @@
 use Rattle.std.proofs.Common.{◌≡◌, ℕ, false, List, refl, sym, subst}
 use Rattle.std.specs.Prelude.{Bool}
 use Rattle.std.proofs.lemmas.Bool.{false≢true}
-use Rattle.c_written.specs.declared.int_type.IntType.TheVariants as ints
+use Rattle.c_syntax_written.specs.declared.int_type.IntType.TheVariants as ints
 use Rattle.c_syntax.specs.Types.{CTypeTree, Int, Array, ObjectTree}
 use Rattle.c_syntax.specs.TypedExpr.{TLvalueTree, Var, Deref, Member}
 use Rattle.c_syntax.specs.TypedParts.{tlvalue_type, tlvalue_is_const}

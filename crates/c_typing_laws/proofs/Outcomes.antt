@@ -1,7 +1,7 @@
 -- What is typed has a property.
 use Rattle.std.proofs.Common.{◌≡◌, refl, sym, subst}
 use Rattle.std.specs.Prelude.{ℕ, Bool, true, false, if◌then◌else◌, Option, None, Some, nat_lt, ◌+◌}
-use Rattle.c_written.specs.declared.place.Pos.{Pos}
+use Rattle.c_syntax_written.specs.declared.place.Pos.{Pos}
 use Rattle.c_typing.specs.World.{World, Refusal, ObjectTooLarge, TotalTooLarge, Outcome, Typed, Refused, Then, goes_on, stops, Is, unless}
 use Rattle.c_typing.specs.Names.{unless_declared, within_limits, object_limit, total_limit}
 use Rattle.c_typing.specs.Declarators.{if_sized}

@@ -5,8 +5,8 @@ use Rattle.std.proofs.lemmas.Bool.{and_parts}
 use Rattle.std.proofs.lemmas.Option.{same_Some}
 use Rattle.std.proofs.lemmas.List.{length_push, append_assoc}
 use Rattle.std.proofs.lemmas.List.Elements.{All-nil, All-cons, All-push, All-weaker, All-map, All-head, All-tail}
-use Rattle.c_written.specs.declared.written.StorageWord.{StorageWord}
-use Rattle.c_written.specs.WrittenDecl.{InitTree}
+use Rattle.c_syntax_written.specs.declared.written.StorageWord.{StorageWord}
+use Rattle.c_syntax_written.specs.WrittenDecl.{InitTree}
 use Rattle.c_syntax.specs.Types.{CTypeTree, Void, Int, Pointer, Array, ObjectTree}
 use Rattle.c_syntax.specs.Program.{TFunctionTree, StructDefTree}
 use Rattle.c_layout.specs.RowTypes.{IsScalar}

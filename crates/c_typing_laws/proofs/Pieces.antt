@@ -3,8 +3,8 @@ use Rattle.std.proofs.Common.{◌≡◌, ℕ, zero, suc, ◌+◌, ◌≤◌, ℤ
 use Rattle.std.specs.Prelude.{Bool, ◌&&◌, if◌then◌else◌, IsTrue, pos, int_le, ◌+ℤ◌, Option, None, Some, option_map, option_and_then, unwrap_or, IsSomeAnd, All, fold, set, take, drop, replicate, slice_get}
 use Rattle.std.proofs.lemmas.Option.{same_Some}
 use Rattle.std.proofs.lemmas.List.Elements.{All-nil, All-cons, All-push, All-append, All-weaker, All-map, All-take, All-drop, All-replicate}
-use Rattle.c_written.specs.declared.written.StorageWord.{StorageWord}
-use Rattle.c_written.specs.WrittenDecl.{InitTree}
+use Rattle.c_syntax_written.specs.declared.written.StorageWord.{StorageWord}
+use Rattle.c_syntax_written.specs.WrittenDecl.{InitTree}
 use Rattle.block_mem.specs.declared.types.Byte.{Byte}
 use Rattle.block_mem.specs.declared.types.Byte.TheVariants as bytes
 use Rattle.c_syntax.specs.declared.program.Initial.{Initial}

@@ -3,9 +3,9 @@ use Rattle.std.proofs.Common.{◌≡◌, ℕ, zero, suc, true, false, List, [], 
 use Rattle.std.specs.Prelude.{◌<◌, Bool, ◌&&◌, ◌||◌, not, unwrap_or, if◌then◌else◌, IsTrue, Option, None, Some, option_map, IsSomeAnd, All, position, slice_get, bytes_eq}
 use Rattle.std.proofs.lemmas.Option.{same_Some, option_and_then_some}
 use Rattle.std.proofs.lemmas.List.Elements.{All-head, All-tail}
-use Rattle.c_written.specs.declared.place.Pos.{Pos}
-use Rattle.c_written.specs.declared.written.UnaryOp.TheVariants as prefixes
-use Rattle.c_written.specs.declared.int_type.IntType.{IntType}
+use Rattle.c_syntax_written.specs.declared.place.Pos.{Pos}
+use Rattle.c_syntax_written.specs.declared.written.UnaryOp.TheVariants as prefixes
+use Rattle.c_syntax_written.specs.declared.int_type.IntType.{IntType}
 use Rattle.c_syntax.specs.declared.operator.DerefKind.{DerefKind}
 use Rattle.c_syntax.specs.declared.operator.DerefKind.TheVariants as derefs
 use Rattle.c_syntax.specs.declared.operator.TUnaryOp.{TUnaryOp}

@@ -1,12 +1,12 @@
 -- The worlds behind typed parts are reached from those before them.
 use Rattle.std.proofs.Common.{sym, subst}
 use Rattle.std.specs.Prelude.{false, is_some, Option, Some, None, List, []}
-use Rattle.c_written.specs.declared.place.Pos.{Pos}
-use Rattle.c_written.specs.declared.written.StorageWord.{StorageWord}
-use Rattle.c_written.specs.Written as written
-use Rattle.c_written.specs.WrittenDecl.{InitDeclaratorTree, DeclTree}
-use Rattle.c_written.specs.Written.{SpecTrees, DeclaratorTree}
-use Rattle.c_written.specs.WrittenFile.{ForStartTree, StmtTree, BlockItemTrees, OuterTree}
+use Rattle.c_syntax_written.specs.declared.place.Pos.{Pos}
+use Rattle.c_syntax_written.specs.declared.written.StorageWord.{StorageWord}
+use Rattle.c_syntax_written.specs.Written as written
+use Rattle.c_syntax_written.specs.WrittenDecl.{InitDeclaratorTree, DeclTree}
+use Rattle.c_syntax_written.specs.Written.{SpecTrees, DeclaratorTree}
+use Rattle.c_syntax_written.specs.WrittenFile.{ForStartTree, StmtTree, BlockItemTrees, OuterTree}
 use Rattle.c_syntax.specs.TypedExpr.{TExprTree}
 use Rattle.c_syntax.specs.TypedStmt.{TStmtTrees}
 use Rattle.c_typing.specs.World.{World, Form, Typed}

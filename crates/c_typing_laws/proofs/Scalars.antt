@@ -4,10 +4,10 @@ use Rattle.std.specs.Prelude.{◌⊎◌, ℕ, ℤ, pos, negsuc, nat_lt, Bool, tr
 use Rattle.std.proofs.lemmas.Bool.{false≢true}
 use Rattle.std.proofs.lemmas.Option.{same_Some}
 use Rattle.std.proofs.lemmas.List.Elements.{All-nil, All-push, All-append, All-head, All-map, All-weaker, All-drop}
-use Rattle.c_written.specs.declared.place.Pos.{Pos}
-use Rattle.c_written.specs.declared.written.TypeWord.{TypeWord}
-use Rattle.c_written.specs.Written as written
-use Rattle.c_written.specs.WrittenParts.{expr_pos}
+use Rattle.c_syntax_written.specs.declared.place.Pos.{Pos}
+use Rattle.c_syntax_written.specs.declared.written.TypeWord.{TypeWord}
+use Rattle.c_syntax_written.specs.Written as written
+use Rattle.c_syntax_written.specs.WrittenParts.{expr_pos}
 use Rattle.c_layout.specs.RowTypes.{IsScalar}
 use Rattle.c_layout.specs.WellTyped.{is_array}
 use Rattle.c_syntax.specs.Types.{CTypeTree, Void, Int, Pointer, Array, Struct, Function}

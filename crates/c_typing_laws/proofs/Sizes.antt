@@ -4,7 +4,7 @@ use Rattle.std.specs.Prelude.{Bool, is_some, if◌then◌else◌, Option, None, 
 use Rattle.std.proofs.lemmas.Option.{same_Some}
 use Rattle.std.proofs.lemmas.List.{append-nil, append_assoc, length-append, length-take-le, length-drop, length-map, length-replicate, length_push}
 use Rattle.std.proofs.lemmas.List.Elements.{All-nil, All-push, All-append, All-weaker, All-head, All-tail}
-use Rattle.c_written.specs.declared.place.Pos.{Pos}
+use Rattle.c_syntax_written.specs.declared.place.Pos.{Pos}
 use Rattle.block_mem.proofs.Laws.{length-low_bytes}
 use Rattle.c_syntax.specs.declared.program.Initial.{Initial}
 use Rattle.c_syntax.specs.declared.program.InitByte.{InitByte}
@@ -23,8 +23,8 @@ use Rattle.c_typing.specs.Constants.{Address, Nowhere, Inside, static_address}
 use Rattle.c_typing.specs.Inits.{Initialised, number_byte, piece_bytes, address_bytes, scalar_bytes, written_at, with_item, static_bytes}
 use Rattle.c_typing.specs.Operands.{is_unsized}
 use Rattle.c_typing.specs.Settled.{settled_init}
-use Rattle.c_written.specs.declared.written.StorageWord.{StorageWord}
-use Rattle.c_written.specs.WrittenDecl.{InitTree}
+use Rattle.c_syntax_written.specs.declared.written.StorageWord.{StorageWord}
+use Rattle.c_syntax_written.specs.WrittenDecl.{InitTree}
 use Rattle.c_typing.specs.Declarators.{DeclaredName, ParameterTree, Step}
 use Rattle.c_typing.specs.Context.{Context, has_name}
 use Rattle.c_typing.specs.Decls.{Declares, ObjectNow, Made, new_function, with_static, size_or_zero}

@@ -1,10 +1,10 @@
 -- What holds of each world inside a body.
 use Rattle.std.proofs.Common.{◌≡◌, ℕ, List, [], refl}
 use Rattle.std.specs.Prelude.{Option}
-use Rattle.c_written.specs.declared.place.Pos.{Pos}
-use Rattle.c_written.specs.Written as written
-use Rattle.c_written.specs.WrittenDecl.{DeclTree}
-use Rattle.c_written.specs.WrittenFile.{ForStartTree, StmtTree}
+use Rattle.c_syntax_written.specs.declared.place.Pos.{Pos}
+use Rattle.c_syntax_written.specs.Written as written
+use Rattle.c_syntax_written.specs.WrittenDecl.{DeclTree}
+use Rattle.c_syntax_written.specs.WrittenFile.{ForStartTree, StmtTree}
 use Rattle.c_syntax.specs.TypedExpr.{TExprTree}
 use Rattle.c_syntax.specs.TypedStmt.{TStmtTrees}
 use Rattle.c_typing.specs.World.{World, CaseAt}

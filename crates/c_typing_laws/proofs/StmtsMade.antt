@@ -1,13 +1,13 @@
 -- A statement comes from its parts.
 use Rattle.std.proofs.Common.{◌≡◌, ℕ, ℤ, true, false, List, [], length, refl}
 use Rattle.std.specs.Prelude.{Bool, Option, None, Some, position, bytes_eq}
-use Rattle.c_written.specs.declared.place.Pos.{Pos}
-use Rattle.c_written.specs.declared.int_type.IntType.{IntType}
-use Rattle.c_written.specs.Integer.{wrapped}
-use Rattle.c_written.specs.Written as written
-use Rattle.c_written.specs.WrittenParts.{expr_pos, stmt_pos}
-use Rattle.c_written.specs.WrittenFile as files
-use Rattle.c_written.specs.WrittenFile.{ForStartTree, StmtTree, BlockItemTrees}
+use Rattle.c_syntax_written.specs.declared.place.Pos.{Pos}
+use Rattle.c_syntax_written.specs.declared.int_type.IntType.{IntType}
+use Rattle.c_syntax_written.specs.Integer.{wrapped}
+use Rattle.c_syntax_written.specs.Written as written
+use Rattle.c_syntax_written.specs.WrittenParts.{expr_pos, stmt_pos}
+use Rattle.c_syntax_written.specs.WrittenFile as files
+use Rattle.c_syntax_written.specs.WrittenFile.{ForStartTree, StmtTree, BlockItemTrees}
 use Rattle.c_syntax.specs.declared.statement.BlockKind.TheVariants as kinds
 use Rattle.c_syntax.specs.Types.{CTypeTree, Void, Int, Pointer, Array, Struct, Function}
 use Rattle.c_syntax.specs.TypedExpr.{TExprTree}

@@ -5,9 +5,9 @@ use Rattle.std.proofs.lemmas.Bool.{false≢true, and_parts}
 use Rattle.std.proofs.lemmas.Option.{same_Some}
 use Rattle.std.proofs.lemmas.List.Elements.{All-map}
 use Rattle.std.proofs.Math.Bool.{and-true, and-false}
-use Rattle.c_written.specs.declared.written.StorageWord.{StorageWord}
-use Rattle.c_written.specs.WrittenDecl.{InitTree}
-use Rattle.c_written.specs.declared.int_type.IntType.TheVariants as ints
+use Rattle.c_syntax_written.specs.declared.written.StorageWord.{StorageWord}
+use Rattle.c_syntax_written.specs.WrittenDecl.{InitTree}
+use Rattle.c_syntax_written.specs.declared.int_type.IntType.TheVariants as ints
 use Rattle.c_syntax.specs.Types.{CTypeTree, Int, Pointer, Array, ObjectTree}
 use Rattle.c_layout.specs.RowTypes.{IsScalar}
 use Rattle.c_typing.specs.World.{World, Form, Object, Missing, Linked}

@@ -4,9 +4,9 @@ use Rattle.std.specs.Prelude.{◌⊎◌, nat_lt, nat_le, Bool, if◌then◌else�
 use Rattle.std.proofs.lemmas.Bool.{false≢true}
 use Rattle.std.proofs.lemmas.Option.{same_Some}
 use Rattle.std.proofs.lemmas.List.Elements.{All-append, All-weaker}
-use Rattle.c_written.specs.declared.place.Pos.{Pos}
-use Rattle.c_written.specs.declared.int_type.IntType.TheVariants as ints
-use Rattle.c_written.specs.Written as written
+use Rattle.c_syntax_written.specs.declared.place.Pos.{Pos}
+use Rattle.c_syntax_written.specs.declared.int_type.IntType.TheVariants as ints
+use Rattle.c_syntax_written.specs.Written as written
 use Rattle.c_syntax.specs.declared.operator.StepTime.TheVariants as times
 use Rattle.c_syntax.specs.Types.{Void, ObjectTree}
 use Rattle.c_syntax.specs.TypedExpr.{TExprTree, TLvalueTree, Var, TExprTrees, none, more, texprs_then}

@@ -1,7 +1,7 @@
 -- Balanced types are promoted.
 use Rattle.std.proofs.Common.{◌≡◌, refl, ap, ◌∙◌}
-use Rattle.c_written.specs.declared.int_type.IntType.{IntType}
-use Rattle.c_written.specs.declared.int_type.IntType.TheVariants as ints
+use Rattle.c_syntax_written.specs.declared.int_type.IntType.{IntType}
+use Rattle.c_syntax_written.specs.declared.int_type.IntType.TheVariants as ints
 use Rattle.c_layout.specs.Conversion.{promoted, common, balanced}
 use Rattle.c_layout.specs.RowTypes.{IsPromoted}
 

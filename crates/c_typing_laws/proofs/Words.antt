@@ -1,9 +1,9 @@
 -- The storage words of a declaration are those that are written.
 use Rattle.std.proofs.Common.{◌≡◌, ℕ, true, false, List, [], ◌∷◌, ◌++◌, refl, ap, sym, ◌∙◌}
 use Rattle.std.specs.Prelude.{Bool, ◌||◌, if◌then◌else◌, is_some, Option, None, Some, find}
-use Rattle.c_written.specs.declared.place.Pos.{Pos}
-use Rattle.c_written.specs.declared.written.StorageWord.{StorageWord}
-use Rattle.c_written.specs.Written as written
+use Rattle.c_syntax_written.specs.declared.place.Pos.{Pos}
+use Rattle.c_syntax_written.specs.declared.written.StorageWord.{StorageWord}
+use Rattle.c_syntax_written.specs.Written as written
 use Rattle.c_typing.specs.World.{World, Meaning, Object, Missing, Parameter, Function, TypeName, Enumeration, Typed}
 use Rattle.c_typing.specs.Names.{meaning_of}
 use Rattle.c_typing.specs.Specifiers.{SpecsTree, SpecPart, StoragePart, ConstPart, WordPart, TypePart, with_part, no_specs_yet}

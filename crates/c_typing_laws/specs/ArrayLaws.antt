@@ -1,6 +1,6 @@
 -- Arrays of typed files.
 use Rattle.std.specs.Prelude.{◌≡◌, false, All}
-use Rattle.c_written.specs.WrittenFile.{FileTree}
+use Rattle.c_syntax_written.specs.WrittenFile.{FileTree}
 use Rattle.c_syntax.specs.Program.{TProgramTree}
 use Rattle.c_typing.specs.Operands.{is_unsized}
 use Rattle.c_typing.specs.File.{TypesFile, Program}

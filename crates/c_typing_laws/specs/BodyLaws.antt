@@ -1,6 +1,6 @@
 -- The bodies of typed functions, and the initial values of typed files.
 use Rattle.std.specs.Prelude.{◌≡◌, IfSome, IsSomeAnd, All, length, slice_get}
-use Rattle.c_written.specs.WrittenFile.{FileTree}
+use Rattle.c_syntax_written.specs.WrittenFile.{FileTree}
 use Rattle.c_syntax.specs.Program.{TProgramTree}
 use Rattle.c_layout.specs.TypedNodes.{IsTypedStmt}
 use Rattle.c_layout.specs.WellTyped.{body_standing}

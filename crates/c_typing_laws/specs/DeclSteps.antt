@@ -1,8 +1,8 @@
 -- How typed declarations come from their typed parts.
 use Rattle.std.specs.Prelude.{◌≡◌, ◌≤◌, ◌^◌, ◌==◌, true, false, is_some, Option, Some, None, List, [], ◌∷◌}
-use Rattle.c_written.specs.declared.place.Pos.{Pos}
-use Rattle.c_written.specs.declared.written.StorageWord.{StorageWord}
-use Rattle.c_written.specs.WrittenDecl.{InitTree, InitDeclaratorTree, DeclTree}
+use Rattle.c_syntax_written.specs.declared.place.Pos.{Pos}
+use Rattle.c_syntax_written.specs.declared.written.StorageWord.{StorageWord}
+use Rattle.c_syntax_written.specs.WrittenDecl.{InitTree, InitDeclaratorTree, DeclTree}
 use Rattle.c_syntax.specs.Types.{CTypeTree}
 use Rattle.c_typing.specs.World.{World, Form, Typed}
 use Rattle.c_typing.specs.Specifiers.{SpecsTree, no_specs_yet, OfDeclaration, type_told}

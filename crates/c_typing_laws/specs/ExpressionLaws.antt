@@ -1,7 +1,7 @@
 -- What expressions come to is typed, in the program at the end of the file.
 use Rattle.std.specs.Prelude.{◌≡◌, ◌⊎◌, ℕ, IsTrue, IsSome, IsSomeAnd, Some, List, All, Contains, slice_get}
-use Rattle.c_written.specs.Written.{ExprTree}
-use Rattle.c_written.specs.WrittenFile.{OuterTree}
+use Rattle.c_syntax_written.specs.Written.{ExprTree}
+use Rattle.c_syntax_written.specs.WrittenFile.{OuterTree}
 use Rattle.c_syntax.specs.Types.{ObjectTree}
 use Rattle.c_syntax.specs.Program.{TFunctionTree}
 use Rattle.c_layout.specs.Tables.{IsTypedTable}

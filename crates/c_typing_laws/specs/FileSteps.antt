@@ -1,10 +1,10 @@
 -- How a typed file comes from its typed parts.
 use Rattle.std.specs.Prelude.{◌≡◌, ℕ, true, false, Some, List, [], ◌∷◌, ◌++◌, map, length}
-use Rattle.c_written.specs.declared.place.Pos.{Pos}
-use Rattle.c_written.specs.Written.{SpecTrees, DeclaratorTree}
-use Rattle.c_written.specs.WrittenDecl.{DeclTree}
-use Rattle.c_written.specs.WrittenFile as files
-use Rattle.c_written.specs.WrittenFile.{BlockItemTrees, OuterTree}
+use Rattle.c_syntax_written.specs.declared.place.Pos.{Pos}
+use Rattle.c_syntax_written.specs.Written.{SpecTrees, DeclaratorTree}
+use Rattle.c_syntax_written.specs.WrittenDecl.{DeclTree}
+use Rattle.c_syntax_written.specs.WrittenFile as files
+use Rattle.c_syntax_written.specs.WrittenFile.{BlockItemTrees, OuterTree}
 use Rattle.c_syntax.specs.Types.{CTypeTree}
 use Rattle.c_typing.specs.World.{World, Form, Callable, Binding, TagBinding, Typed}
 use Rattle.c_typing.specs.Specifiers.{SpecsTree, no_specs_yet, OfDeclaration, type_told}

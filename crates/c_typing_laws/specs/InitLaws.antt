@@ -1,7 +1,7 @@
 -- What initialisers store is typed, in the program at the end of the file.
 use Rattle.std.specs.Prelude.{◌≡◌, ℕ, Bool, Some, List, All, AllPairs, IsSomeAnd}
-use Rattle.c_written.specs.WrittenDecl.{InitTree}
-use Rattle.c_written.specs.WrittenFile.{OuterTree}
+use Rattle.c_syntax_written.specs.WrittenDecl.{InitTree}
+use Rattle.c_syntax_written.specs.WrittenFile.{OuterTree}
 use Rattle.c_syntax.specs.Types.{CTypeTree, Array}
 use Rattle.c_syntax.specs.TypedStmt.{TInitTree}
 use Rattle.c_layout.specs.Layout.{size_in}

@@ -1,6 +1,6 @@
 -- The labels and gotos of typed functions.
 use Rattle.std.specs.Prelude.{◌≢◌, IfSome, All, AllPairs, Contains}
-use Rattle.c_written.specs.WrittenFile.{FileTree}
+use Rattle.c_syntax_written.specs.WrittenFile.{FileTree}
 use Rattle.c_syntax.specs.TypedStmt.{TStmtTree}
 use Rattle.c_syntax.specs.Program.{TProgramTree}
 use Rattle.c_layout.specs.Jumps.{labels_of, gotos_of}

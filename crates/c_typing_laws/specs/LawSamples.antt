@@ -1,10 +1,10 @@
 -- A declaration, and an expression after it, to which the law of expressions speaks.
 use Rattle.std.specs.Prelude.{false, true, None, List, [], ◌∷◌, codes}
-use Rattle.c_written.specs.declared.written.BinaryOp.TheVariants as signs
-use Rattle.c_written.specs.declared.int_type.IntType.TheVariants as ints
-use Rattle.c_written.specs.Written as written
-use Rattle.c_written.specs.WrittenFile as files
-use Rattle.c_written.specs.WrittenFile.{OuterTree}
+use Rattle.c_syntax_written.specs.declared.written.BinaryOp.TheVariants as signs
+use Rattle.c_syntax_written.specs.declared.int_type.IntType.TheVariants as ints
+use Rattle.c_syntax_written.specs.Written as written
+use Rattle.c_syntax_written.specs.WrittenFile as files
+use Rattle.c_syntax_written.specs.WrittenFile.{OuterTree}
 use Rattle.c_syntax.specs.Types.{Int, ObjectTree}
 use Rattle.c_layout.specs.TypedNodes.{Scope}
 use Rattle.c_typing.specs.World.{World, Object, Typed}

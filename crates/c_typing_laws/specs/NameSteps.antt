@@ -1,7 +1,7 @@
 -- What a declarator declares, by the ways in which typing comes to it.
 use Rattle.std.specs.Prelude.{◌≡◌, ℕ, Bool, true, false, not, ◌&&◌, Option, Some, None, List, length}
-use Rattle.c_written.specs.declared.written.StorageWord.{StorageWord}
-use Rattle.c_written.specs.declared.written.StorageWord.TheVariants.{Typedef}
+use Rattle.c_syntax_written.specs.declared.written.StorageWord.{StorageWord}
+use Rattle.c_syntax_written.specs.declared.written.StorageWord.TheVariants.{Typedef}
 use Rattle.c_syntax.specs.Types.{CTypeTree, Array}
 use Rattle.c_typing.specs.World.{World, Form, Plain, Unsized, Callable, Object, Missing, Linked, TypeName, Typed}
 use Rattle.c_typing.specs.Names.{is_reserved, with_name, linked_as}

@@ -1,11 +1,11 @@
 -- What the nodes of typing make of typed operands is typed, in each program that goes on from the one in which they are asked.
 use Rattle.std.specs.Prelude.{◌≡◌, ◌⊎◌, ℕ, Bool, Some, IsTrue, List, All, Contains, map, slice_get}
-use Rattle.c_written.specs.declared.place.Pos.{Pos}
-use Rattle.c_written.specs.declared.step.StepWay.{StepWay}
-use Rattle.c_written.specs.declared.token.Constant.{Constant}
-use Rattle.c_written.specs.declared.written.UnaryOp.{UnaryOp}
-use Rattle.c_written.specs.declared.written.BinaryOp.{BinaryOp}
-use Rattle.c_written.specs.declared.written.AssignOp.{AssignOp}
+use Rattle.c_syntax_written.specs.declared.place.Pos.{Pos}
+use Rattle.c_syntax_written.specs.declared.step.StepWay.{StepWay}
+use Rattle.c_syntax_written.specs.declared.token.Constant.{Constant}
+use Rattle.c_syntax_written.specs.declared.written.UnaryOp.{UnaryOp}
+use Rattle.c_syntax_written.specs.declared.written.BinaryOp.{BinaryOp}
+use Rattle.c_syntax_written.specs.declared.written.AssignOp.{AssignOp}
 use Rattle.c_syntax.specs.declared.operator.StepTime.{StepTime}
 use Rattle.c_syntax.specs.Types.{CTypeTree, ObjectTree}
 use Rattle.c_syntax.specs.TypedExpr.{TExprTree, TExprTrees}

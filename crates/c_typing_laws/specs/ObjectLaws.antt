@@ -1,6 +1,6 @@
 -- The objects of typed files.
 use Rattle.std.specs.Prelude.{◌≡◌, ◌⊎◌, Bool, All}
-use Rattle.c_written.specs.WrittenFile.{FileTree}
+use Rattle.c_syntax_written.specs.WrittenFile.{FileTree}
 use Rattle.c_syntax.specs.Types.{CTypeTree, Array, ObjectTree}
 use Rattle.c_syntax.specs.Program.{TProgramTree}
 use Rattle.c_layout.specs.WellTyped.{IsTypedObject}

@@ -1,6 +1,6 @@
 -- The pointers that static objects hold at the start.
 use Rattle.std.specs.Prelude.{All}
-use Rattle.c_written.specs.WrittenFile.{FileTree}
+use Rattle.c_syntax_written.specs.WrittenFile.{FileTree}
 use Rattle.c_syntax.specs.Program.{TProgramTree}
 use Rattle.c_layout.specs.WellTyped.{IsTypedByte}
 use Rattle.c_typing.specs.File.{TypesFile, Program}

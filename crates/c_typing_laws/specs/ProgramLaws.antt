@@ -1,6 +1,6 @@
 -- What the typed program of a file has.
 use Rattle.std.specs.Prelude.{◌≢◌, All, AllPairs}
-use Rattle.c_written.specs.WrittenFile.{FileTree}
+use Rattle.c_syntax_written.specs.WrittenFile.{FileTree}
 use Rattle.c_syntax.specs.Program.{TProgramTree}
 use Rattle.c_layout.specs.Tables.{IsTypedTable}
 use Rattle.c_layout.specs.WellTyped.{EachOf, IsGivenValue, IsStaticObject}

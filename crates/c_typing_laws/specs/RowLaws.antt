@@ -1,8 +1,8 @@
 -- What the rows of typing make of typed operands is typed, in each program that goes on from the one in which the rows were asked.
 use Rattle.std.specs.Prelude.{◌≡◌, Some, List}
-use Rattle.c_written.specs.declared.place.Pos.{Pos}
-use Rattle.c_written.specs.declared.written.AssignOp.{AssignOp}
-use Rattle.c_written.specs.declared.written.BinaryOp.{BinaryOp}
+use Rattle.c_syntax_written.specs.declared.place.Pos.{Pos}
+use Rattle.c_syntax_written.specs.declared.written.AssignOp.{AssignOp}
+use Rattle.c_syntax_written.specs.declared.written.BinaryOp.{BinaryOp}
 use Rattle.c_syntax.specs.declared.operator.Stride.{Stride}
 use Rattle.c_syntax.specs.Types.{CTypeTree}
 use Rattle.c_syntax.specs.TypedExpr.{TExprTree}

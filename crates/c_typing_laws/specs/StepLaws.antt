@@ -1,6 +1,6 @@
 -- Whatever is typed is made in one of these ways.
-use Rattle.c_written.specs.WrittenDecl.{DeclTree}
-use Rattle.c_written.specs.WrittenFile.{StmtTree, BlockItemTrees}
+use Rattle.c_syntax_written.specs.WrittenDecl.{DeclTree}
+use Rattle.c_syntax_written.specs.WrittenFile.{StmtTree, BlockItemTrees}
 use Rattle.c_syntax.specs.TypedStmt.{TStmtTrees}
 use Rattle.c_typing.specs.World.{World, Typed}
 use Rattle.c_typing.specs.Context.{Context}

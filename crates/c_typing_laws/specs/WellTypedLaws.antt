@@ -1,5 +1,5 @@
 -- The programs of typed files.
-use Rattle.c_written.specs.WrittenFile.{FileTree}
+use Rattle.c_syntax_written.specs.WrittenFile.{FileTree}
 use Rattle.c_syntax.specs.Program.{TProgramTree}
 use Rattle.c_layout.specs.WellTyped.{IsWellTyped}
 use Rattle.c_typing.specs.File.{TypesFile, Program}

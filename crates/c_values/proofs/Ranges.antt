@@ -4,9 +4,9 @@ use Rattle.std.proofs.Math.Nat.{pow-le-pow_right, div-le_self}
 use Rattle.std.specs.Prelude.{nat_abs, int_div, int_lt, ◌-ℤ◌}
 use Rattle.std.specs.Int.{Width, w64, w128}
 use Rattle.std.proofs.lemmas.Int.{ints, fits_signed_mul, to_z-of_z, quot_is}
-use Rattle.c_written.specs.declared.int_type.IntType.{IntType}
-use Rattle.c_written.specs.declared.int_type.IntType.TheVariants.{Char, SChar, UChar, Short, UShort, Int, UInt, Long, ULong, LLong, ULLong}
-use Rattle.c_written.specs.Integer.{HasNumber, is_signed, least, greatest, width}
+use Rattle.c_syntax_written.specs.declared.int_type.IntType.{IntType}
+use Rattle.c_syntax_written.specs.declared.int_type.IntType.TheVariants.{Char, SChar, UChar, Short, UShort, Int, UInt, Long, ULong, LLong, ULLong}
+use Rattle.c_syntax_written.specs.Integer.{HasNumber, is_signed, least, greatest, width}
 use Rattle.block_mem.specs.Numbers.{bits_in}
 
 -- a number of a type is within its ends

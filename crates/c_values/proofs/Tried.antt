@@ -1,6 +1,6 @@
 -- Rows tried by computing: what operators come to on given values.
 use Rattle.std.proofs.Common.{◌≡◌, ℕ, pos, negsuc, refl, false, List, [], ◌∷◌, Some}
-use Rattle.c_written.specs.declared.int_type.IntType.TheVariants as ints
+use Rattle.c_syntax_written.specs.declared.int_type.IntType.TheVariants as ints
 use Rattle.c_syntax.specs.declared.alarm.Spot.TheVariants as spots
 use Rattle.c_syntax.specs.declared.alarm.WrongKind.TheVariants as kinds
 use Rattle.c_syntax.specs.declared.operator.Arithmetic.TheVariants.{Divide, Remainder, Add}

@@ -1,8 +1,8 @@
 -- What answers of the code say.
 use Rattle.std.specs.Prelude.{◌≡◌, pos, ◌&&◌, if◌then◌else◌, ℤ, int_div, Result, Ok, Err}
 use Rattle.std.specs.Ordering.{int_eq}
-use Rattle.c_written.specs.declared.int_type.IntType.{IntType}
-use Rattle.c_written.specs.Integer.{is_signed, least, greatest, wrapped}
+use Rattle.c_syntax_written.specs.declared.int_type.IntType.{IntType}
+use Rattle.c_syntax_written.specs.Integer.{is_signed, least, greatest, wrapped}
 use Rattle.c_syntax.specs.declared.alarm.WrongKind.{WrongKind}
 use Rattle.c_syntax.specs.declared.alarm.WrongKind.TheVariants.{DivideByZero, Quotient}
 use Rattle.c_syntax.specs.Operand.{Number, operand_of}

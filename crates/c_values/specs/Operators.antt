@@ -1,7 +1,7 @@
 -- Operators on values: what their checks look at, and what they give.
 use Rattle.std.specs.Prelude.{ℕ, ℤ, pos, ◌==◌, ◌+ℤ◌, ◌-ℤ◌, ◌*ℤ◌, neg_ℤ, int_div, not, if◌then◌else◌, List, Option, Some, None, option_and_then, option_map}
-use Rattle.c_written.specs.declared.int_type.IntType.TheVariants as ints
-use Rattle.c_written.specs.Integer.{wrapped}
+use Rattle.c_syntax_written.specs.declared.int_type.IntType.TheVariants as ints
+use Rattle.c_syntax_written.specs.Integer.{wrapped}
 use Rattle.c_syntax.specs.declared.alarm.WrongKind.{WrongKind}
 use Rattle.c_syntax.specs.declared.alarm.WrongKind.TheVariants as kinds
 use Rattle.c_syntax.specs.declared.alarm.Spot.{Spot}

@@ -1,8 +1,8 @@
 -- Operands and results of the operators' types.
 use Rattle.std.specs.Prelude.{◌≡◌, ◌^◌, ◌<◌, ◌≤◌, ℕ, Option, Some, None, FitsSigned}
 use Rattle.std.specs.Int.{w64}
-use Rattle.c_written.specs.declared.int_type.IntType.TheVariants as ints
-use Rattle.c_written.specs.Integer.{HasNumber}
+use Rattle.c_syntax_written.specs.declared.int_type.IntType.TheVariants as ints
+use Rattle.c_syntax_written.specs.Integer.{HasNumber}
 use Rattle.c_syntax.specs.declared.alarm.Spot.{Spot}
 use Rattle.c_syntax.specs.declared.alarm.Spot.TheVariants as spots
 use Rattle.c_syntax.specs.declared.operator.TUnaryOp.{TUnaryOp}

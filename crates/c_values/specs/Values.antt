@@ -1,8 +1,8 @@
 -- What expressions give, and conversions.
 use Rattle.std.specs.Prelude.{pos, Bool, true, false, not, if◌then◌else◌, Option, None, Some}
 use Rattle.std.specs.Ordering.{int_eq}
-use Rattle.c_written.specs.declared.int_type.IntType.TheVariants as ints
-use Rattle.c_written.specs.Integer.{wrapped}
+use Rattle.c_syntax_written.specs.declared.int_type.IntType.TheVariants as ints
+use Rattle.c_syntax_written.specs.Integer.{wrapped}
 use Rattle.c_syntax.specs.Types.{CTypeTree, Void, Int, Pointer}
 use Rattle.block_mem.specs.declared.types.Scalar.{Scalar}
 use Rattle.block_mem.specs.declared.types.Scalar.TheVariants as scalars

@@ -2,7 +2,7 @@
 ghost use Rattle.std.specs.Prelude.{◌≡◌, ◌≢◌, ◌<◌, ◌^◌, pos, ◌+ℤ◌, ◌-ℤ◌, ◌*ℤ◌, neg_ℤ, int_div, false, List, IfOk, OnOk};
 ghost use Rattle.std.specs.Int.{int_div_euclid};
 ghost use Rattle.block_mem.specs.Numbers.{bits_in};
-ghost use Rattle.c_written.specs.Integer.{HasNumber, is_signed, least, greatest, wrapped};
+ghost use Rattle.c_syntax_written.specs.Integer.{HasNumber, is_signed, least, greatest, wrapped};
 ghost use Rattle.c_syntax.specs.Types.{ObjectTree};
 ghost use Rattle.c_values.specs.Answers.{Answers, Finds, divided, ranged};
 ghost use Rattle.c_values.specs.Looks.{outcome};

@@ -110,7 +110,7 @@ impl Cells {
         self.places.remove(&place);
     }
 
-    /// The number of a cell, which is in use afterwards. After want of memory the table is only
+    /// The number of a cell, which is in use afterwards. Once out of memory the table is only
     /// dropped.
     pub fn number(&mut self, c: Cell) -> Result<u64, NoMemory>
         requires some_bytes { 1 ≤ c.size }
@@ -132,7 +132,7 @@ impl Cells {
     }
 
     /// Appends the numbers of the cells in use that share a byte with `[from, to)` of an object, by
-    /// rising offset. After want of memory `out` is only dropped.
+    /// rising offset. Once out of memory `out` is only dropped.
     pub fn overlapping(
         &self,
         object: u64,
@@ -150,7 +150,7 @@ impl Cells {
 
     /// Takes a cell in use out of use, and puts its one-byte cells in its place, whose numbers are
     /// appended by rising offset. A cell of one byte stays in use, and its number is appended. After
-    /// want of memory the table and `out` are only dropped.
+    /// out of memory the table and `out` are only dropped.
     pub fn split(&mut self, n: u64, out: &mut Numbers) -> Result<(), NoMemory>
         requires { used_at self.old.slots n ≡ Some true }
         ensures slots { OnOk result ((c : Cell) → cell_at self.old.slots n ≡ Some c

@@ -5,7 +5,7 @@ use Rattle.std.specs.Ordering.{int_eq}
 use Rattle.std.proofs.lemmas.Int.{ints}
 use Rattle.std.proofs.lemmas.List.Quantifiers.{Any-push}
 use Rattle.std.proofs.lemmas.List.Elements.{All-push}
-use Rattle.c_written.specs.declared.place.Pos.{Pos}
+use Rattle.c_syntax_written.specs.declared.place.Pos.{Pos}
 use Rattle.c_syntax.specs.declared.alarm.WrongKind.{WrongKind}
 use Rattle.c_syntax.specs.declared.alarm.WrongKind.TheVariants.{Overflow, DivideByZero, Quotient}
 use Rattle.c_syntax.specs.declared.alarm.Check.{Check}
@@ -27,10 +27,10 @@ use Rattle.constant_form.specs.Form.{IsForm}
 use Rattle.constant_form.specs.Operators.{Outcome, Gives, Fails, checked, negate, operate, fits, least, greatest, IsInt}
 use Rattle.constant_form.specs.Outcome.{Found, Value, found_at, negated, operated, found_of}
 use Rattle.constant_form.specs.Outcome as found
-use Rattle.constant_form.specs.Admission.{IsAdmitted}
+use Rattle.c_steps.specs.Admission.{IsAdmitted}
 use Rattle.c_objects.specs.FactsIn.{HoldsIn}
-use Rattle.constant_form.specs.Sound.{MainGoesWrong, TellsOf, Covers, IsSound}
-use Rattle.constant_form.specs.Order.{Precedes, IsPrintable, IsNumeric}
+use Rattle.c_steps.specs.Sound.{MainGoesWrong, TellsOf, Covers, IsSound}
+use Rattle.c_steps.specs.Order.{Precedes, IsPrintable, IsNumeric}
 use Rattle.constant_form.proofs.MainLemmas.{WrongOnly, wrong_only}
 use Rattle.constant_form.proofs.CheckLemmas.{operator_checks, Makes, checks_at}
 use Rattle.constant_form.specs.Walk.{check_of, int_check, zero_check, IsAlarmOf}

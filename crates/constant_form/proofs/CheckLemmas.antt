@@ -3,7 +3,7 @@ use Rattle.std.proofs.Common.{◌≡◌, ◌⊎◌, inl, inr, ℤ, List, [], ◌
 use Rattle.std.specs.Prelude.{Option, Contains, option_and_then, option_map, slice_get, unwrap_or}
 use Rattle.std.proofs.lemmas.List.{length-map, get_or-map}
 use Rattle.std.proofs.lemmas.List.Elements.{Contains-append_left, Contains-append_right}
-use Rattle.c_written.specs.declared.place.Pos.{Pos}
+use Rattle.c_syntax_written.specs.declared.place.Pos.{Pos}
 use Rattle.c_syntax.specs.declared.alarm.WrongKind.TheVariants.{Overflow, Quotient}
 use Rattle.c_syntax.specs.declared.alarm.Check.{Check}
 use Rattle.c_syntax.specs.declared.statement.BlockKind.TheVariants as kinds
@@ -15,12 +15,12 @@ use Rattle.c_syntax.specs.TypedStmt as statements
 use Rattle.c_syntax.specs.declared.operator.TBinaryOp.{TBinaryOp}
 use Rattle.c_syntax.specs.declared.operator.TBinaryOp.TheVariants as binaries
 use Rattle.c_syntax.specs.declared.operator.TUnaryOp.{TUnaryOp}
-use Rattle.c_written.specs.declared.int_type.IntType.TheVariants as types
+use Rattle.c_syntax_written.specs.declared.int_type.IntType.TheVariants as types
 use Rattle.c_layout.specs.Checks.{PlacedCheck, all_at, binary_checks, checks_of, function_checks, stmt_checks, item_checks}
 use Rattle.constant_form.specs.declared.tree.Operator.{Operator}
 use Rattle.constant_form.specs.declared.tree.Operator.TheVariants.{Add, Subtract, Multiply, Divide}
 use Rattle.constant_form.specs.Tree.{ExprTree, Constant, Negate, Binary}
-use Rattle.constant_form.specs.Admission.{ChecksAt}
+use Rattle.c_steps.specs.Admission.{ChecksAt}
 use Rattle.constant_form.specs.Form.{expression, IsForm}
 use Rattle.constant_form.specs.Walk.{int_check, zero_check}
 use Rattle.constant_form.proofs.ReadLemmas.{constant_is, IsNegation, unary_is, IsOperation, binary_is}

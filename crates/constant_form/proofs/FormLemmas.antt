@@ -3,8 +3,8 @@ use Rattle.std.proofs.Common.{◌≡◌, ◌≢◌, List, ◌∷◌, [], ℤ, Bo
 use Rattle.std.specs.Prelude.{◌&&◌, if◌then◌else◌, Result, IfOk, IfSome, MatchOption, option_map}
 use Rattle.std.proofs.lemmas.Result.{IfOk-weaker}
 use Rattle.std.proofs.lemmas.Int.{ints}
-use Rattle.c_written.specs.declared.place.Pos.{Pos}
-use Rattle.c_written.specs.declared.int_type.IntType.{IntType}
+use Rattle.c_syntax_written.specs.declared.place.Pos.{Pos}
+use Rattle.c_syntax_written.specs.declared.int_type.IntType.{IntType}
 use Rattle.c_syntax.specs.declared.operator.TUnaryOp.{TUnaryOp}
 use Rattle.c_syntax.specs.declared.operator.TUnaryOp.TheVariants as unaries
 use Rattle.c_syntax.specs.declared.program.TFunction.{TFunction}

@@ -1,7 +1,7 @@
 -- What is found of the alarms of a walk.
 use Rattle.std.proofs.Common.{◌≡◌, ℤ, List, [], Option, sym, ap, subst, ◌∙◌}
 use Rattle.std.specs.Prelude.{All, AllPairs}
-use Rattle.c_written.specs.declared.place.Pos.{Pos}
+use Rattle.c_syntax_written.specs.declared.place.Pos.{Pos}
 use Rattle.c_syntax.specs.declared.alarm.WrongKind.{WrongKind}
 use Rattle.c_syntax.specs.declared.alarm.Alarm.{Alarm}
 use Rattle.intervals.specs.declared.Interval.{Interval}
@@ -13,9 +13,9 @@ use Rattle.constant_form.specs.Outcome.{Found, Value, Wrong, found_of}
 use Rattle.c_syntax.specs.Operand.{Number}
 use Rattle.constant_form.proofs.MainLemmas.{Comes, comes, main_is}
 use Rattle.constant_form.specs.Walk.{Walks, IsAlarmOf}
-use Rattle.constant_form.specs.Sound.{MainGoesWrong, IsSound, IsLeast}
-use Rattle.constant_form.specs.Admission.{IsAdmitted}
-use Rattle.constant_form.specs.Order.{Precedes, IsPrintable}
+use Rattle.c_steps.specs.Sound.{MainGoesWrong, IsSound, IsLeast}
+use Rattle.c_steps.specs.Admission.{IsAdmitted}
+use Rattle.c_steps.specs.Order.{Precedes, IsPrintable}
 use Rattle.constant_form.proofs.AlarmLemmas.{none_all, one_all, none_ordered, none_sound, one_sound, one_admitted, one_ordered, one_printable}
 
 pub walk_sound : (e : ExprTree) (f : Found) (value : Option Interval) (alarms : List Alarm) → found_of e ≡ f → Walks f value [] alarms

@@ -1,7 +1,7 @@
 -- A run of a program of the form comes to what its expression comes to, and goes wrong there alone.
 use Rattle.std.proofs.Common.{◌≡◌, ℕ, ℤ, List, [], ◌∷◌, refl, sym, ap, subst, ◌∙◌, Some, None, length}
 use Rattle.std.specs.Prelude.{codes, position, slice_get}
-use Rattle.c_written.specs.declared.place.Pos.{Pos}
+use Rattle.c_syntax_written.specs.declared.place.Pos.{Pos}
 use Rattle.c_syntax.specs.declared.alarm.WrongKind.{WrongKind}
 use Rattle.c_syntax.specs.declared.statement.BlockKind.TheVariants as kinds
 use Rattle.c_syntax.specs.Operand.{Operand}
@@ -24,7 +24,7 @@ use Rattle.constant_form.specs.Tree.{ExprTree}
 use Rattle.constant_form.specs.Form.{returned_by, returned_in, returned_from, Returns, IsForm}
 use Rattle.constant_form.specs.Outcome.{Found, found_of}
 use Rattle.constant_form.specs.Outcome as found
-use Rattle.constant_form.specs.Sound.{MainGoesWrong}
+use Rattle.c_steps.specs.Sound.{MainGoesWrong}
 use Rattle.constant_form.proofs.RunLemmas.{Leads, then_leads, one_step, int, Reaches, evaluation}
 
 -- a body that returns a value, and does nothing else

@@ -4,8 +4,8 @@ use Rattle.std.specs.Prelude.{FitsSigned, ◌+ℤ◌, ◌-ℤ◌, ◌*ℤ◌, if
 use Rattle.std.specs.Int.{w32}
 use Rattle.std.specs.Ordering.{int_eq}
 use Rattle.std.proofs.lemmas.Int.{ints, int_wrap_fits}
-use Rattle.c_written.specs.declared.int_type.IntType.TheVariants as types
-use Rattle.c_written.specs.Integer as integers
+use Rattle.c_syntax_written.specs.declared.int_type.IntType.TheVariants as types
+use Rattle.c_syntax_written.specs.Integer as integers
 use Rattle.c_syntax.specs.declared.alarm.WrongKind.{WrongKind}
 use Rattle.c_syntax.specs.declared.alarm.WrongKind.TheVariants.{Overflow, DivideByZero, Quotient}
 use Rattle.c_syntax.specs.declared.operator.Arithmetic.{Arithmetic}

@@ -1,8 +1,8 @@
 -- Evaluation of an expression of the form leads to what it comes to.
 use Rattle.std.proofs.Common.{◌≡◌, ◌+◌, ℕ, ℤ, List, ◌∷◌, refl, sym, ap, subst, ◌∙◌, Some}
-use Rattle.c_written.specs.declared.place.Pos.{Pos}
-use Rattle.c_written.specs.declared.int_type.IntType.{IntType}
-use Rattle.c_written.specs.declared.int_type.IntType.TheVariants as types
+use Rattle.c_syntax_written.specs.declared.place.Pos.{Pos}
+use Rattle.c_syntax_written.specs.declared.int_type.IntType.{IntType}
+use Rattle.c_syntax_written.specs.declared.int_type.IntType.TheVariants as types
 use Rattle.c_syntax.specs.declared.operator.TBinaryOp.{TBinaryOp}
 use Rattle.c_syntax.specs.declared.operator.TBinaryOp.TheVariants as binaries
 use Rattle.c_syntax.specs.declared.operator.TUnaryOp.{TUnaryOp}

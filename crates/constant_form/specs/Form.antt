@@ -1,9 +1,9 @@
 -- The built form, read on the typed program of a file: the one function `int main(void) { return E; }`, where E is made of
 -- constants of type int, binary + - * / and unary - on ints (C11 5.1.2.2.1, 6.5.1 to 6.5.6, 6.8.6.4, 6.9.1).
 use Rattle.std.specs.Prelude.{◌≡◌, ℤ, Bool, true, false, ◌&&◌, if◌then◌else◌, [], ◌∷◌, codes, Option, Some, None}
-use Rattle.c_written.specs.declared.place.Pos.{Pos}
-use Rattle.c_written.specs.declared.int_type.IntType.{IntType}
-use Rattle.c_written.specs.declared.int_type.IntType.TheVariants as ints
+use Rattle.c_syntax_written.specs.declared.place.Pos.{Pos}
+use Rattle.c_syntax_written.specs.declared.int_type.IntType.{IntType}
+use Rattle.c_syntax_written.specs.declared.int_type.IntType.TheVariants as ints
 use Rattle.c_syntax.specs.declared.operator.Arithmetic.{Arithmetic}
 use Rattle.c_syntax.specs.declared.operator.Arithmetic.TheVariants as arithmetics
 use Rattle.c_syntax.specs.declared.operator.TUnaryOp.{TUnaryOp}

@@ -1,6 +1,6 @@
 -- What an expression comes to, by recursion on it. The theorem speaks of steps, and not of this.
 use Rattle.std.specs.Prelude.{ℤ}
-use Rattle.c_written.specs.declared.place.Pos.{Pos}
+use Rattle.c_syntax_written.specs.declared.place.Pos.{Pos}
 use Rattle.c_syntax.specs.declared.alarm.WrongKind.{WrongKind}
 use Rattle.c_syntax.specs.Operand.{Operand}
 use Rattle.constant_form.specs.declared.tree.Operator.{Operator}

@@ -1,6 +1,6 @@
 -- The trees of this form without pointers, so that a text has one.
 use Rattle.std.specs.Prelude.{ℤ}
-use Rattle.c_written.specs.declared.place.Pos.{Pos}
+use Rattle.c_syntax_written.specs.declared.place.Pos.{Pos}
 use Rattle.constant_form.specs.declared.tree.Operator.{Operator}
 use Rattle.constant_form.specs.Operators.{IsInt}
 use Rattle.constant_form.specs.declared.tree.Expr.{Expr}

@@ -1,6 +1,6 @@
 -- What the walk of an expression finds. The theorem speaks of steps, and not of this.
 use Rattle.std.specs.Prelude.{◌≡◌, ℤ, pos, List, [], ◌∷◌, ◌++◌, Option, None, Some, IsSomeAnd}
-use Rattle.c_written.specs.declared.place.Pos.{Pos}
+use Rattle.c_syntax_written.specs.declared.place.Pos.{Pos}
 use Rattle.c_syntax.specs.declared.alarm.WrongKind.{WrongKind}
 use Rattle.c_syntax.specs.declared.alarm.WrongKind.TheVariants.{DivideByZero}
 use Rattle.c_syntax.specs.declared.alarm.Check.{Check}

@@ -2,7 +2,7 @@
 #![tactic(auto)]
 
 ghost use Rattle.std.specs.Prelude.{◌≡◌, ◌≢◌, ◌∷◌, [], codes, ◌↔◌, length, IfOk, IfSome, IsTrue, MatchOption, option_map};
-ghost use Rattle.c_written.specs.declared.int_type.IntType.TheVariants as ints;
+ghost use Rattle.c_syntax_written.specs.declared.int_type.IntType.TheVariants as ints;
 ghost use Rattle.c_syntax.specs.Types as types;
 ghost use Rattle.c_syntax.specs.Types.{ctype_tree};
 ghost use Rattle.c_syntax.specs.TypedExpr as typed;

@@ -2,12 +2,12 @@
 ghost use Rattle.std.specs.Prelude.{◌≡◌, ◌≢◌, ◌≤ℤ◌, ◌<ℤ◌, ◌↔◌, ℤ, pos, int_div, All, AllPairs, IfOk, IfSome, IsNone, IsTrue};
 ghost use Rattle.intervals.specs.Interval.{Admits, IsPoint};
 ghost use Rattle.c_syntax.specs.Program.{TProgramTree};
-ghost use Rattle.constant_form.specs.Admission.{IsAdmitted};
+ghost use Rattle.c_steps.specs.Admission.{IsAdmitted};
 ghost use Rattle.constant_form.specs.Form.{IsForm};
 ghost use Rattle.constant_form.specs.Operators.{least, greatest, IsInt, checked, operate};
 ghost use Rattle.constant_form.specs.Outcome.{found_at, found_of};
-ghost use Rattle.constant_form.specs.Order.{Precedes, IsPrintable};
-ghost use Rattle.constant_form.specs.Sound.{IsLeast, IsSound};
+ghost use Rattle.c_steps.specs.Order.{Precedes, IsPrintable};
+ghost use Rattle.c_steps.specs.Sound.{IsLeast, IsSound};
 ghost use Rattle.constant_form.specs.Tree.{expr_tree, HasConstants};
 ghost use Rattle.constant_form.specs.Walk.{check_of, int_check, zero_check, IsAlarmOf, Walks, number_at};
 

@@ -1,3 +1,6 @@
 pub mod CodeTrees
 mod Samples
-mod Kept
+pub mod Kept
+mod Variants
+mod Copied
+pub mod Equal

@@ -1,9 +1,9 @@
--- Formed programs: seven things that each part of one has (this profile).
-use Rattle.std.specs.Prelude.{◌≡◌, ◌⊎◌, ℕ, ℤ, pos, suc, ◌<◌, ◌≤◌, ◌^◌, ◌==◌, List, [], ◌∷◌, ◌++◌, length, All, Contains, Option, Some, None, IfSome, IsSome, IsSomeAnd, IsTrue, if◌then◌else◌, slice_get, count_by}
+-- Formed programs: what each part of one has (this profile).
+use Rattle.std.specs.Prelude.{◌≡◌, ◌⊎◌, ℕ, ℤ, pos, suc, ◌<◌, ◌≤◌, ◌^◌, ◌==◌, List, [], ◌∷◌, ◌++◌, length, All, AllPairs, Contains, Option, Some, None, IfSome, IsSome, IsSomeAnd, IsTrue, if◌then◌else◌, slice_get, count_by}
 use Rattle.std.specs.List.{flat_map}
-use Rattle.c_written.specs.declared.int_type.IntType.{IntType}
-use Rattle.c_written.specs.declared.int_type.IntType.TheVariants as ints
-use Rattle.c_written.specs.Integer.{HasNumber, is_signed, least, greatest}
+use Rattle.c_syntax_written.specs.declared.int_type.IntType.{IntType}
+use Rattle.c_syntax_written.specs.declared.int_type.IntType.TheVariants as ints
+use Rattle.c_syntax_written.specs.Integer.{HasNumber, is_signed, least, greatest}
 use Rattle.c_syntax.specs.declared.alarm.Check.{Check}
 use Rattle.c_syntax.specs.declared.alarm.WrongKind.{WrongKind}
 use Rattle.c_syntax.specs.declared.alarm.WrongKind.TheVariants as kinds
@@ -25,7 +25,7 @@ use Rattle.block_mem.specs.declared.types.Value.{Value}
 use Rattle.block_mem.specs.Bytes.{IsOf}
 use Rattle.c_values.specs.Typed.{TakesBoth, TakesOne, binary_type, unary_type}
 use Rattle.csharp.specs.Trees.{CsExprTree, Const, Null, Temp, Address, Unary, Binary, Convert, CsCallTree, CsStmtTree, Set, Load, Store}
-use Rattle.csharp.specs.Trees.{CopyBytes, Undefine, Checked, Input, Assume, Sequence, If, Loop, Block, Exit, Scope, Switch, Goto, Call, Return, Label}
+use Rattle.csharp.specs.Trees.{CopyBytes, Undefine, Checked, Input, Assume, Sequence, If, Loop, Block, Exit, Scope, Switch, Goto, Call, Return, Label, Case}
 use Rattle.csharp.specs.Trees.{CsStmtTrees, none, more, CsFunctionTree, CsProgramTree}
 
 -- ---- what stands in a statement, and around it
@@ -350,7 +350,47 @@ abbrev pub StaysOutside : Around → CsStmtTree → Type 0
 StaysOutside around (Goto label) = Contains around.labels label
 StaysOutside around a = Unit {0}
 
--- ---- the seven
+-- ---- arguments, cases and labels
+
+-- the expression does not read the temporary
+abbrev pub Spares : ℕ → CsExprTree → Type 0
+Spares d (Temp k) = k ≡ d → ⊥
+Spares d (Unary op e) = Spares d e
+Spares d (Binary op e f) = Spares d e × Spares d f
+Spares d (Convert t e) = Spares d e
+Spares d e = Unit {0}
+
+-- no argument reads the parameter of an earlier one, so that they may be put into the parameters one after the other
+abbrev pub AreArgsApart : List CsExprTree → List ℕ → Type 0
+AreArgsApart (e ∷ es) (d ∷ ds) = All (Spares d) es × AreArgsApart es ds
+AreArgsApart es ds = Unit {0}
+
+abbrev pub IsCallApart : CsProgramTree → CsStmtTree → Type 0
+IsCallApart q (Call c) = IfSome (slice_get q.functions c.function) (λ f. AreArgsApart c.args f.params)
+IsCallApart q a = Unit {0}
+
+-- the cases among items
+abbrev pub cases_among : CsStmtTrees → List ℤ
+cases_among none = []
+cases_among (more (Case n) rest) = n ∷ cases_among rest
+cases_among (more item rest) = cases_among rest
+
+-- no two are one
+abbrev pub Differ : {A : Type 0} → List A → Type 0
+Differ xs = AllPairs (λ a b. a ≡ b → ⊥) xs
+
+-- each case of a switch is a number of the type of its value, and they differ (C11 6.8.4.2p3)
+abbrev pub AreCasesFormed : CsProgramTree → CsStmtTree → Type 0
+AreCasesFormed q (Switch e xs items) = ((t : IntType) → HasType q (scalars.Int t) e → All (HasNumber t) (cases_among items)) × Differ (cases_among items)
+AreCasesFormed q a = Unit {0}
+
+-- a label stands once among the items of a scope (C11 6.8.1p3)
+abbrev pub AreLabelsOnce : CsStmtTree → Type 0
+AreLabelsOnce (Scope xs items) = Differ (labels_among items)
+AreLabelsOnce (Switch e xs items) = Differ (labels_among items)
+AreLabelsOnce a = Unit {0}
+
+-- ---- the whole
 
 abbrev pub ParamsThere : CsProgramTree → CsFunctionTree → Type 0
 ParamsThere q f = All (λ d. d < length q.temps) f.params
@@ -367,3 +407,6 @@ pub record IsFormed (q : CsProgramTree) : Type 0 where
   pub checks : Throughout (λ f around a. IsCheckFormed q a) q
   pub calls : AreCallsFounded q
   pub gotos : Throughout (λ f around a. StaysOutside around a) q
+  pub args : Throughout (λ f around a. IsCallApart q a) q
+  pub cases : Throughout (λ f around a. AreCasesFormed q a) q
+  pub labels : Throughout (λ f around a. AreLabelsOnce a) q

@@ -7,3 +7,5 @@ pub mod Formed
 pub mod Samples
 pub mod Laws
 pub mod Sizes
+pub mod Shapes
+pub mod SameExprs

@@ -1,7 +1,7 @@
 -- The meaning: a function by recursion on fuel and statement. Fuel is taken by turns of loops, calls and gotos alone (this profile).
 use Rattle.std.specs.Prelude.{◌≡◌, ℕ, zero, suc, ◌==◌, nat_lt, ℤ, Bool, true, false, if◌then◌else◌, List, [], ◌∷◌, Option, Some, None, slice_get}
 use Rattle.std.specs.Ordering.{int_eq}
-use Rattle.c_written.specs.declared.place.Pos.{Pos}
+use Rattle.c_syntax_written.specs.declared.place.Pos.{Pos}
 use Rattle.c_syntax.specs.declared.alarm.WrongKind.{WrongKind}
 use Rattle.c_syntax.specs.Operand.{Operand}
 use Rattle.block_mem.specs.declared.types.Value.{Value}
@@ -133,6 +133,10 @@ exec = bounded_exec never
 -- a run of main, which takes no arguments
 abbrev pub run : CsProgramTree → ℕ → List ℤ → Outcome
 run q fuel inputs = or_stuck (slice_get q.functions q.main) (λ f. exec q fuel f.body (first q inputs))
+
+-- one whose loops stop where they would make more turns than are asked for
+abbrev pub bounded_run : (ℕ → Bool) → CsProgramTree → ℕ → List ℤ → Outcome
+bounded_run over q fuel inputs = or_stuck (slice_get q.functions q.main) (λ f. bounded_exec over q fuel f.body (first q inputs))
 
 -- with some fuel, a run on these inputs fails a check at this chain, place and kind, with this operand and memory
 pub record CheckFails

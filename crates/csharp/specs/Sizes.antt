@@ -1,7 +1,7 @@
 -- How large a tree is: a node counts one, an item of a list one, and each what it holds. So what stands in a node or a list is smaller than it.
 use Rattle.std.specs.Prelude.{ℕ, ◌+◌}
-use Rattle.c_written.specs.Sizes.{list_size, option_size}
-use Rattle.csharp.specs.Trees.{CsExprTree, Const, Null, Temp, Address, Unary, Binary, Convert, CsCheckTree, CsCallTree, CsStmtTree, Set, Load, Store}
+use Rattle.c_syntax_written.specs.Sizes.{list_size, option_size}
+use Rattle.csharp.specs.Trees.{CsExprTree, Unary, Binary, Convert, CsCheckTree, CsCallTree, CsStmtTree, Set, Load, Store}
 use Rattle.csharp.specs.Trees.{CopyBytes, Checked, Assume, Sequence, If, Loop, Block, Scope, Switch, Call, Return, CsStmtTrees, none, more}
 
 abbrev pub csexpr_size : CsExprTree → ℕ

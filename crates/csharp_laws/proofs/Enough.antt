@@ -3,11 +3,11 @@ use Rattle.std.proofs.Common.{◌≡◌, ◌<◌, ◌≤◌, ◌+◌, ◌-◌, �
 use Rattle.std.specs.Prelude.{◌==◌, nat_lt, Contains, IfSome, slice_get}
 use Rattle.std.proofs.lemmas.Bool.{cases_eq, eq-eqb, ne_eqb, ltb-false}
 use Rattle.std.proofs.lemmas.List.Elements.{Contains-append_left, Contains-append_right}
-use Rattle.c_written.specs.declared.place.Pos.{Pos}
+use Rattle.c_syntax_written.specs.declared.place.Pos.{Pos}
 use Rattle.block_mem.specs.declared.types.Value.{Value}
 use Rattle.c_values.specs.Values.{truth}
 use Rattle.c_values.specs.Looks.{Judged, Passes, FailsAs, NoOperand}
-use Rattle.c_lifetimes.proofs.Listed.{first_in}
+use Rattle.c_objects.proofs.Listed.{first_in}
 use Rattle.csharp.specs.Trees.{CsStmtTree, Nothing, Set, Load, Store, CopyBytes, Undefine, Checked, Input, Assume, Sequence, If, Loop, Block, Exit}
 use Rattle.csharp.specs.Trees.{Scope, Switch, Goto, Call, Return, Label, Case, Default, CsStmtTrees, none, more, CsCallTree, CsFunctionTree, CsProgramTree}
 use Rattle.csharp.specs.States.{State, value_of}

@@ -1,6 +1,9 @@
-mod Lists
-mod Objects
-mod Stays
-mod Clash
-mod Separated
-mod Enough
+pub mod Lists
+pub mod Objects
+pub mod Stays
+pub mod Clash
+pub mod Separated
+pub mod Enough
+pub mod MainRuns
+pub mod Ranks
+pub mod Quiet

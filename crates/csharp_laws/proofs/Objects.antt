@@ -4,8 +4,8 @@ use Rattle.std.specs.Prelude.{Bool, not, ◌&&◌, is_some, Contains}
 use Rattle.c_syntax.specs.Types.{ObjectTree}
 use Rattle.c_values.specs.Places.{ObjectMemory, place_of}
 use Rattle.c_objects.specs.Opening.{open_all, shut_all}
-use Rattle.c_lifetimes.proofs.Listed.{by_head, by_sum, none_in}
-use Rattle.c_lifetimes.proofs.Places.{scopes_leave}
+use Rattle.c_objects.proofs.Listed.{by_head, by_sum, none_in}
+use Rattle.c_objects.proofs.Places.{scopes_leave}
 use Rattle.csharp.specs.States.{State}
 use Rattle.csharp.specs.Actions.{are_free}
 

@@ -7,9 +7,9 @@ use Rattle.std.proofs.lemmas.Bool.{cases_lt}
 use Rattle.c_syntax.specs.Types.{ObjectTree}
 use Rattle.c_values.specs.Places.{place_of}
 use Rattle.c_layout.specs.WellTyped.{EachOf}
-use Rattle.c_lifetimes.specs.Lifetimes.{AreDistinct}
-use Rattle.c_lifetimes.proofs.Listed.{by_sum, contains_flat, distinct, one_is, listed_times, none_in, part_times, times, times_append, times_listed, two_times}
-use Rattle.c_lifetimes.proofs.Starts.{start_only}
+use Rattle.c_objects.specs.Lifetimes.{AreDistinct}
+use Rattle.c_objects.proofs.Listed.{by_sum, contains_flat, distinct, one_is, listed_times, none_in, part_times, times, times_append, times_listed, two_times}
+use Rattle.c_objects.proofs.Starts.{start_only}
 use Rattle.csharp.specs.Trees.{CsStmtTree, Nothing, Set, Load, Store, CopyBytes, Undefine, Checked, Input, Assume, Sequence, If, Loop, Block, Exit}
 use Rattle.csharp.specs.Trees.{Scope, Switch, Goto, Call, Return, Label, Case, Default, CsStmtTrees, none, more, CsFunctionTree, CsProgramTree}
 use Rattle.csharp.specs.States.{State, first}

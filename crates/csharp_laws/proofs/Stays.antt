@@ -2,8 +2,8 @@
 use Rattle.std.proofs.Common.{◌≡◌, ◌⊎◌, inl, inr, ℕ, zero, suc, List, [], ◌∷◌, ◌++◌, Option, Some, None, Bool, true, false, if◌then◌else◌, refl, sym, ap, ◌∙◌, subst}
 use Rattle.std.specs.Prelude.{ℤ, Contains, IfSome, option_map, option_and_then, slice_get, slice_set}
 use Rattle.std.proofs.lemmas.List.Elements.{Contains-append_left, Contains-append_right}
-use Rattle.c_written.specs.declared.place.Pos.{Pos}
-use Rattle.c_written.specs.declared.int_type.IntType.{IntType}
+use Rattle.c_syntax_written.specs.declared.place.Pos.{Pos}
+use Rattle.c_syntax_written.specs.declared.int_type.IntType.{IntType}
 use Rattle.c_syntax.specs.declared.alarm.WrongKind.{WrongKind}
 use Rattle.block_mem.specs.declared.types.Scalar.{Scalar}
 use Rattle.block_mem.specs.declared.types.Value.{Value}
@@ -25,7 +25,7 @@ use Rattle.csharp.specs.Formed.{gathered, gathered_in, temps_of, opt_list}
 use Rattle.csharp.specs.Meaning.{Mark, AtLabel, is_mark, has, How, Anew, Turn, turns_of, Later, caught, within, where_chosen, chosen, level, items, items_from}
 use Rattle.csharp.specs.Meaning.{later_by, bounded_exec}
 use Rattle.csharp_laws.specs.LeftAlone.{calls_of, May, Itself, ByCall, temps_within, IsBehind, TempsStay, PlacesStay}
-use Rattle.c_lifetimes.proofs.Listed.{first_in, rest_in}
+use Rattle.c_objects.proofs.Listed.{first_in, rest_in}
 use Rattle.csharp_laws.proofs.Lists.{other_element}
 use Rattle.csharp_laws.proofs.Objects.{scope_leaves}
 

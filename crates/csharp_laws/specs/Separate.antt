@@ -2,7 +2,7 @@
 use Rattle.std.specs.Prelude.{◌≡◌, ℕ, Bool, ℤ, List, [], ◌∷◌, Contains, None}
 use Rattle.c_layout.specs.WellTyped.{EachOf}
 use Rattle.c_values.specs.Places.{place_of}
-use Rattle.c_lifetimes.specs.Lifetimes.{AreDistinct}
+use Rattle.c_objects.specs.Lifetimes.{AreDistinct}
 use Rattle.csharp.specs.Trees.{CsStmtTree, Scope, Switch, CsStmtTrees, CsFunctionTree, CsProgramTree}
 use Rattle.csharp.specs.States.{State}
 use Rattle.csharp.specs.Outcomes.{Clash}

@@ -2,7 +2,10 @@
 #![tactic(auto)]
 
 ghost use Rattle.csharp_laws.specs.Enough.{FuelIsEnough};
+ghost use Rattle.csharp_laws.specs.Inputs.{NeverWaits};
 ghost use Rattle.csharp_laws.specs.LeftAlone.{PlacesStay, TempsStay};
+ghost use Rattle.csharp_laws.specs.Ranks.{FormedRanksAreSmall};
+ghost use Rattle.csharp_laws.specs.Runs.{BoundedRunIsSame, RunsHaveEnough};
 ghost use Rattle.csharp_laws.specs.Separate.{FormedIsSeparate, FormedRunsNeverClash, NoClash};
 
 /// A temporary that a statement may not set has its value still, where the statement ends normally or leaves.
@@ -35,4 +38,24 @@ pub fn formed_runs_never_clash()
 /// an outcome other than out of fuel with the fuel that `need` tells, or more.
 pub fn fuel_is_enough()
     ensures { FuelIsEnough }
+{}
+
+/// A run of main within a bound on turns is the run without one.
+pub fn bounded_runs_are_runs()
+    ensures { BoundedRunIsSame }
+{}
+
+/// A bounded run of main comes to an outcome other than out of fuel with the fuel that main needs, or more.
+pub fn runs_have_enough_fuel()
+    ensures { RunsHaveEnough }
+{}
+
+/// Functions of a formed program have ranks below their number, by which calls lead down.
+pub fn formed_ranks_are_small()
+    ensures { FormedRanksAreSmall }
+{}
+
+/// A run of a program without an input statement never waits for an input.
+pub fn input_free_runs_never_wait()
+    ensures { NeverWaits }
 {}

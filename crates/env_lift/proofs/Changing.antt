@@ -9,10 +9,10 @@ use Rattle.ext_int.specs.declared.Live.TheVariants.{Live, Dead}
 use Rattle.num_api.specs.declared.message.Range.{Range}
 use Rattle.num_api.specs.Ranges.{NoWider, IsUnder, with_range}
 use Rattle.num_api.specs.Valuation.{SetTo}
-use Rattle.env_eval.specs.declared.entries.Entry.{Entry}
-use Rattle.env_eval.specs.Entries.{value_in}
-use Rattle.env_eval.specs.States.{AllAdmit, known_of, known_in}
-use Rattle.env_eval.proofs.Parts.{wider, as_wide}
+use Rattle.env_lift.specs.declared.entries.Entry.{Entry}
+use Rattle.env_lift.specs.Entries.{value_in}
+use Rattle.env_lift.specs.States.{AllAdmit, known_of, known_in}
+use Rattle.num_api.proofs.Parts.{wider, as_wide}
 use Rattle.env_lift.specs.Changes.{MayAdmit, IsChanged, IsCut}
 
 -- ---- answers

@@ -16,11 +16,11 @@ use Rattle.num_api.proofs.Narrowing.{in_common}
 use Rattle.num_api.specs.Spans.{Span, FitsSpan, range_of}
 use Rattle.num_api.specs.Value.{value_of, unary_value, binary_value, truth, has_truth}
 use Rattle.num_api.specs.Plain.{Standing, less, at_most, greater, at_least, same, other, standing, turned, cut, cut_side, cut_sides, tested, plain, IsPlain}
-use Rattle.env_eval.proofs.Parts.{of_one-some, of_two-some}
-use Rattle.env_eval.specs.Standings.{Stands}
-use Rattle.env_eval.proofs.Truths.{op_stands, truth_is, turned_truth}
-use Rattle.env_eval.specs.declared.entries.Entry.{Entry}
-use Rattle.env_eval.specs.States.{AllAdmit}
+use Rattle.num_api.proofs.Parts.{of_one-some, of_two-some}
+use Rattle.num_api.specs.Standings.{Stands}
+use Rattle.num_api.proofs.Truths.{op_stands, truth_is, turned_truth}
+use Rattle.env_lift.specs.declared.entries.Entry.{Entry}
+use Rattle.env_lift.specs.States.{AllAdmit}
 use Rattle.env_lift.specs.Changes.{HasTruth, Compare, LiesIn}
 
 -- ---- tests

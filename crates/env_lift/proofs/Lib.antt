@@ -3,3 +3,9 @@ pub mod Weights
 pub mod Merging
 pub mod Cutting
 pub mod Inverting
+pub mod Found
+pub mod Lookups
+pub mod MapMerges
+pub mod Placing
+pub mod Rising
+pub mod Values

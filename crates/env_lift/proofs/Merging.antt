@@ -4,12 +4,12 @@ use Rattle.ext_int.specs.Valuation.{value_at}
 use Rattle.ext_int.proofs.Ends.{lesser_mono, greater_mono, lesser_first, lesser_second, greater_first, greater_second}
 use Rattle.num_api.specs.declared.message.Range.{Range}
 use Rattle.num_api.specs.Ranges.{NoWider, IsUnder, hull, all_numbers}
-use Rattle.env_eval.specs.declared.entries.Entry.{Entry}
-use Rattle.env_eval.specs.Entries.{value_in}
-use Rattle.env_eval.specs.Passes.{IsMerged, AllMet}
-use Rattle.env_eval.proofs.Found.{merged_some, merged_none, met_at}
-use Rattle.env_eval.specs.States.{AllAdmit, known_of, known_in}
-use Rattle.env_eval.proofs.Parts.{wider}
+use Rattle.env_lift.specs.declared.entries.Entry.{Entry}
+use Rattle.env_lift.specs.Entries.{value_in}
+use Rattle.env_lift.specs.Passes.{IsMerged, AllMet}
+use Rattle.env_lift.proofs.Found.{merged_some, merged_none, met_at}
+use Rattle.env_lift.specs.States.{AllAdmit, known_of, known_in}
+use Rattle.num_api.proofs.Parts.{wider}
 
 -- ---- hulls
 

@@ -2,9 +2,9 @@
 use Rattle.std.proofs.Common.{arith, ℕ, ◌≡◌, ◌≤◌, ◌<◌, ◌+◌, ⊎_elim, List, [], ◌∷◌, Option, Some, None, Bool, false, sym, subst, ap, ◌∙◌}
 use Rattle.std.proofs.lemmas.Bool.{and_cases}
 use Rattle.std.proofs.lemmas.List.Sums.{sum_by-cons, sum_by-append}
-use Rattle.env_eval.specs.declared.entries.Entry.{Entry}
-use Rattle.env_eval.specs.Entries.{entry, value_in}
-use Rattle.env_eval.specs.Passes.{Puts, IsMerged, is_met, all_met}
+use Rattle.env_lift.specs.declared.entries.Entry.{Entry}
+use Rattle.env_lift.specs.Entries.{entry, value_in}
+use Rattle.env_lift.specs.Passes.{Puts, IsMerged, is_met, all_met}
 use Rattle.env_lift.specs.Laws.{total_weight}
 
 module _ {V : Type 0} (W : V → ℕ) (P : V → V → V → Type 0) (no_rise : (a b c : V) → P a b c → W c ≤ W a) where

@@ -7,10 +7,10 @@ use Rattle.num_api.specs.Value.{value_of, has_truth}
 use Rattle.num_api.specs.Ranges.{IsUnder}
 use Rattle.num_api.specs.Plain.{Standing}
 use Rattle.num_api.specs.Lives.{is_live}
-use Rattle.env_eval.specs.declared.entries.Entry.{Entry}
-use Rattle.env_eval.specs.Entries.{value_in}
-use Rattle.env_eval.specs.States.{AllAdmit, known_in}
-use Rattle.env_eval.specs.Standings.{Stands}
+use Rattle.env_lift.specs.declared.entries.Entry.{Entry}
+use Rattle.env_lift.specs.Entries.{value_in}
+use Rattle.env_lift.specs.States.{AllAdmit, known_in}
+use Rattle.num_api.specs.Standings.{Stands}
 
 -- the value, where there is one, admits the number
 abbrev pub MayAdmit : {V : Type 0} → (V → ℤ → Type 0) → Option V → ℤ → Type 0

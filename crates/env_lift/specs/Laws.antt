@@ -4,9 +4,9 @@ use Rattle.std.proofs.Common.{refl}
 use Rattle.ext_int.specs.Valuation.{value_at}
 use Rattle.num_api.specs.declared.message.Range.{Range}
 use Rattle.num_api.specs.Ranges.{InRange, holds_some}
-use Rattle.env_eval.specs.declared.entries.Entry.{Entry}
-use Rattle.env_eval.specs.Entries.{value_in}
-use Rattle.env_eval.specs.States.{AllAdmit, known_of, known_in}
+use Rattle.env_lift.specs.declared.entries.Entry.{Entry}
+use Rattle.env_lift.specs.Entries.{value_in}
+use Rattle.env_lift.specs.States.{AllAdmit, known_of, known_in}
 
 -- the weights of all values, and one more for each
 abbrev pub total_weight : {V : Type 0} → (V → ℕ) → List (Entry V) → ℕ

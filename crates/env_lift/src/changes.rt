@@ -13,10 +13,11 @@ ghost use Rattle.num_api.specs.declared.message.Range.{Range};
 ghost use Rattle.num_api.specs.declared.message.Message.TheVariants.{Between};
 ghost use Rattle.num_api.specs.declared.expr.Var.{Var as Variable};
 ghost use Rattle.num_api.specs.Lives.{is_live};
-ghost use Rattle.env_eval.specs.States.{known_of, known_in};
+ghost use Rattle.env_lift.specs.States.{known_of, known_in};
 ghost use Rattle.env_lift.specs.Changes.{MayAdmit, IsCut};
 
-use env_eval::{VarMap, eval};
+use crate::evaluation::eval;
+use crate::map::VarMap;
 use ext_int::{Ext, neg_low};
 use num_api::{Live, Message, NExpr, NOp, Range, Residue, ValueDomain, Var};
 use std::alloc::AllocError as NoMemory;

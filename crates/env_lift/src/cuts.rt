@@ -10,14 +10,15 @@ ghost use Rattle.num_api.specs.Plain.{plain, IsPlain, cut, turned, cut_sides, te
 ghost use Rattle.num_api.specs.Known.{IsSharpOn};
 ghost use Rattle.num_api.specs.Lives.{is_live};
 ghost use Rattle.num_api.specs.declared.message.Range.{Range};
-ghost use Rattle.env_eval.specs.States.{AllAdmit, known_in};
-ghost use Rattle.env_eval.specs.Standings.{standing_of, Stands};
+ghost use Rattle.env_lift.specs.States.{AllAdmit, known_in};
+ghost use Rattle.num_api.specs.Standings.{standing_of, Stands};
 ghost use Rattle.env_lift.specs.Changes.{IsCut, LiesIn, HasTruth, Compare};
 
 use crate::changes::{narrow, part};
+use crate::evaluation::eval;
 use crate::inverses::{operand, operands, told_sides, with_truth};
-use env_eval::{Standing, VarMap, compared, cut_range, eval, may_be, turned};
-use num_api::{Live, NExpr, NOp, ValueDomain};
+use crate::map::VarMap;
+use num_api::{Live, NExpr, NOp, Standing, ValueDomain, compared, cut_range, may_be, turned};
 use std::alloc::AllocError as NoMemory;
 
 // Whether the expression may have this truth.

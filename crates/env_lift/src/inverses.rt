@@ -2,11 +2,10 @@
 
 ghost use Rattle.std.specs.Prelude.{◌≡◌, ℤ, pos, ◌+ℤ◌, ◌-ℤ◌, ◌*ℤ◌, IsTrue, IfSome, IfNone, Some};
 ghost use Rattle.num_api.specs.Value.{unary_value, binary_value, has_truth};
-ghost use Rattle.env_eval.specs.Standings.{standing_of, Stands};
+ghost use Rattle.num_api.specs.Standings.{standing_of, Stands};
 
 use crate::changes::part;
-use env_eval::{Standing, compared, cut_range, may_be};
-use num_api::{NOp, Range, ValueDomain};
+use num_api::{NOp, Range, Standing, ValueDomain, compared, cut_range, may_be};
 
 // How a number of this truth stands to 0.
 fn to_zero(truth: bool) -> Standing

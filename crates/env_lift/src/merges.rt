@@ -4,11 +4,11 @@ ghost use Rattle.std.specs.Prelude.{◌≡◌, ℕ, ℤ, ◌≤◌, ◌<◌, fal
 ghost use Rattle.num_api.specs.Told.{Keeps};
 ghost use Rattle.num_api.specs.Ranges.{NoWider, IsUnder, hull};
 ghost use Rattle.num_api.specs.declared.message.Range.{Range};
-ghost use Rattle.env_eval.specs.Passes.{all_met};
-ghost use Rattle.env_eval.specs.States.{AllAdmit, known_in};
+ghost use Rattle.env_lift.specs.Passes.{all_met};
+ghost use Rattle.env_lift.specs.States.{AllAdmit, known_in};
 ghost use Rattle.env_lift.specs.Laws.{total_weight};
 
-use env_eval::VarMap;
+use crate::map::VarMap;
 use num_api::{Ramp, Steps, ValueDomain};
 use std::alloc::{AllocError as NoMemory, Global};
 

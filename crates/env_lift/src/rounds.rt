@@ -7,11 +7,11 @@ ghost use Rattle.num_api.specs.Ranges.{IsUnder};
 ghost use Rattle.num_api.specs.Plain.{IsPlain, tested};
 ghost use Rattle.num_api.specs.Lives.{is_live};
 ghost use Rattle.num_api.specs.declared.message.Range.{Range};
-ghost use Rattle.env_eval.specs.States.{known_in};
+ghost use Rattle.env_lift.specs.States.{known_in};
 ghost use Rattle.env_lift.specs.Changes.{IsCut, HasTruth};
 
 use crate::cuts::keep_truth;
-use env_eval::VarMap;
+use crate::map::VarMap;
 use num_api::{Live, NExpr, Range, ValueDomain};
 use std::alloc::{AllocError as NoMemory, Global};
 

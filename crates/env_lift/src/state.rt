@@ -1,19 +1,20 @@
 // The state and its calls.
 
 ghost use Rattle.std.specs.Prelude.{◌≡◌, ◌&&◌, ℕ, ℤ, List, IsTrue};
-ghost use Rattle.env_eval.specs.States.{AllAdmit, known_in};
-ghost use Rattle.env_eval.specs.Passes.{all_met};
+ghost use Rattle.env_lift.specs.States.{AllAdmit, known_in};
+ghost use Rattle.env_lift.specs.Passes.{all_met};
 ghost use Rattle.env_lift.specs.Laws.{total_weight, known_holds_in, known_some_in, first_flag, both_flags};
 
 use crate::changes::{accepted, met};
 use crate::cuts::may_hold;
+use crate::evaluation::eval;
+use crate::map::VarMap;
 use crate::merges::{covers_all, joined, widened};
 use crate::rounds::keep_rounds;
 use crate::told::{put_facts, tell, tell_read};
-use env_eval::{VarMap, eval, may_be, no_numbers};
 use num_api::{
     Exact, ExactValue, Live, Message, Messages, NExpr, NumDomain, NumFacts, Oracle, Ramp, Range,
-    Residue, Steps, ValueDomain, Var,
+    Residue, Steps, ValueDomain, Var, may_be, no_numbers,
 };
 use std::alloc::{AllocError as NoMemory, Global};
 use std::marker::Model;
@@ -28,7 +29,7 @@ pub struct Env<V> {
 
 impl<V> Model for Env<V> {
     ghost use Rattle.std.specs.Prelude.{List};
-    ghost use Rattle.env_eval.specs.declared.entries.Entry.{Entry};
+    ghost use Rattle.env_lift.specs.declared.entries.Entry.{Entry};
 
     ghost Value = { List (Entry V) };
 

@@ -3,10 +3,11 @@
 ghost use Rattle.std.specs.Prelude.{◌≡◌, ℤ, List, OnOk, IfOk};
 ghost use Rattle.ext_int.specs.Valuation.{value_at};
 ghost use Rattle.num_api.specs.Messages.{Adds, TellsOf};
-ghost use Rattle.env_eval.specs.Entries.{IsRising};
-ghost use Rattle.env_eval.specs.States.{AllAdmit};
+ghost use Rattle.env_lift.specs.Entries.{IsRising};
+ghost use Rattle.env_lift.specs.States.{AllAdmit};
 
-use env_eval::{Entry, VarMap};
+use crate::entries::Entry;
+use crate::map::VarMap;
 use num_api::{Message, Messages, NExpr, NumFacts, ValueDomain, Var};
 use std::alloc::AllocError as NoMemory;
 

@@ -3,14 +3,14 @@ use Rattle.std.proofs.Common.{◌≡◌, ◌⊎◌, inl, inr, List, ℕ, Option,
 use Rattle.std.specs.Prelude.{All, AllPairs, IfSome, IsSomeAnd}
 use Rattle.c_syntax.specs.declared.alarm.Alarm.{Alarm}
 use Rattle.c_syntax.specs.Program.{TProgramTree}
-use Rattle.constant_form.specs.Sound.{IsSound}
-use Rattle.constant_form.specs.Admission.{IsAdmitted}
-use Rattle.constant_form.specs.Order.{Precedes, IsPrintable}
+use Rattle.c_steps.specs.Sound.{IsSound}
+use Rattle.c_steps.specs.Admission.{IsAdmitted}
+use Rattle.c_steps.specs.Order.{Precedes, IsPrintable}
 use Rattle.headline.specs.Command.{IsCommand}
-use Rattle.headline.specs.Report.{text_of}
+use Rattle.report.specs.Report.{text_of}
 use Rattle.headline.specs.Read.{IsOneProgram}
-use Rattle.headline.specs.Refusal.{RefusalTree}
-use Rattle.headline.specs.RefusalText.{line_of}
+use Rattle.report.specs.Refusal.{RefusalTree}
+use Rattle.report.specs.RefusalText.{line_of}
 use Rattle.headline.specs.Verdict.{IsRefusedFor}
 use Rattle.headline.specs.declared.status.Status.{Status}
 use Rattle.headline.specs.declared.status.Status.TheVariants as statuses

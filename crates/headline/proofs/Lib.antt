@@ -1,5 +1,4 @@
 pub mod CommandLemmas
-pub mod RuleLemmas
 pub mod VerdictLemmas
 pub mod HeadlineLemmas
 pub mod ReadLemmas

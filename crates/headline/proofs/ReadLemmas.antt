@@ -4,7 +4,7 @@ use Rattle.c_syntax.specs.Program.{TProgramTree}
 use Rattle.constant_form.specs.Tree.{ExprTree}
 use Rattle.constant_form.specs.Form.{IsForm}
 use Rattle.headline.specs.Program.{IsAdmittedAs, IsProgram}
-use Rattle.headline.specs.Refusal.{RefusalTree}
+use Rattle.report.specs.Refusal.{RefusalTree}
 use Rattle.headline.specs.Verdict.{IsRefusedFor}
 use Rattle.headline.specs.Read.{IsOneProgram}
 

@@ -1,9 +1,9 @@
 -- Bytes are one program, or are refused once, by the laws of the cut, of the grammar, of typing and of the rules.
 use Rattle.std.proofs.Common.{arith, ◌≡◌, ◌≤◌, ◌<◌, List, ℕ, length, refl, sym, ap, subst, ◌∙◌}
-use Rattle.c_written.specs.declared.place.Pos.{Pos}
-use Rattle.c_written.specs.declared.token.Placed.{Placed}
-use Rattle.c_written.specs.declared.token.Tokens.{Tokens}
-use Rattle.c_written.specs.WrittenFile.{FileTree}
+use Rattle.c_syntax_written.specs.declared.place.Pos.{Pos}
+use Rattle.c_syntax_written.specs.declared.token.Placed.{Placed}
+use Rattle.c_syntax_written.specs.declared.token.Tokens.{Tokens}
+use Rattle.c_syntax_written.specs.WrittenFile.{FileTree}
 use Rattle.c_syntax.specs.Program.{TProgramTree}
 use Rattle.c_lexer.specs.declared.reason.Reason.{Reason}
 use Rattle.c_lexer.specs.Cut.{IsCut}
@@ -15,13 +15,13 @@ use Rattle.c_typing.specs.File.{FileOutcome, TypesFile, Program, NoProgram}
 use Rattle.c_typing.specs.Laws.{FilesHaveOne}
 use Rattle.c_rules.specs.Outcomes.{AdmittedIsNotRefused, RefusalsAreOne}
 use Rattle.c_rules.specs.Rules.{IsRefused}
-use Rattle.rule_text.specs.Refusals.{RuleRefusal}
-use Rattle.rule_text.specs.RuleText.{names_of}
+use Rattle.report.specs.RuleRefusals.{RuleRefusal}
+use Rattle.report.specs.RuleText.{names_of}
 use Rattle.constant_form.specs.Form.{IsBuilt}
 use Rattle.headline.specs.Program.{IsSource, IsTypedAs, IsAdmittedAs, IsProgram}
-use Rattle.headline.specs.Refusal.{RefusalTree, FileTooLarge, Lexing, Syntax, Unsupported, TooDeep, Typing, Rule, NotBuilt, rule_without_calls, without_calls}
+use Rattle.report.specs.Refusal.{RefusalTree, FileTooLarge, Lexing, Syntax, Unsupported, TooDeep, Typing, Rule, NotBuilt, rule_without_calls, without_calls}
 use Rattle.headline.specs.Verdict.{IsUnparsed, IsUntyped, IsNotAdmitted, IsUnbuilt, IsRefusedFor}
-use Rattle.headline.proofs.RuleLemmas.{asked, one_told}
+use Rattle.report.proofs.RuleLemmas.{asked, one_told}
 
 abbrev pub OneCut : Type 0
 OneCut = (file : ℕ) (text : List ℕ) (v w : Tokens) → IsCut file text v → IsCut file text w → v ≡ w

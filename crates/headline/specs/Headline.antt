@@ -5,12 +5,12 @@ use Rattle.headline.specs.declared.status.Status.{Status}
 use Rattle.headline.specs.declared.status.Status.TheVariants.{NoAlarm, Alarms, Refused, Usage, ReadFault, NoMemory}
 use Rattle.c_syntax.specs.Program.{TProgramTree}
 use Rattle.headline.specs.Program.{IsProgram}
-use Rattle.constant_form.specs.Sound.{IsSound}
-use Rattle.constant_form.specs.Admission.{IsAdmitted}
-use Rattle.constant_form.specs.Order.{Precedes, IsPrintable}
-use Rattle.headline.specs.Report.{text_of}
-use Rattle.headline.specs.Refusal.{RefusalTree}
-use Rattle.headline.specs.RefusalText.{line_of}
+use Rattle.c_steps.specs.Sound.{IsSound}
+use Rattle.c_steps.specs.Admission.{IsAdmitted}
+use Rattle.c_steps.specs.Order.{Precedes, IsPrintable}
+use Rattle.report.specs.Report.{text_of}
+use Rattle.report.specs.Refusal.{RefusalTree}
+use Rattle.report.specs.RefusalText.{line_of}
 use Rattle.headline.specs.Verdict.{IsRefusedFor}
 
 -- the text is the report of these alarms on the one program of the bytes, which are not refused
@@ -46,7 +46,7 @@ IsWhole Alarms = Unit {0}
 IsWhole Refused = Unit {0}
 IsWhole status = ⊥
 
--- the answer comes with a text, or is want of memory
+-- the answer comes with a text, or is out of memory
 abbrev pub Completes : Status → Type 0
 Completes NoMemory = Unit {0}
 Completes status = IsWhole status

@@ -1,7 +1,7 @@
 -- Which program the bytes are.
 use Rattle.std.specs.Prelude.{ℕ, List}
-use Rattle.c_written.specs.declared.token.Tokens.{Tokens}
-use Rattle.c_written.specs.WrittenFile.{FileTree}
+use Rattle.c_syntax_written.specs.declared.token.Tokens.{Tokens}
+use Rattle.c_syntax_written.specs.WrittenFile.{FileTree}
 use Rattle.c_syntax.specs.Program.{TProgramTree}
 use Rattle.c_lexer.specs.Cut.{IsCut}
 use Rattle.c_grammar.specs.Refused.{IsFile}

@@ -6,7 +6,7 @@ use Rattle.c_syntax.specs.Program.{TProgramTree}
 use Rattle.constant_form.specs.Form.{IsForm}
 use Rattle.constant_form.specs.Tree.{expr_tree, HasConstants}
 use Rattle.headline.specs.Program.{IsProgram}
-use Rattle.headline.specs.Refusal.{RefusalTree, refusal_tree}
+use Rattle.report.specs.Refusal.{RefusalTree, refusal_tree}
 use Rattle.headline.specs.Verdict.{IsRefusedFor}
 
 -- the bytes are this program, no other, and not refused

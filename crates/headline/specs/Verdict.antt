@@ -1,8 +1,8 @@
 -- Verdict: for what a file is refused.
 use Rattle.std.specs.Prelude.{◌≡◌, ◌<◌, ◌≤◌, ℕ, List, Some, length}
-use Rattle.c_written.specs.declared.place.Pos.{Pos}
-use Rattle.c_written.specs.declared.token.Tokens.{Tokens}
-use Rattle.c_written.specs.WrittenFile.{FileTree}
+use Rattle.c_syntax_written.specs.declared.place.Pos.{Pos}
+use Rattle.c_syntax_written.specs.declared.token.Tokens.{Tokens}
+use Rattle.c_syntax_written.specs.WrittenFile.{FileTree}
 use Rattle.c_syntax.specs.Program.{TProgramTree}
 use Rattle.c_lexer.specs.Cut.{IsCut}
 use Rattle.c_lexer.specs.Uncut.{IsUncut}
@@ -13,11 +13,11 @@ use Rattle.c_typing.specs.World as typing
 use Rattle.c_typing.specs.File.{TypesFile, NoProgram}
 use Rattle.c_rules.specs.declared.error.RuleError.{RuleError}
 use Rattle.c_rules.specs.Rules.{IsRefused}
-use Rattle.rule_text.specs.Refusals.{RuleRefusal, refusal_of}
-use Rattle.rule_text.specs.RuleText.{names_of}
+use Rattle.report.specs.RuleRefusals.{RuleRefusal, refusal_of}
+use Rattle.report.specs.RuleText.{names_of}
 use Rattle.constant_form.specs.Form.{IsBuilt}
 use Rattle.headline.specs.Program.{IsSource, IsTypedAs, IsAdmittedAs}
-use Rattle.headline.specs.Refusal.{RefusalTree, FileTooLarge, Lexing, Syntax, Unsupported, TooDeep, Typing, Rule, NotBuilt}
+use Rattle.report.specs.Refusal.{RefusalTree, FileTooLarge, Lexing, Syntax, Unsupported, TooDeep, Typing, Rule, NotBuilt}
 
 -- the bytes are cut into tokens, of which the first that is refused stands at this place, for this reason; or it is their end
 abbrev pub IsUnparsed : List ℕ → Why → Pos → Type 0

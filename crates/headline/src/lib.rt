@@ -1,30 +1,26 @@
 //! The top call: what may go wrong in a C file, from its bytes to the report.
 //!
-//! `run` reads the words of the command, reads the file, has it cut, parsed, typed, asked for the rules and read as a
-//! program, finds the alarms, and writes the report or the line of the refusal, whole. For example, on the words
-//! `verac analyze a.c` and `int main(void) { return 1 / 0; }` it writes one alarm, `DivideByZero`, and answers `Alarms`,
-//! whose exit status is 1.
+//! `run` reads the words of the command, reads the file, has it cut, parsed, typed, asked for the rules and read as a program,
+//! finds the alarms, and writes the report or the line of the refusal, whole. For example, on the words `verac analyze a.c` and
+//! `int main(void) { return 1 / 0; }` it writes one alarm, `DivideByZero`, and answers `Alarms`, whose exit status is 1.
 //!
 //! | What | Stated in `specs/` | Promised by |
 //! |---|---|---|
 //! | what an answer is | `Headline` | `run` |
 //! | which words are a command | `Command` | `command` |
-//! | which program bytes are, and for what they are refused | `Program`, `Refusal`, `Verdict` | `program_of`, `one_program`, `one_verdict` |
-//! | the text of a report, and the line of a refusal | `Report`, `RefusalText` | `report_text`, `refusal_line` |
+//! | which program bytes are, and for what they are refused | `Program`, `Verdict` | `program_of`, `one_program`, `one_verdict`, `program_nor_refused` |
 //! | exit statuses | `Status` | `code` |
+//!
+//! The text of a report and the line of a refusal are those of the crate `report`.
 #![tactic(auto)]
 
 mod program;
-mod refusal;
-mod report;
 mod runs;
 mod status;
 mod verdict;
 mod words;
 
 pub use program::{Read, program_of};
-pub use refusal::{Refusal, refusal_line};
-pub use report::report_text;
 pub use runs::run;
 pub use status::Status;
 pub use verdict::{one_program, one_verdict, program_nor_refused};

@@ -1,21 +1,20 @@
 // The program that a file's bytes are.
 ghost use Rattle.std.specs.Prelude.{◌≤◌, List, ℕ, length, IfOk};
-ghost use Rattle.c_written.specs.WrittenFile.{file_tree};
+ghost use Rattle.c_syntax_written.specs.WrittenFile.{file_tree};
 ghost use Rattle.c_syntax.specs.Program.{tprogram_tree};
 ghost use Rattle.c_lexer.specs.Cut.{IsCut};
 ghost use Rattle.headline.specs.Program.{IsSource, IsTypedAs, IsAdmittedAs};
 ghost use Rattle.headline.specs.Read.{Tells};
 
-use crate::refusal::Refusal;
 use crate::verdict::{one_program, program_nor_refused};
 use c_check::check;
+use c_check_names::TypeError;
 use c_lexer::{LexError, Reason, lex};
 use c_parser::{ParseError, parse};
 use c_rules::{RuleError, admit};
 use c_syntax::{File, TProgram, Tokens};
-use c_type_names::TypeError;
 use constant_form::{Expr, form_of};
-use rule_text::names_of;
+use report::{Refusal, names_of};
 use std::alloc::{AllocError, Global};
 
 /// What a file's bytes are.
@@ -46,7 +45,7 @@ pub fn program_of(alloc: Global, bytes: &[u8]) -> Result<Read, AllocError>
     }
 }
 
-// The program of bytes that are cut into these tokens, which are let go of before their file is typed.
+// The program of bytes that are cut into these tokens, which are dropped before their file is typed.
 fn parsed(alloc: Global, tokens: Tokens) -> Result<Read, AllocError>
     ensures { IfOk result (λ read. (bytes : List ℕ) → length bytes ≤ 4194304 → IsCut 0 bytes tokens → Tells bytes read) }
 {

@@ -5,12 +5,11 @@ ghost use Rattle.headline.specs.Command.{IsCommand, texts};
 ghost use Rattle.headline.specs.Headline.{IsAnswer, OnWhole, OnNothing, IsWhole, Completes};
 
 use crate::program::{Read, program_of};
-use crate::refusal::{Refusal, refusal_line};
-use crate::report::report_text;
 use crate::status::Status;
 use crate::words::command;
 use constant_form::alarms_of;
 use outside_io::{Files, ReadError, Sink, read_all, write_all};
+use report::{Refusal, refusal_line, report_text};
 use std::alloc::{AllocError, Global};
 
 /// Analyzes the file that the words name, and writes the report.

@@ -2,7 +2,7 @@
 ghost use Rattle.std.specs.Prelude.{◌≡◌, ◌≤◌, ℕ, List, length};
 ghost use Rattle.c_syntax.specs.Program.{TProgramTree};
 ghost use Rattle.headline.specs.Program.{IsProgram};
-ghost use Rattle.headline.specs.Refusal.{RefusalTree, without_calls};
+ghost use Rattle.report.specs.Refusal.{RefusalTree, without_calls};
 ghost use Rattle.headline.specs.Verdict.{IsRefusedFor};
 
 use c_grammar::{file_nor_refused, one_file, one_refusal};

@@ -7,9 +7,9 @@ use Rattle.std.proofs.lemmas.Int.{ints, to_z-of_z}
 use lib.Dec.{eqb}
 use mir.Syntax.{w128}
 use mir.Val.{to_z, of_z}
-use Rattle.c_written.specs.declared.int_type.IntType.{IntType}
-use Rattle.c_written.specs.declared.int_type.IntType.TheVariants.{Char, SChar, UChar, Short, UShort, Int, UInt, Long, ULong, LLong, ULLong}
-use Rattle.c_written.specs.Integer.{width, wrapped}
+use Rattle.c_syntax_written.specs.declared.int_type.IntType.{IntType}
+use Rattle.c_syntax_written.specs.declared.int_type.IntType.TheVariants.{Char, SChar, UChar, Short, UShort, Int, UInt, Long, ULong, LLong, ULLong}
+use Rattle.c_syntax_written.specs.Integer.{width, wrapped}
 use Rattle.num_api.specs.declared.expr.NOp.{NOp}
 use Rattle.num_api.specs.declared.expr.NOp.TheVariants.{Add, Mul}
 use Rattle.num_api.specs.Fold.{IsAlignment}
@@ -20,7 +20,7 @@ use Rattle.num_api.specs.declared.message.Residue.{Residue}
 use Rattle.num_api.proofs.Multiples.{multiple_along, multiple_add, multiple_trans, self_multiple, off_from_in, in_from_off}
 use Rattle.num_api.proofs.Remainders.{rem_same, rem_unique}
 use Rattle.residues.specs.Classes.{LiesIn}
-use Rattle.env_eval.proofs.Parts.{of_two-some}
+use Rattle.num_api.proofs.Parts.{of_two-some}
 use Rattle.machine_nums.specs.MExprs.{MExprTree, Const, Read, Convert, Unary, Binary, type_of, untyped}
 use Rattle.machine_nums.specs.Machine.{exact_value, machine_value}
 use Rattle.machine_nums.specs.Fold.{IsFold, constant, left_factor, right_factor, sum, value}

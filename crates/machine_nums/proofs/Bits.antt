@@ -5,8 +5,8 @@ use Rattle.std.specs.Int.Bits.{xor_add_and}
 use Rattle.std.proofs.lemmas.Nat.{and_mask, and_comm, pow_pos}
 use Rattle.std.proofs.Math.Nat.{mod-lt, mod-eq_of_lt}
 use Rattle.std.specs.Prelude.{Option, Some, None}
-use Rattle.c_written.specs.declared.int_type.IntType.{IntType}
-use Rattle.c_written.specs.Integer.{width, least, wrapped}
+use Rattle.c_syntax_written.specs.declared.int_type.IntType.{IntType}
+use Rattle.c_syntax_written.specs.Integer.{width, least, wrapped}
 use Rattle.num_api.specs.declared.expr.NOp.TheVariants.{Add, Sub, And}
 use Rattle.num_api.specs.Value.{bits_of_both, binary_value, of_two}
 use Rattle.machine_nums.specs.Machine.{wrapped_value}

@@ -6,8 +6,8 @@ use Rattle.std.specs.Ordering.{int_eq}
 use Rattle.std.proofs.lemmas.Option.{none-some}
 use Rattle.std.proofs.lemmas.Bool.{eq-eqb, ne_eqb, cond-true, cond-false, cases_eq}
 use Rattle.ext_int.specs.Valuation.{value_at}
-use Rattle.c_written.specs.declared.int_type.IntType.{IntType}
-use Rattle.c_written.specs.Integer.{wrapped}
+use Rattle.c_syntax_written.specs.declared.int_type.IntType.{IntType}
+use Rattle.c_syntax_written.specs.Integer.{wrapped}
 use Rattle.num_api.specs.declared.message.Range.{Range}
 use Rattle.num_api.specs.declared.expr.NOp.{NOp}
 use Rattle.num_api.specs.declared.expr.NOp.TheVariants.{Not, Eq, Ne, Lt, Le}
@@ -17,9 +17,9 @@ use Rattle.num_api.proofs.Narrowing.{in_common}
 use Rattle.num_api.specs.Spans.{Span, range_of}
 use Rattle.num_api.specs.Value.{value_of, unary_value, binary_value, truth, has_truth}
 use Rattle.num_api.specs.Plain.{Standing, standing, turned, cut}
-use Rattle.env_eval.proofs.Parts.{of_one-some, of_two-some, wider, as_wide}
-use Rattle.env_eval.proofs.Truths.{op_stands, truth_is, turned_truth}
-use Rattle.env_eval.specs.Standings.{Stands}
+use Rattle.num_api.proofs.Parts.{of_one-some, of_two-some, wider, as_wide}
+use Rattle.num_api.proofs.Truths.{op_stands, truth_is, turned_truth}
+use Rattle.num_api.specs.Standings.{Stands}
 use Rattle.machine_nums.specs.MExprs.{MExprTree, Unary, Binary}
 use Rattle.machine_nums.specs.Machine.{exact_value, machine_value}
 use Rattle.machine_nums.specs.Cuts.{HoldsCut, IsCutBy}

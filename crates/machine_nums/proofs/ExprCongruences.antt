@@ -2,9 +2,9 @@
 use Rattle.std.proofs.Common.{◌≡◌, ◌^◌, ◌≤ℤ◌, ℕ, ℤ, pos, arith, refl}
 use Rattle.std.specs.Int.{Width, w8, w16, w32, w64, int_rem_euclid, int_wrap}
 use Rattle.std.proofs.lemmas.Int.{ints}
-use Rattle.c_written.specs.declared.int_type.IntType.{IntType}
-use Rattle.c_written.specs.declared.int_type.IntType.TheVariants.{Char, SChar, UChar, Short, UShort, Int, UInt, Long, ULong, LLong, ULLong}
-use Rattle.c_written.specs.Integer.{width, wrapped}
+use Rattle.c_syntax_written.specs.declared.int_type.IntType.{IntType}
+use Rattle.c_syntax_written.specs.declared.int_type.IntType.TheVariants.{Char, SChar, UChar, Short, UShort, Int, UInt, Long, ULong, LLong, ULLong}
+use Rattle.c_syntax_written.specs.Integer.{width, wrapped}
 use Rattle.num_api.specs.Residues.{class_of, InResidue}
 use Rattle.num_api.proofs.Multiples.{in_shifted}
 use Rattle.num_api.proofs.Remainders.{rem_same, rem_low, rem_high, rem_unique}

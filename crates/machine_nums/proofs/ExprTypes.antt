@@ -5,9 +5,9 @@ use Rattle.std.specs.Int.{int_rem_euclid}
 use Rattle.std.specs.Int.RustNames.{FitsSigned}
 use mir.Syntax.{w128}
 use Rattle.std.proofs.lemmas.Int.{ints}
-use Rattle.c_written.specs.declared.int_type.IntType.{IntType}
-use Rattle.c_written.specs.declared.int_type.IntType.TheVariants.{Char, SChar, UChar, Short, UShort, Int, UInt, Long, ULong, LLong, ULLong}
-use Rattle.c_written.specs.Integer.{HasNumber, width, least, greatest, wrapped}
+use Rattle.c_syntax_written.specs.declared.int_type.IntType.{IntType}
+use Rattle.c_syntax_written.specs.declared.int_type.IntType.TheVariants.{Char, SChar, UChar, Short, UShort, Int, UInt, Long, ULong, LLong, ULLong}
+use Rattle.c_syntax_written.specs.Integer.{HasNumber, width, least, greatest, wrapped}
 use Rattle.num_api.specs.Residues.{IsMultiple}
 use Rattle.num_api.specs.Value.{truth}
 use Rattle.num_api.proofs.Multiples.{multiple_along, multiple_neg, multiple_trans, in_from_off, off_from_in}

@@ -8,7 +8,7 @@ use Rattle.num_api.specs.declared.message.Residue.{Residue}
 use Rattle.num_api.specs.Ranges.{NoWider, IsUnder, with_range, hull}
 use Rattle.num_api.specs.Residues.{IsMultiple, IsFoldResidue}
 use Rattle.num_api.proofs.Multiples.{multiple_trans}
-use Rattle.env_eval.proofs.Parts.{wider}
+use Rattle.num_api.proofs.Parts.{wider}
 use Rattle.machine_nums.proofs.Cutting.{with_under, under_elsewhere, under_here}
 
 pub hull_first : (r s q : Range) → NoWider r s → NoWider r (hull s q)

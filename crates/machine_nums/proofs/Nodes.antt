@@ -6,9 +6,9 @@ use Rattle.std.specs.Int.RustNames.{FitsSigned}
 use Rattle.std.proofs.lemmas.Int.{ints}
 use Rattle.std.specs.declared.boxed.Box.{Box}
 use Rattle.std.specs.declared.alloc.Global.{Global}
-use Rattle.c_written.specs.declared.int_type.IntType.{IntType}
-use Rattle.c_written.specs.declared.int_type.IntType.TheVariants.{Int}
-use Rattle.c_written.specs.Integer.{wrapped}
+use Rattle.c_syntax_written.specs.declared.int_type.IntType.{IntType}
+use Rattle.c_syntax_written.specs.declared.int_type.IntType.TheVariants.{Int}
+use Rattle.c_syntax_written.specs.Integer.{wrapped}
 use Rattle.c_values.specs.Numbers.{complement}
 use Rattle.num_api.specs.declared.expr.NOp.TheVariants.{Neg, Sub}
 use Rattle.num_api.specs.Value.{unary_value, binary_value, of_one, of_two}

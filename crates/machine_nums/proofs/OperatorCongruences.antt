@@ -1,9 +1,9 @@
 -- Numbers of a type and their bits are the same up to a multiple of 2 to the width.
 use Rattle.std.proofs.Common.{◌^◌, ℤ, pos, negsuc, arith}
 use Rattle.std.proofs.lemmas.Int.{ints}
-use Rattle.c_written.specs.declared.int_type.IntType.{IntType}
-use Rattle.c_written.specs.declared.int_type.IntType.TheVariants.{Char, SChar, UChar, Short, UShort, Int, UInt, Long, ULong, LLong, ULLong}
-use Rattle.c_written.specs.Integer.{width, HasNumber}
+use Rattle.c_syntax_written.specs.declared.int_type.IntType.{IntType}
+use Rattle.c_syntax_written.specs.declared.int_type.IntType.TheVariants.{Char, SChar, UChar, Short, UShort, Int, UInt, Long, ULong, LLong, ULLong}
+use Rattle.c_syntax_written.specs.Integer.{width, HasNumber}
 use Rattle.block_mem.specs.Numbers.{bits_in}
 use Rattle.num_api.specs.Residues.{class_of, InResidue}
 

@@ -5,8 +5,8 @@ use Rattle.std.specs.Int.RustNames.{int_div, int_rem}
 use Rattle.std.specs.Ordering.{int_eq}
 use Rattle.std.proofs.lemmas.Int.{ints, quot-rem}
 use Rattle.std.proofs.lemmas.Bool.Decides.{Decides-int_eq}
-use Rattle.c_written.specs.declared.int_type.IntType.{IntType}
-use Rattle.c_written.specs.Integer.{width, HasNumber, wrapped}
+use Rattle.c_syntax_written.specs.declared.int_type.IntType.{IntType}
+use Rattle.c_syntax_written.specs.Integer.{width, HasNumber, wrapped}
 use Rattle.c_syntax.specs.declared.operator.Arithmetic.TheVariants.{Divide, Remainder, BitAnd, BitXor, BitOr}
 use Rattle.c_values.specs.Numbers.{on_bits, remainder}
 use Rattle.block_mem.specs.Numbers.{bits_in}

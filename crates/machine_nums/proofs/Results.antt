@@ -6,9 +6,9 @@ use Rattle.std.proofs.lemmas.Option.{none-some}
 use Rattle.std.proofs.lemmas.Bool.{and_parts, false≢true}
 use mir.Syntax.{w128}
 use Rattle.ext_int.specs.Valuation.{value_at}
-use Rattle.c_written.specs.declared.int_type.IntType.{IntType}
-use Rattle.c_written.specs.declared.int_type.IntType.TheVariants.{LLong}
-use Rattle.c_written.specs.Integer.{wrapped}
+use Rattle.c_syntax_written.specs.declared.int_type.IntType.{IntType}
+use Rattle.c_syntax_written.specs.declared.int_type.IntType.TheVariants.{LLong}
+use Rattle.c_syntax_written.specs.Integer.{wrapped}
 use Rattle.num_api.specs.declared.expr.NOp.{NOp}
 use Rattle.num_api.specs.declared.expr.NOp.TheVariants.{Mul}
 use Rattle.num_api.specs.declared.message.Range.{Range}
@@ -18,7 +18,7 @@ use Rattle.num_api.specs.Ranges.{InRange, IsPoint, NoWider, all_numbers}
 use Rattle.num_api.specs.Spans.{Span, FitsSpan, point, range_of, unary_span}
 use Rattle.num_api.specs.Known.{IsSharpOn}
 use Rattle.num_api.specs.Value.{value_of, AllFit, of_one, of_two, unary_value, binary_value}
-use Rattle.env_eval.proofs.Parts.{some_and, of_one-some, of_two-some, wider, inside, in_point, is_point, whole_range}
+use Rattle.num_api.proofs.Parts.{some_and, of_one-some, of_two-some, wider, inside, in_point, is_point, whole_range}
 use Rattle.machine_nums.specs.MExprs.{MExprTree, Const, Read, Convert, Unary, Binary, type_of, untyped}
 use Rattle.machine_nums.specs.Machine.{wrapped_value, exact_value, machine_value, PartsFit}
 use Rattle.machine_nums.specs.Rule.{type_span, exact_span, value_span, exact_variable, typed_span}

@@ -2,7 +2,7 @@
 use Rattle.std.proofs.Common.{ℤ, ◌≡◌, refl}
 use Rattle.std.specs.declared.boxed.Box.{Box}
 use Rattle.std.specs.declared.alloc.Global.{Global}
-use Rattle.c_written.specs.declared.int_type.IntType.{IntType}
+use Rattle.c_syntax_written.specs.declared.int_type.IntType.{IntType}
 use Rattle.num_api.specs.declared.expr.NOp.{NOp}
 use Rattle.num_api.specs.declared.expr.Var.{Var}
 use Rattle.machine_nums.specs.declared.expr.MExpr.{MExpr}

@@ -8,9 +8,9 @@ use Rattle.std.proofs.lemmas.Int.{ints}
 use Rattle.std.proofs.lemmas.Bool.{and_parts}
 use Rattle.std.proofs.lemmas.Option.{none-some}
 use Rattle.std.proofs.Math.Nat.{div-le_self}
-use Rattle.c_written.specs.declared.int_type.IntType.{IntType}
-use Rattle.c_written.specs.declared.int_type.IntType.TheVariants.{Char, SChar, UChar, Short, UShort, Int, UInt, Long, ULong, LLong, ULLong}
-use Rattle.c_written.specs.Integer.{HasNumber, least}
+use Rattle.c_syntax_written.specs.declared.int_type.IntType.{IntType}
+use Rattle.c_syntax_written.specs.declared.int_type.IntType.TheVariants.{Char, SChar, UChar, Short, UShort, Int, UInt, Long, ULong, LLong, ULLong}
+use Rattle.c_syntax_written.specs.Integer.{HasNumber, least}
 use Rattle.ext_int.specs.declared.Ext.{Ext}
 use Rattle.ext_int.specs.declared.Ext.TheVariants.{Low, Fin, High}
 use Rattle.ext_int.specs.Ext.{AtMost}
@@ -21,7 +21,7 @@ use Rattle.num_api.specs.declared.expr.NOp.TheVariants.{Shr, And, Or, Xor}
 use Rattle.num_api.specs.Ranges.{InRange, IsPoint, NoWider}
 use Rattle.num_api.specs.Spans.{Span, range_of, FitsSpan, binary_span, corners}
 use Rattle.num_api.specs.Value.{binary_value}
-use Rattle.env_eval.proofs.Parts.{wider}
+use Rattle.num_api.proofs.Parts.{wider}
 use Rattle.intervals.specs.Bits.{IsLogical}
 use Rattle.intervals.specs.Bounds.{IsNatural, HasBits, BitBounds, IsBounded}
 use Rattle.machine_nums.specs.Rule.{type_span, fits, stays, or_type, typed_span}

@@ -8,9 +8,9 @@ use Rattle.std.specs.Int.{w8, w16, w32, w64, int_rem_euclid}
 use Rattle.std.proofs.lemmas.Int.{ints, SFits-int_wrap, int_wrap_fits}
 use Rattle.num_api.proofs.Multiples.{in_itself}
 use Rattle.num_api.proofs.Remainders.{rem_low, rem_high, rem_unique}
-use Rattle.c_written.specs.declared.int_type.IntType.{IntType}
-use Rattle.c_written.specs.declared.int_type.IntType.TheVariants.{Char, SChar, UChar, Short, UShort, Int, UInt, Long, ULong, LLong, ULLong}
-use Rattle.c_written.specs.Integer.{HasNumber, wrapped}
+use Rattle.c_syntax_written.specs.declared.int_type.IntType.{IntType}
+use Rattle.c_syntax_written.specs.declared.int_type.IntType.TheVariants.{Char, SChar, UChar, Short, UShort, Int, UInt, Long, ULong, LLong, ULLong}
+use Rattle.c_syntax_written.specs.Integer.{HasNumber, wrapped}
 use Rattle.num_api.specs.Value.{unary_value, binary_value, of_one, of_two, value_of}
 use Rattle.machine_nums.specs.MExprs.{MExprTree, Const, Read, Convert, Unary, Binary, type_of, untyped}
 use Rattle.machine_nums.specs.Machine.{wrapped_value, exact_value, machine_value, OperandsFit}

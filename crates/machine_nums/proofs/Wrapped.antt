@@ -1,9 +1,9 @@
 -- Ranges wrapped into a type.
 use Rattle.std.proofs.Common.{◌≡◌, ◌^◌, ◌+ℤ◌, ◌-ℤ◌, ◌*ℤ◌, ◌≤ℤ◌, ℤ, pos, arith, refl, sym, subst, ◌∙◌, ap}
 use Rattle.std.proofs.lemmas.Int.{ints}
-use Rattle.c_written.specs.declared.int_type.IntType.{IntType}
-use Rattle.c_written.specs.declared.int_type.IntType.TheVariants.{LLong}
-use Rattle.c_written.specs.Integer.{HasNumber, width, least, greatest, wrapped}
+use Rattle.c_syntax_written.specs.declared.int_type.IntType.{IntType}
+use Rattle.c_syntax_written.specs.declared.int_type.IntType.TheVariants.{LLong}
+use Rattle.c_syntax_written.specs.Integer.{HasNumber, width, least, greatest, wrapped}
 use Rattle.ext_int.specs.declared.Ext.{Ext}
 use Rattle.ext_int.specs.declared.Ext.TheVariants.{Fin}
 use Rattle.ext_int.specs.Ext.{Below, Above, AtMost}
@@ -13,7 +13,7 @@ use Rattle.num_api.specs.Ranges.{InRange, IsPoint, NoWider}
 use Rattle.num_api.specs.Residues.{IsMultiple}
 use Rattle.num_api.specs.Spans.{point, range_of}
 use Rattle.num_api.proofs.Multiples.{multiple_along, multiple_times, times_multiple, self_multiple, in_from_off, off_from_in, in_product}
-use Rattle.env_eval.proofs.Parts.{only_number, still_point, in_point}
+use Rattle.num_api.proofs.Parts.{only_number, still_point, in_point}
 use Rattle.machine_nums.specs.Rule.{type_span}
 use Rattle.machine_nums.proofs.Values.{has-wrapped, wrapped-has}
 use Rattle.machine_nums.proofs.ExprTypes.{has_between, between_has, is_wrapped, wrapped_moves}

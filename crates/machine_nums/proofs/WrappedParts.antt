@@ -4,9 +4,9 @@ use Rattle.std.specs.Int.RustNames.{FitsSigned}
 use Rattle.std.proofs.lemmas.Int.{ints}
 use Rattle.std.proofs.lemmas.Bool.{false≢true}
 use mir.Syntax.{w128}
-use Rattle.c_written.specs.declared.int_type.IntType.{IntType}
-use Rattle.c_written.specs.declared.int_type.IntType.TheVariants.{LLong}
-use Rattle.c_written.specs.Integer.{width, least, wrapped}
+use Rattle.c_syntax_written.specs.declared.int_type.IntType.{IntType}
+use Rattle.c_syntax_written.specs.declared.int_type.IntType.TheVariants.{LLong}
+use Rattle.c_syntax_written.specs.Integer.{width, least, wrapped}
 use Rattle.num_api.specs.declared.expr.NOp.TheVariants.{Add, Sub, Mul, And}
 use Rattle.num_api.specs.declared.message.Range.{Range}
 use Rattle.num_api.specs.Exprs.{NExprTree, nexpr_tree}

@@ -1,6 +1,6 @@
 -- Expressions of C whose value is a multiple of a number by their form.
 use Rattle.std.specs.Prelude.{ℤ}
-use Rattle.c_written.specs.declared.int_type.IntType.{IntType}
+use Rattle.c_syntax_written.specs.declared.int_type.IntType.{IntType}
 use Rattle.num_api.specs.declared.expr.NOp.TheVariants.{Add, Mul}
 use Rattle.num_api.specs.Residues.{IsMultiple}
 use Rattle.machine_nums.specs.MExprs.{MExprTree, Const, Convert, Binary}

@@ -1,7 +1,7 @@
 -- What it means that an operator on whole numbers stands for one of C: its result at numbers of the type, wrapped into the type, is that of C's.
 use Rattle.std.specs.Prelude.{◌≡◌, ◌≢◌, ℤ, pos, ◌≤ℤ◌, ◌⊎◌, Bool, true, false, Some, IsSomeAnd}
-use Rattle.c_written.specs.declared.int_type.IntType.{IntType}
-use Rattle.c_written.specs.Integer.{HasNumber, wrapped}
+use Rattle.c_syntax_written.specs.declared.int_type.IntType.{IntType}
+use Rattle.c_syntax_written.specs.Integer.{HasNumber, wrapped}
 use Rattle.c_syntax.specs.declared.operator.Arithmetic.{Arithmetic}
 use Rattle.c_syntax.specs.declared.operator.Arithmetic.TheVariants.{Divide, Remainder}
 use Rattle.c_syntax.specs.declared.operator.Shift.{Shift}

@@ -1,6 +1,6 @@
 -- Expressions whose nodes have a type, as trees without pointers. A variable is its number.
 use Rattle.std.specs.Prelude.{ℕ, ℤ, Bool, false, ◌||◌, nat_eq}
-use Rattle.c_written.specs.declared.int_type.IntType.{IntType}
+use Rattle.c_syntax_written.specs.declared.int_type.IntType.{IntType}
 use Rattle.num_api.specs.declared.expr.NOp.{NOp}
 use Rattle.num_api.specs.Exprs.{NExprTree}
 use Rattle.num_api.specs.Exprs as plain

@@ -3,8 +3,8 @@
 use Rattle.std.specs.Prelude.{◌≢◌, ℤ, List, Option, Some, None, IfSome}
 use Rattle.std.specs.Int.RustNames.{FitsSigned}
 use mir.Syntax.{w128}
-use Rattle.c_written.specs.declared.int_type.IntType.{IntType}
-use Rattle.c_written.specs.Integer.{HasNumber, wrapped}
+use Rattle.c_syntax_written.specs.declared.int_type.IntType.{IntType}
+use Rattle.c_syntax_written.specs.Integer.{HasNumber, wrapped}
 use Rattle.ext_int.specs.Valuation.{value_at}
 use Rattle.num_api.specs.declared.expr.NOp.TheVariants.{Mul}
 use Rattle.num_api.specs.Value.{unary_value, binary_value, of_one, of_two}

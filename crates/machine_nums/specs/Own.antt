@@ -1,5 +1,5 @@
 -- The answers of a numeric domain to an expression without its types, where all that is asked lies inside the types.
-use Rattle.c_written.specs.declared.int_type.IntType.{IntType}
+use Rattle.c_syntax_written.specs.declared.int_type.IntType.{IntType}
 use Rattle.num_api.specs.declared.message.Range.{Range}
 use Rattle.num_api.specs.Exprs.{NExprTree}
 use Rattle.num_api.specs.Exprs as plain

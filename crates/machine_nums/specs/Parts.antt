@@ -2,9 +2,9 @@
 use Rattle.std.specs.Prelude.{◌≡◌, ◌*ℤ◌, ℕ, ℤ, List, Bool, IsTrue, true, false, Some}
 use Rattle.std.specs.Int.RustNames.{FitsSigned}
 use mir.Syntax.{w128}
-use Rattle.c_written.specs.declared.int_type.IntType.{IntType}
-use Rattle.c_written.specs.declared.int_type.IntType.TheVariants.{LLong}
-use Rattle.c_written.specs.Integer.{wrapped}
+use Rattle.c_syntax_written.specs.declared.int_type.IntType.{IntType}
+use Rattle.c_syntax_written.specs.declared.int_type.IntType.TheVariants.{LLong}
+use Rattle.c_syntax_written.specs.Integer.{wrapped}
 use Rattle.num_api.specs.declared.message.Range.{Range}
 use Rattle.num_api.specs.Exprs.{NExprTree, nexpr_tree, Read}
 use Rattle.num_api.specs.Ranges.{InRange, IsPoint, NoWider, IsUnder}

@@ -1,7 +1,7 @@
 -- What is so of a range that is wrapped into a type.
 use Rattle.std.specs.Prelude.{ℤ, pos, ◌≡◌, ◌^◌, ◌+ℤ◌}
-use Rattle.c_written.specs.declared.int_type.IntType.{IntType}
-use Rattle.c_written.specs.Integer.{width, HasNumber, wrapped}
+use Rattle.c_syntax_written.specs.declared.int_type.IntType.{IntType}
+use Rattle.c_syntax_written.specs.Integer.{width, HasNumber, wrapped}
 use Rattle.num_api.specs.declared.message.Range.{Range}
 use Rattle.num_api.specs.Ranges.{InRange, IsPoint, NoWider}
 use Rattle.num_api.specs.Residues.{IsMultiple}

@@ -2,7 +2,7 @@
 #![tactic(auto, using(crate::proofs::Trees::mexpr_trees))]
 
 ghost use Rattle.std.specs.Prelude.{◌≡◌, ◌*ℤ◌, ◌≤ℤ◌, ℤ, pos, List, Some, true, false};
-ghost use Rattle.c_written.specs.declared.int_type.IntType.{IntType as CType};
+ghost use Rattle.c_syntax_written.specs.declared.int_type.IntType.{IntType as CType};
 ghost use Rattle.num_api.specs.Fold.{IsAlignment};
 ghost use Rattle.num_api.specs.Residues.{InResidue, IsResidue, IsFoldResidue, IsMultiple};
 ghost use Rattle.machine_nums.specs.MExprs.{Const, mexpr_tree};

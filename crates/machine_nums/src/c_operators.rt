@@ -1,7 +1,7 @@
 // C's operators at their types.
 
 ghost use Rattle.std.specs.Prelude.{◌≡◌, ℤ, List, neg_ℤ, Some, IfOk};
-ghost use Rattle.c_written.specs.Integer.{wrapped};
+ghost use Rattle.c_syntax_written.specs.Integer.{wrapped};
 ghost use Rattle.c_values.specs.Numbers as numbers;
 ghost use Rattle.machine_nums.specs.MExprs.{mexpr_tree};
 ghost use Rattle.machine_nums.specs.Machine.{machine_value};

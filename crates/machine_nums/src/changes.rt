@@ -21,8 +21,7 @@ use crate::MExpr;
 use crate::cuts::{Cut, Cuts, cuts_of};
 use crate::evaluation::value;
 use crate::parts::Part;
-use env_eval::may_be;
-use num_api::{Live, Message, Messages, NumDomain, Unknowing, Var};
+use num_api::{Live, Message, Messages, NumDomain, Unknowing, Var, may_be};
 use std::alloc::{AllocError as NoMemory, Global};
 
 // Gives the variable the value of the part, and then cuts it by the part's range; `Dead` only where there is no

@@ -8,7 +8,7 @@ ghost use Rattle.num_api.specs.Plain.{cut};
 ghost use Rattle.num_api.specs.Ranges.{InRange, NoWider, IsUnder};
 ghost use Rattle.num_api.specs.Spans.{Span, range_of};
 ghost use Rattle.num_api.specs.Value.{value_of, has_truth};
-ghost use Rattle.env_eval.specs.Standings.{standing_of, Stands};
+ghost use Rattle.num_api.specs.Standings.{standing_of, Stands};
 ghost use Rattle.machine_nums.specs.Cuts.{HoldCuts, AreCutBy};
 ghost use Rattle.machine_nums.specs.MExprs.{mexpr_tree};
 ghost use Rattle.machine_nums.specs.Machine.{machine_value};
@@ -17,8 +17,9 @@ ghost use Rattle.machine_nums.specs.Rule.{value_span, side_variable, cut_sides, 
 use crate::MExpr;
 use crate::evaluation::value;
 use crate::parts::Part;
-use env_eval::{Standing, compared, cut_range, no_numbers, turned};
-use num_api::{NExpr, NOp, NumDomain, Range, Var};
+use num_api::{
+    NExpr, NOp, NumDomain, Range, Standing, Var, compared, cut_range, no_numbers, turned,
+};
 use std::alloc::{AllocError as NoMemory, Global};
 
 /// A variable and a range in which its number lies.

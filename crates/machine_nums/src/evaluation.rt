@@ -2,7 +2,7 @@
 #![tactic(auto, using(crate::proofs::Trees::mexpr_trees, num_api::proofs::Trees::nexpr_trees))]
 
 ghost use Rattle.std.specs.Prelude.{◌≡◌, IfOk, ◌⊎◌};
-ghost use Rattle.c_written.specs.declared.int_type.IntType.{IntType as CType};
+ghost use Rattle.c_syntax_written.specs.declared.int_type.IntType.{IntType as CType};
 ghost use Rattle.num_api.specs.declared.expr.NOp.TheVariants.{Mul};
 ghost use Rattle.machine_nums.specs.MExprs.{MExprTree, Unary, Binary, mexpr_tree};
 ghost use Rattle.machine_nums.specs.Parts.{IsTold, IsResult, IsValue};
@@ -13,7 +13,7 @@ use crate::parts::{
     Part, are_kept, binary_expr, constant, like_product, unary_expr, variable, wrapped,
 };
 use crate::range_types::{is_bounded, meet};
-use c_written::IntType;
+use c_syntax_written::IntType;
 use num_api::{NOp, NumDomain};
 use std::alloc::{AllocError as NoMemory, Global};
 

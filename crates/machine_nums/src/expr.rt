@@ -2,13 +2,13 @@
 #![tactic(auto, using(crate::proofs::Trees::mexpr_trees, num_api::proofs::Trees::nexpr_trees))]
 
 ghost use Rattle.std.specs.Prelude.{◌≡◌, ℤ, List, Some, IfOk};
-ghost use Rattle.c_written.specs.Integer.{HasNumber};
+ghost use Rattle.c_syntax_written.specs.Integer.{HasNumber};
 ghost use Rattle.num_api.specs.Exprs.{nexpr_tree};
 ghost use Rattle.num_api.specs.Value.{value_of};
 ghost use Rattle.machine_nums.specs.MExprs.{mexpr_tree, type_of, reads, untyped};
 ghost use Rattle.machine_nums.specs.Machine.{exact_value, machine_value, OperandsFit};
 
-use c_written::IntType;
+use c_syntax_written::IntType;
 use num_api::{NExpr, NOp, Var};
 use std::alloc::{AllocError as NoMemory, Global};
 

@@ -7,7 +7,7 @@
 //!
 //! specs/MExprs.antt has the tree of an expression, without pointers, and specs/Machine.antt its value: the
 //! exact result of a node, an operator on the values of its operands, and the value, which is that result
-//! wrapped by the type's one definition in `c_written`. `MExpr::int_type` promises that a value is a number of
+//! wrapped by the type's one definition in `c_syntax_written`. `MExpr::int_type` promises that a value is a number of
 //! the type, and `MExpr::untyped` that the expression without types has the exact result as its value wherever
 //! each operand's exact result fits its type.
 //!

@@ -18,7 +18,7 @@ ghost use Rattle.num_api.specs.Lives.{is_live};
 ghost use Rattle.num_api.specs.declared.message.Range.{Range};
 ghost use Rattle.num_api.specs.declared.message.Message.TheVariants.{Between};
 ghost use Rattle.num_api.specs.declared.expr.Var.{Var as Variable};
-ghost use Rattle.c_written.specs.Integer.{HasNumber};
+ghost use Rattle.c_syntax_written.specs.Integer.{HasNumber};
 ghost use Rattle.machine_nums.specs.MExprs.{mexpr_tree, type_of, untyped, OnVariables};
 ghost use Rattle.machine_nums.specs.Machine.{exact_value, machine_value, PartsFit};
 ghost use Rattle.machine_nums.specs.Machines.{state_of, is_void, Admits, LiesUnder, holds_machine, machine_weight};
@@ -31,9 +31,8 @@ use crate::alignment::{fold_of, multiples};
 use crate::changes::{assign, keep_truth};
 use crate::evaluation::{exact_result, value};
 use crate::range_types::type_range;
-use c_written::IntType;
-use env_eval::no_numbers;
-use num_api::{Live, Message, NumDomain, NumFacts, Ramp, Range, Residue, Steps, Var};
+use c_syntax_written::IntType;
+use num_api::{Live, Message, NumDomain, NumFacts, Ramp, Range, Residue, Steps, Var, no_numbers};
 use std::alloc::{AllocError as NoMemory, Global};
 
 /// A state of a numeric domain over numbers of C's integer types, or one that a cut has left nothing of: such a

@@ -7,17 +7,16 @@ ghost use Rattle.num_api.specs.Ranges.{InRange, IsPoint, NoWider};
 ghost use Rattle.num_api.specs.Spans.{Span, FitsSpan, IsNotByZero, range_of, unary_span, binary_span};
 ghost use Rattle.num_api.specs.Value.{unary_value, binary_value};
 ghost use Rattle.num_api.specs.declared.expr.NOp.TheVariants.{Quot, Shr};
-ghost use Rattle.c_written.specs.declared.int_type.IntType.{IntType as CType};
+ghost use Rattle.c_syntax_written.specs.declared.int_type.IntType.{IntType as CType};
 ghost use Rattle.intervals.specs.Bits.{IsLogical};
 ghost use Rattle.intervals.specs.Interval.{Admits, ends_of};
 ghost use Rattle.machine_nums.specs.Rule.{type_span, typed_span};
 
 use crate::range_types::{lies_in, meet, type_range};
-use c_written::IntType;
-use env_eval::no_numbers;
+use c_syntax_written::IntType;
 use ext_int::Ext;
 use intervals::Interval;
-use num_api::{NOp, Range, ValueDomain};
+use num_api::{NOp, Range, ValueDomain, no_numbers};
 
 /// What an operator of one operand makes of the numbers of the range. On points it is exact.
 pub fn unary_range(op: NOp, r: Range) -> Range

@@ -5,7 +5,7 @@ ghost use Rattle.std.specs.Prelude.{◌≡◌, ◌^◌, ◌-◌, ◌*ℤ◌, ◌
 ghost use Rattle.std.specs.Int.RustNames.{FitsSigned};
 ghost use mir.Syntax.{w128};
 ghost use Rattle.ext_int.specs.declared.Ext.TheVariants.{Low, High};
-ghost use Rattle.c_written.specs.Integer.{width, least};
+ghost use Rattle.c_syntax_written.specs.Integer.{width, least};
 ghost use Rattle.num_api.specs.Exprs.{nexpr_tree, Const, Read, Unary, Binary};
 ghost use Rattle.num_api.specs.Ranges.{InRange, NoWider, all_numbers};
 ghost use Rattle.num_api.specs.Spans.{point, range_of};
@@ -15,7 +15,7 @@ ghost use Rattle.machine_nums.specs.Parts.{IsWrappedPart, IsLike};
 use crate::operators::binary_range;
 use crate::range_types::{is_bounded, mask};
 use crate::wrapping::{Way, wrap_range};
-use c_written::IntType;
+use c_syntax_written::IntType;
 use num_api::{NExpr, NOp, Range, Var};
 use std::alloc::{AllocError as NoMemory, Global};
 

@@ -4,12 +4,12 @@ ghost use Rattle.std.specs.Prelude.{◌≡◌, ◌^◌, ◌-◌, ◌≤ℤ◌, �
 ghost use Rattle.std.specs.Int.RustNames.{FitsSigned};
 ghost use mir.Syntax.{w128};
 ghost use Rattle.ext_int.specs.Ext.{AtMost};
-ghost use Rattle.c_written.specs.Integer.{width, greatest};
+ghost use Rattle.c_syntax_written.specs.Integer.{width, greatest};
 ghost use Rattle.num_api.specs.Ranges.{InRange, NoWider, holds_some};
 ghost use Rattle.num_api.specs.Spans.{Span, range_of};
 ghost use Rattle.machine_nums.specs.Rule.{type_span};
 
-use c_written::IntType;
+use c_syntax_written::IntType;
 use ext_int::{Ext, max, min};
 use num_api::Range;
 

@@ -3,7 +3,7 @@
 ghost use Rattle.std.specs.Prelude.{◌≡◌, ◌-ℤ◌, ◌+ℤ◌, ℤ, IfSome};
 ghost use Rattle.std.specs.Int.RustNames.{FitsSigned};
 ghost use mir.Syntax.{w128};
-ghost use Rattle.c_written.specs.Integer.{wrapped};
+ghost use Rattle.c_syntax_written.specs.Integer.{wrapped};
 ghost use Rattle.num_api.specs.Ranges.{InRange, IsPoint, NoWider};
 ghost use Rattle.num_api.specs.Spans.{range_of};
 ghost use Rattle.machine_nums.specs.Rule.{type_span};
@@ -11,10 +11,9 @@ ghost use Rattle.machine_nums.specs.Wrapping.{IsWrapping, IsTaken};
 
 use crate::range_types::{is_above, lies_in, type_range};
 use c_layout::wrap;
-use c_written::IntType;
-use env_eval::number;
+use c_syntax_written::IntType;
 use ext_int::Ext;
-use num_api::Range;
+use num_api::{Range, number};
 
 /// What takes the numbers of a range into a type.
 #[derive(Clone, Copy)]

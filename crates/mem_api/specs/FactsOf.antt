@@ -4,13 +4,13 @@ use Rattle.c_syntax.specs.declared.alarm.Cell.{Cell}
 use Rattle.c_syntax.specs.declared.alarm.Fact.{Fact}
 use Rattle.c_syntax.specs.declared.alarm.Fact.TheVariants as facts
 use Rattle.c_syntax.specs.Types.{Int}
-use Rattle.c_written.specs.declared.int_type.IntType.{IntType}
-use Rattle.c_written.specs.Integer.{bytes}
+use Rattle.c_syntax_written.specs.declared.int_type.IntType.{IntType}
+use Rattle.c_syntax_written.specs.Integer.{bytes}
 use Rattle.c_values.specs.Places.{ObjectMemory}
 use Rattle.c_objects.specs.Cells.{IsCellNumber}
 use Rattle.c_objects.specs.FactsIn as facts_in
 use Rattle.csharp.specs.Trees.{CsProgramTree}
-use Rattle.decide.specs.Decisions.{NamesBelow}
+use Rattle.mem_shown.specs.Decisions.{NamesBelow}
 
 -- the fact holds in memory of the program's objects
 abbrev pub HoldsIn : CsProgramTree → ObjectMemory → Fact → Type 0

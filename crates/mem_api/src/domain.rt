@@ -18,7 +18,7 @@ ghost use Rattle.csharp.specs.Actions as acts;
 ghost use Rattle.plain_runs.specs.States.{Plain, plain_first, hull};
 ghost use Rattle.plain_runs.specs.Changes as plains;
 ghost use Rattle.plain_runs.specs.Checks.{plain_suspect, plain_pass};
-ghost use Rattle.decide.specs.Decisions.{NamesObjects};
+ghost use Rattle.mem_shown.specs.Decisions.{NamesObjects};
 ghost use Rattle.mem_api.specs.Given.{IsGiven, AreForOne};
 ghost use Rattle.mem_api.specs.Showing.{HasForm, IsAlone, looked_at};
 ghost use Rattle.mem_api.specs.Named.{Fixed, IsNamed, LooksAtPlace, fixed_at, ShowsOnly, ShowsOffset};
@@ -35,7 +35,7 @@ use std::alloc::{AllocError as NoMemory, Global};
 
 /// A set of states. It is for the program that `start` was given, and what a call is given is of that
 /// program: numbers name what is there, and types agree as for the statement that the call stands for.
-/// Each call that changes the set does to it what that statement does to a state. After want of memory a
+/// Each call that changes the set does to it what that statement does to a state. Once out of memory a
 /// set is still for its program, and promises nothing else.
 pub trait MemDomain: Sized + Drop {
     /// The programs that the set is for.

@@ -21,8 +21,6 @@
 
 mod domain;
 mod fixpoint;
-#[cfg(test)]
-mod tests;
 
 pub use domain::{Exact, MemDomain};
 pub use fixpoint::settle;

@@ -1,6 +1,6 @@
 // The calls of a fake, counted from 1, some of which are to fail.
 
-use c_written::Numbers;
+use c_syntax_written::Numbers;
 use std::marker::Model;
 
 #[derive(Drop)]

@@ -9,7 +9,7 @@ use std::marker::Model;
 use std::rt::Files as HostFileSystem;
 use std::{fs, io};
 
-/// The files of the system. All names have one count of faults, and want of memory inside a call is
+/// The files of the system. All names have one count of faults, and out of memory inside a call is
 /// a fault as any other.
 #[derive(Drop)]
 pub struct HostFiles<'a, R: HostFileSystem> {
@@ -114,7 +114,7 @@ fn write_piece<W: Write>(sink: &mut W, piece: &[u8]) -> Result<usize, Failed>
     }
 }
 
-/// Standard output. Each piece is flushed before the answer, and want of memory inside a call is a
+/// Standard output. Each piece is flushed before the answer, and out of memory inside a call is a
 /// fault as any other.
 #[derive(Drop)]
 pub struct HostOut<'a, R: Print> {

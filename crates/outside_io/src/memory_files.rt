@@ -6,7 +6,7 @@ ghost use Rattle.outside_io.specs.Memory.{HeldFile, HeldFiles, file_at, after_fa
 
 use crate::calls::Calls;
 use crate::{Failed, Files};
-use c_written::Numbers;
+use c_syntax_written::Numbers;
 use std::alloc::{AllocError as NoMemory, Global};
 use std::marker::Model;
 

@@ -4,7 +4,7 @@ ghost use Rattle.outside_io.specs.Io.{raised, Rose};
 
 use crate::calls::Calls;
 use crate::{Failed, Sink};
-use c_written::Numbers;
+use c_syntax_written::Numbers;
 use std::alloc::{AllocError as NoMemory, Global};
 use std::marker::Model;
 

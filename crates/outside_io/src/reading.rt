@@ -4,7 +4,7 @@ ghost use Rattle.outside_io.specs.Io.{Rose};
 ghost use Rattle.outside_io.specs.declared.reading.ReadError.TheVariants.{NoMemory};
 
 use crate::Files;
-use c_written::Bytes;
+use c_syntax_written::Bytes;
 use std::alloc::{AllocError, Global};
 use thiserror::Error;
 

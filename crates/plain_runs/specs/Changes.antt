@@ -2,7 +2,7 @@
 use Rattle.std.specs.Prelude.{ℕ, ◌==◌, Bool, true, false, not, ◌&&◌, if◌then◌else◌, List, [], ◌∷◌, Option, Some, None, option_map, option_and_then, slice_get}
 use Rattle.std.specs.Int.{int_min, int_max}
 use Rattle.std.specs.Int.RustNames.{int_le}
-use Rattle.c_written.specs.declared.int_type.IntType.{IntType}
+use Rattle.c_syntax_written.specs.declared.int_type.IntType.{IntType}
 use Rattle.c_syntax.specs.Types.{ObjectTree, CTypeTree, Int}
 use Rattle.block_mem.specs.declared.types.Scalar.{Scalar}
 use Rattle.block_mem.specs.declared.types.Scalar.TheVariants as scalars
@@ -16,7 +16,7 @@ use Rattle.machine_nums.specs.MExprs.{MExprTree, Const, Read, Convert, Unary, Bi
 use Rattle.machine_nums.specs.Rule.{type_span, converted, value_span, side_variable, tested}
 use Rattle.csharp.specs.Trees.{CsExprTree}
 use Rattle.csharp.specs.Trees as code
-use Rattle.plain_runs.specs.SameExprs.{is_same_type, is_same_expr}
+use Rattle.csharp.specs.SameExprs.{is_same_type, is_same_expr}
 use Rattle.plain_runs.specs.Numbers.{number_expr}
 use Rattle.plain_runs.specs.States.{Cell, Passed, Plain, given, span_of}
 

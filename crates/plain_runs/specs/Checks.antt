@@ -2,7 +2,7 @@
 use Rattle.std.specs.Prelude.{pos, ◌==◌, Bool, true, false, not, ◌&&◌, if◌then◌else◌, List, [], ◌∷◌, Option, Some, None, option_map, option_and_then}
 use Rattle.std.specs.Int.RustNames.{int_le}
 use Rattle.std.specs.Ordering.{int_eq}
-use Rattle.c_written.specs.Integer.{bytes}
+use Rattle.c_syntax_written.specs.Integer.{bytes}
 use Rattle.c_syntax.specs.declared.alarm.Check.{Check}
 use Rattle.c_syntax.specs.declared.alarm.WrongKind.{WrongKind}
 use Rattle.c_syntax.specs.declared.alarm.WrongKind.TheVariants as kinds

@@ -1,4 +1,3 @@
-pub mod SameExprs
 pub mod Numbers
 pub mod States
 pub mod Changes

@@ -1,7 +1,7 @@
 -- Expressions on integers as numeric domains take them: each node with its type, and a variable for each temporary (this profile).
 use Rattle.std.specs.Prelude.{ℕ, negsuc, List, Option, Some, None, option_map, option_and_then, slice_get}
-use Rattle.c_written.specs.declared.int_type.IntType.TheVariants as ints
-use Rattle.c_written.specs.Integer.{wrapped}
+use Rattle.c_syntax_written.specs.declared.int_type.IntType.TheVariants as ints
+use Rattle.c_syntax_written.specs.Integer.{wrapped}
 use Rattle.c_syntax.specs.declared.operator.Arithmetic.{Arithmetic}
 use Rattle.c_syntax.specs.declared.operator.Arithmetic.TheVariants as arithmetics
 use Rattle.c_syntax.specs.declared.operator.Shift.{Shift}

@@ -1,7 +1,7 @@
 -- What the plain rules come to, worked out by hand: each operator, each cut and test, checks, and small runs.
 use Rattle.std.specs.Prelude.{◌≡◌, ℕ, ℤ, pos, negsuc, Bool, true, false, if◌then◌else◌, List, [], ◌∷◌, Option, Some, None, option_map, codes, slice_get, unwrap_or}
-use Rattle.c_written.specs.declared.place.Pos.{Pos}
-use Rattle.c_written.specs.declared.int_type.IntType.TheVariants as ints
+use Rattle.c_syntax_written.specs.declared.place.Pos.{Pos}
+use Rattle.c_syntax_written.specs.declared.int_type.IntType.TheVariants as ints
 use Rattle.c_syntax.specs.declared.alarm.WrongKind.{WrongKind}
 use Rattle.c_syntax.specs.declared.alarm.WrongKind.TheVariants as kinds
 use Rattle.c_syntax.specs.declared.operator.Arithmetic.{Arithmetic}

@@ -1,7 +1,7 @@
 -- Plain states: one interval for each temporary and for each integer object that lives (this profile).
 use Rattle.std.specs.Prelude.{ℕ, pos, ◌==◌, ◌&&◌, ◌||◌, Bool, true, false, not, if◌then◌else◌, List, [], Option, Some, None, option_map, option_and_then, slice_get}
 use Rattle.std.specs.Int.{int_min, int_max}
-use Rattle.c_written.specs.declared.int_type.IntType.{IntType}
+use Rattle.c_syntax_written.specs.declared.int_type.IntType.{IntType}
 use Rattle.c_syntax.specs.Types.{ObjectTree, CTypeTree, Int}
 use Rattle.block_mem.specs.declared.types.Scalar.{Scalar}
 use Rattle.block_mem.specs.declared.types.Scalar.TheVariants as scalars
@@ -14,7 +14,7 @@ use Rattle.c_values.specs.Accesses.{loaded_value}
 use Rattle.c_objects.specs.Opening.{address}
 use Rattle.csharp.specs.Trees.{CsExprTree, CsProgramTree}
 use Rattle.csharp.specs.States as states
-use Rattle.plain_runs.specs.SameExprs.{is_same_type}
+use Rattle.csharp.specs.SameExprs.{is_same_type}
 use Rattle.plain_runs.specs.Numbers.{number_expr}
 
 -- what is known of an object: its type, an interval of that type, whether its value may be indeterminate, and whether it is const

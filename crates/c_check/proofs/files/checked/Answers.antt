@@ -1,12 +1,12 @@
 use Rattle.std.proofs.Common.{refl, ap, subst, map}
 use Rattle.std.proofs.lemmas.Option.{IfSome_then}
-use Rattle.c_written.specs.WrittenFile.{file_tree, outer_tree}
+use Rattle.c_syntax_written.specs.WrittenFile.{file_tree, outer_tree}
 use Rattle.c_typing.specs.Context as contexts
 use Rattle.c_typing.specs.World.{World, Typed, Refused}
 use Rattle.c_typing.specs.File.{TypesOuters, Program}
-use Rattle.c_type_jumps.specs.ContextViews.{context_tree}
-use Rattle.c_type_names.specs.Views.{refusal_of}
-use Rattle.c_type_names.specs.Worlds.{world_of}
+use Rattle.c_check_jumps.specs.ContextViews.{context_tree}
+use Rattle.c_check_names.specs.Views.{refusal_of}
+use Rattle.c_check_names.specs.Worlds.{world_of}
 use Rattle.c_check.proofs.files.checked.Goals as goal
 
 pub returns-in-Err : goal.returns-in-Err

@@ -2,9 +2,9 @@ use Rattle.std.proofs.Common.{◌≡◌, [], refl, arith}
 use Rattle.std.proofs.lemmas.Grind.{common_steps}
 use Rattle.std.proofs.lemmas.Option.{IfSome_then}
 use Rattle.c_typing.specs.World.{Typed, Refused, goes_on, stops}
-use Rattle.c_type_jumps.specs.ContextViews.{context_tree}
-use Rattle.c_type_names.specs.Views.{refusal_of}
-use Rattle.c_type_names.specs.Worlds.{world_of}
+use Rattle.c_check_jumps.specs.ContextViews.{context_tree}
+use Rattle.c_check_names.specs.Views.{refusal_of}
+use Rattle.c_check_names.specs.Worlds.{world_of}
 use Rattle.c_check.proofs.Lines.{all_left, next_outer, last_outer}
 use Rattle.c_check.proofs.files.outers.Goals as goal
 

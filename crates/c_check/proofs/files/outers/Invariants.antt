@@ -1,10 +1,10 @@
 use Rattle.std.proofs.Common.{map, vec_len}
 use Rattle.std.specs.Prelude.{⊤}
-use Rattle.c_written.specs.WrittenFile.{outer_tree}
+use Rattle.c_syntax_written.specs.WrittenFile.{outer_tree}
 use Rattle.c_typing.specs.World.{Outcome}
 use Rattle.c_typing.specs.File.{TypesOuters}
-use Rattle.c_type_jumps.specs.ContextViews.{context_tree}
-use Rattle.c_type_names.specs.Worlds.{world_of}
+use Rattle.c_check_jumps.specs.ContextViews.{context_tree}
+use Rattle.c_check_names.specs.Worlds.{world_of}
 use Rattle.c_check.proofs.Lines.{TypesLeft}
 use Rattle.c_check.proofs.files.outers.Given as goal
 

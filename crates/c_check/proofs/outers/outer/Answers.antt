@@ -1,15 +1,15 @@
 use Rattle.std.proofs.Common.{refl, sym, ap, ◌∙◌, subst}
 use Rattle.std.proofs.lemmas.Option.{IfSome_then}
-use Rattle.c_written.specs.WrittenDecl.{decl_tree}
-use Rattle.c_written.specs.Written.{declarator_tree, specs_tree}
-use Rattle.c_written.specs.WrittenFile as written
-use Rattle.c_written.specs.WrittenFile.{blockitems_tree, outer_tree}
-use Rattle.c_written.proofs.WrittenFileTrees.{outer_declared, outer_function}
+use Rattle.c_syntax_written.specs.WrittenDecl.{decl_tree}
+use Rattle.c_syntax_written.specs.Written.{declarator_tree, specs_tree}
+use Rattle.c_syntax_written.specs.WrittenFile as written
+use Rattle.c_syntax_written.specs.WrittenFile.{blockitems_tree, outer_tree}
+use Rattle.c_syntax_written.proofs.WrittenFileTrees.{outer_declared, outer_function}
 use Rattle.c_typing.specs.World.{Typed, Refused, goes_on, stops}
 use Rattle.c_typing.specs.File.{TypesOuter}
-use Rattle.c_type_jumps.specs.ContextViews.{context_tree}
-use Rattle.c_type_names.specs.Views.{Answers, refusal_of}
-use Rattle.c_type_names.specs.Worlds.{world_of}
+use Rattle.c_check_jumps.specs.ContextViews.{context_tree}
+use Rattle.c_check_names.specs.Views.{Answers, refusal_of}
+use Rattle.c_check_names.specs.Worlds.{world_of}
 use Rattle.c_check.proofs.Lines.{declared_line}
 use Rattle.c_check.proofs.outers.outer.Goals as goal
 

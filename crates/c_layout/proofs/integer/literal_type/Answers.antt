@@ -1,8 +1,8 @@
 use Rattle.std.proofs.Common.{◌≡◌, ℕ, zero, suc, ◌-◌, ◌*◌, ◌≤◌, List, [], ◌∷◌, take, drop, false, refl, ap, sym, ◌∙◌, arith}
 use Rattle.std.specs.Prelude.{nat_le, find}
-use Rattle.c_written.specs.declared.int_type.IntType.{IntType}
-use Rattle.c_written.specs.declared.int_type.IntType.TheVariants.{Int, UInt, Long, ULong, LLong, ULLong}
-use Rattle.c_written.specs.Integer.{greatest}
+use Rattle.c_syntax_written.specs.declared.int_type.IntType.{IntType}
+use Rattle.c_syntax_written.specs.declared.int_type.IntType.TheVariants.{Int, UInt, Long, ULong, LLong, ULLong}
+use Rattle.c_syntax_written.specs.Integer.{greatest}
 use Rattle.c_layout.specs.Conversion.{literal_type_of}
 use Rattle.c_layout.proofs.integer.literal_type.Goals as goal
 

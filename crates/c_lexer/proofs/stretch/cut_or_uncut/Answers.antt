@@ -1,6 +1,6 @@
 use Rattle.std.proofs.Common.{◌≡◌, [], refl, arith}
 use Rattle.std.proofs.lemmas.Grind.{common_steps}
-use Rattle.c_written.specs.declared.token.Tokens.{Tokens}
+use Rattle.c_syntax_written.specs.declared.token.Tokens.{Tokens}
 use Rattle.c_lexer.specs.Cut.{here}
 use Rattle.c_lexer.proofs.Fronts.{rest_short, refused_piece, hash_piece, whole_cut}
 use Rattle.c_lexer.proofs.Laws.{uncut_of}

@@ -1,5 +1,5 @@
 use Rattle.std.proofs.Common.{◌+◌, ◌≤◌, List, length}
-use Rattle.c_written.specs.declared.token.Placed.{Placed}
+use Rattle.c_syntax_written.specs.declared.token.Placed.{Placed}
 use Rattle.c_lexer.specs.Cut.{Front, start_of}
 use Rattle.c_lexer.proofs.stretch.cut_or_uncut.Given as goal
 

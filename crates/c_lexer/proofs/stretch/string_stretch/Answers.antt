@@ -1,5 +1,5 @@
 use Rattle.std.proofs.Common.{refl}
-use Rattle.c_written.specs.declared.token.Token.TheVariants as kinds
+use Rattle.c_syntax_written.specs.declared.token.Token.TheVariants as kinds
 use Rattle.c_lexer.specs.declared.reason.Reason.TheVariants as reasons
 use Rattle.c_lexer.specs.declared.piece.Piece.TheVariants as pieces
 use Rattle.c_lexer.proofs.PieceLemmas.{string_piece, bad_string_piece, open_string_piece}

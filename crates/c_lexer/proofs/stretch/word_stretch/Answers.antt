@@ -1,6 +1,6 @@
 use Rattle.std.proofs.Common.{◌≡◌, ◌≢◌, take, refl, sym, subst}
 use Rattle.std.specs.Prelude.{MatchOption}
-use Rattle.c_written.specs.declared.token.Keyword.{Keyword}
+use Rattle.c_syntax_written.specs.declared.token.Keyword.{Keyword}
 use Rattle.c_lexer.specs.Spelling.{keyword_text}
 use Rattle.c_lexer.specs.declared.reason.Reason.TheVariants as reasons
 use Rattle.c_lexer.specs.declared.piece.Piece.TheVariants as pieces

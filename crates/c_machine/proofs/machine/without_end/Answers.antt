@@ -1,9 +1,9 @@
 use Rattle.std.proofs.Common.{List, [], sym, ap, ◌∙◌}
 use Rattle.std.proofs.lemmas.List.{nil_from_length}
 use Rattle.c_steps.specs.Runs.{calls_in, chain_of}
-use Rattle.c_work.specs.declared.items.Item.{Item}
-use Rattle.c_work.specs.Views.{in_front, item_of}
-use Rattle.c_work.proofs.Lists.{in_front_none, in_front_push}
+use Rattle.c_machine_work.specs.declared.items.Item.{Item}
+use Rattle.c_machine_work.specs.Views.{in_front, item_of}
+use Rattle.c_machine_work.proofs.Lists.{in_front_none, in_front_push}
 use Rattle.c_machine.proofs.Chained.{end_skipped, other_kept}
 use Rattle.c_machine.proofs.machine.without_end.Goals as goal
 

@@ -1,9 +1,9 @@
-use Rattle.c_written.specs.Written.{specs_tree}
-use Rattle.c_parse_steps.specs.Views.{boxed_declarator}
+use Rattle.c_syntax_written.specs.Written.{specs_tree}
+use Rattle.c_parser_steps.specs.Views.{boxed_declarator}
 use Rattle.c_grammar.specs.Parts.{AnOuter, OuterInitial}
 use Rattle.std.proofs.Common.{refl}
-use Rattle.c_parse_steps.proofs.Steps.{if_true}
-use Rattle.c_parse_steps.proofs.Paths.{after, begin, ends, inside, not_after, not_inside}
+use Rattle.c_parser_steps.proofs.Steps.{if_true}
+use Rattle.c_parser_steps.proofs.Paths.{after, begin, ends, inside, not_after, not_inside}
 use Rattle.c_parser.proofs.outer.function.Goals as goal
 
 pub returns-in_err-opening-clause-goes : goal.returns-in_err-opening-clause-goes

@@ -1,7 +1,7 @@
 use Rattle.c_grammar.specs.Parts as parts
 use Rattle.c_grammar.specs.Parts.{AnOuter}
 use Rattle.std.proofs.Common.{refl}
-use Rattle.c_parse_steps.proofs.Paths.{begin, behind, lasts, not_behind}
+use Rattle.c_parser_steps.proofs.Paths.{begin, behind, lasts, not_behind}
 use Rattle.c_parser.proofs.outer.outer.Goals as goal
 
 pub returns-in_err-words-clause-goes : goal.returns-in_err-words-clause-goes

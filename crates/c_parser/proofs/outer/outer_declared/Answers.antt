@@ -1,10 +1,10 @@
-use Rattle.c_written.specs.Written.{specs_tree}
+use Rattle.c_syntax_written.specs.Written.{specs_tree}
 use Rattle.c_grammar.specs.Parts.{AnOuter, OuterDeclared}
 use Rattle.std.proofs.Common.{refl, sym, ap, ◌∙◌}
-use Rattle.c_written.specs.WrittenFile as trees
-use Rattle.c_written.proofs.WrittenFileTrees.{outer_declared}
-use Rattle.c_parse_steps.proofs.Steps.{if_false, if_true}
-use Rattle.c_parse_steps.proofs.Paths.{after, begin, behind, ends, lasts, not_after, not_behind}
+use Rattle.c_syntax_written.specs.WrittenFile as trees
+use Rattle.c_syntax_written.proofs.WrittenFileTrees.{outer_declared}
+use Rattle.c_parser_steps.proofs.Steps.{if_false, if_true}
+use Rattle.c_parser_steps.proofs.Paths.{after, begin, behind, ends, lasts, not_after, not_behind}
 use Rattle.c_parser.proofs.outer.outer_declared.Goals as goal
 
 pub returns-in_err-_end-clause-goes : goal.returns-in_err-_end-clause-goes

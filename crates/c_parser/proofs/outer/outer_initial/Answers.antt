@@ -1,10 +1,10 @@
-use Rattle.c_written.specs.Written.{specs_tree}
-use Rattle.c_parse_steps.specs.Views.{boxed_declarator}
+use Rattle.c_syntax_written.specs.Written.{specs_tree}
+use Rattle.c_parser_steps.specs.Views.{boxed_declarator}
 use Rattle.c_grammar.specs.Parts.{AnOuter, OuterInitial}
 use Rattle.std.proofs.Common.{refl, sym, ◌∙◌}
-use Rattle.c_written.proofs.WrittenFileTrees.{outer_declared}
-use Rattle.c_parse_steps.proofs.Steps.{if_false}
-use Rattle.c_parse_steps.proofs.Paths.{begin, behind, ends, not_behind}
+use Rattle.c_syntax_written.proofs.WrittenFileTrees.{outer_declared}
+use Rattle.c_parser_steps.proofs.Steps.{if_false}
+use Rattle.c_parser_steps.proofs.Paths.{begin, behind, ends, not_behind}
 use Rattle.c_parser.proofs.outer.outer_initial.Goals as goal
 
 pub returns-then-comes-clause-goes : goal.returns-then-comes-clause-goes

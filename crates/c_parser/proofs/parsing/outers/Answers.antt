@@ -1,9 +1,9 @@
 use Rattle.std.proofs.Common.{sym, ap, ◌∙◌}
 use Rattle.std.specs.Result.{is_ok}
-use Rattle.c_parse_steps.proofs.Steps.{if_true}
-use Rattle.c_parse_steps.specs.Answers.{no_memory}
+use Rattle.c_parser_steps.proofs.Steps.{if_true}
+use Rattle.c_parser_steps.specs.Answers.{no_memory}
 use Rattle.c_parser.proofs.Answered.{fault_passed, outers_begin, outers_end, outers_more, outer_added}
-use Rattle.c_parse_steps.proofs.Paths.{halts_behind}
+use Rattle.c_parser_steps.proofs.Paths.{halts_behind}
 use Rattle.c_parser.proofs.parsing.outers.Goals as goal
 
 pub loop-rest-init : goal.loop-rest-init

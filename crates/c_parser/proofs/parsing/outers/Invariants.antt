@@ -1,6 +1,6 @@
 use Rattle.std.proofs.Common.{List, length}
 use Rattle.std.specs.Prelude.{map}
-use Rattle.c_written.specs.WrittenFile.{OuterTree, outer_tree}
+use Rattle.c_syntax_written.specs.WrittenFile.{OuterTree, outer_tree}
 use Rattle.c_grammar.specs.Parts.{Outers}
 use Rattle.c_grammar.specs.Descent.{Outcome, Goes}
 use Rattle.c_parser.proofs.Answered.{Reads, scene_with}

@@ -1,7 +1,7 @@
 use Rattle.std.proofs.Common.{None, map, sym, subst, ap, ◌∙◌, arith}
 use Rattle.c_syntax.specs.Program.{tfunction_tree, tprogram_tree}
-use Rattle.c_sides.specs.declared.side.Comparison.{Comparison}
-use Rattle.c_sides.specs.Firsts.{or_first}
+use Rattle.c_rules_order.specs.declared.side.Comparison.{Comparison}
+use Rattle.c_rules_order.specs.Firsts.{or_first}
 use Rattle.c_rules.specs.Earliest.{IsFirst}
 use Rattle.c_rules.specs.Sequenced.{Clash, compared_by, IsClashOf}
 use Rattle.c_rules.proofs.Earliest.{found_all, found_more, none_below}

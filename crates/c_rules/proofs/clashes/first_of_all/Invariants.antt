@@ -1,4 +1,4 @@
-use Rattle.c_sides.specs.declared.side.Comparison.{Comparison}
+use Rattle.c_rules_order.specs.declared.side.Comparison.{Comparison}
 use Rattle.c_syntax.specs.Program.{tprogram_tree}
 use Rattle.c_rules.specs.Earliest.{IsFoundBelow}
 use Rattle.c_rules.specs.Sequenced.{IsClashOf}

@@ -1,6 +1,6 @@
 use Rattle.std.proofs.Common.{refl, subst}
 use Rattle.c_syntax.specs.Program.{tprogram_tree}
-use Rattle.c_calls.specs.Graph.{IsOrderOf}
+use Rattle.c_rules_calls.specs.Graph.{IsOrderOf}
 use Rattle.c_rules.proofs.Planning.{planned}
 use Rattle.c_rules.proofs.questions.planned.Goals as goal
 

@@ -2,7 +2,7 @@ use Rattle.std.proofs.Common.{FitsSigned, ap, ◌∙◌, arith, rules}
 use Rattle.std.specs.Int.{w128}
 use Rattle.std.proofs.lemmas.Int.{ints, to_z-of_z}
 use Rattle.c_values.proofs.Ranges.{size_of_number}
-use Rattle.c_written.specs.Integer.{wrapped}
+use Rattle.c_syntax_written.specs.Integer.{wrapped}
 use Rattle.c_values.proofs.numbers.complement.Goals as goal
 
 pub returns : goal.returns

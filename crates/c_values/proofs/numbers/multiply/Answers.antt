@@ -2,7 +2,7 @@ use Rattle.std.proofs.Common.{pos, ◌*ℤ◌, FitsSigned, sym, subst, ◌∙◌
 use Rattle.std.specs.Int.{w128}
 use Rattle.c_values.specs.Answers.{Answers, ranged}
 use Rattle.c_values.proofs.Ranges.{signed_product, product_is}
-use Rattle.c_written.specs.Integer.{least, greatest}
+use Rattle.c_syntax_written.specs.Integer.{least, greatest}
 use Rattle.c_syntax.specs.declared.alarm.WrongKind.TheVariants as kinds
 use Rattle.c_values.proofs.numbers.multiply.Goals as goal
 

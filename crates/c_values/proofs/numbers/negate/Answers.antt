@@ -4,7 +4,7 @@ use Rattle.std.proofs.lemmas.Int.{ints}
 use Rattle.c_values.specs.Answers.{Answers, ranged}
 use Rattle.c_values.proofs.Outcomes.{negated}
 use Rattle.c_values.proofs.Ranges.{size_of_number}
-use Rattle.c_written.specs.Integer.{least, greatest}
+use Rattle.c_syntax_written.specs.Integer.{least, greatest}
 use Rattle.c_syntax.specs.declared.alarm.WrongKind.TheVariants as kinds
 use Rattle.c_values.proofs.numbers.negate.Goals as goal
 

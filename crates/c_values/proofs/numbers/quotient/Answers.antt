@@ -7,7 +7,7 @@ use Rattle.c_syntax.specs.Operand.{operand_of}
 use Rattle.c_values.specs.Looks.{Gives, GoesWrong}
 use Rattle.c_values.proofs.Outcomes.{division_passes, division_fails}
 use Rattle.c_values.proofs.Ranges.{size_of_number, size_of_quotient}
-use Rattle.c_written.specs.Integer.{least, greatest}
+use Rattle.c_syntax_written.specs.Integer.{least, greatest}
 use Rattle.c_syntax.specs.declared.alarm.WrongKind.TheVariants as kinds
 use Rattle.c_values.proofs.numbers.quotient.Goals as goal
 

@@ -5,7 +5,7 @@ use Rattle.c_values.specs.Answers.{divided}
 use Rattle.c_values.specs.Looks.{Passes, Gives}
 use Rattle.c_values.specs.Numbers.{remainder}
 use Rattle.c_values.proofs.Outcomes.{remainder_is}
-use Rattle.c_written.specs.Integer.{wrapped}
+use Rattle.c_syntax_written.specs.Integer.{wrapped}
 use Rattle.block_mem.specs.declared.types.Value.TheVariants as values
 use Rattle.c_values.proofs.numbers.remainder.Goals as goal
 

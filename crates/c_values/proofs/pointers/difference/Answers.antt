@@ -1,8 +1,8 @@
 use Rattle.std.proofs.Common.{ℤ, ◌<◌, ◌^◌, FitsSigned, ap, ◌∙◌, rules}
 use Rattle.std.specs.Int.{w64, w128}
 use Rattle.std.proofs.lemmas.Int.{to_z-of_z}
-use Rattle.c_written.specs.declared.int_type.IntType.TheVariants.{Long}
-use Rattle.c_written.specs.Integer.{wrapped}
+use Rattle.c_syntax_written.specs.declared.int_type.IntType.TheVariants.{Long}
+use Rattle.c_syntax_written.specs.Integer.{wrapped}
 use Rattle.block_mem.specs.declared.types.Value.TheVariants as values
 use Rattle.c_values.proofs.Ranges.{code_difference}
 use Rattle.c_values.proofs.pointers.difference.Goals as goal

@@ -4,8 +4,8 @@ use mir.Syntax.{w8}
 use Rattle.ext_int.specs.Ext.{Above}
 use Rattle.ext_int.specs.Valuation.{value_at}
 use Rattle.num_api.specs.Ranges.{InRange}
-use Rattle.env_eval.specs.Entries.{value_in}
-use Rattle.env_eval.proofs.Parts.{in_point}
+use Rattle.env_lift.specs.Entries.{value_in}
+use Rattle.num_api.proofs.Parts.{in_point}
 use Rattle.env_lift.proofs.Changing.{ok_map, cut_weaker}
 use Rattle.env_lift.proofs.Inverting.{below_rest}
 use Rattle.env_lift.proofs.changes.keep_bounded.Goals as goal

@@ -1,5 +1,5 @@
 use Rattle.std.proofs.Common.{rules, ap, sym, ℤ, ◌*ℤ◌, refl, Some}
-use Rattle.env_eval.proofs.Parts.{in_point}
+use Rattle.num_api.proofs.Parts.{in_point}
 use Rattle.env_lift.proofs.changes.of_class.Goals as goal
 
 pub returns : goal.returns

@@ -6,9 +6,9 @@ use Rattle.num_api.specs.Exprs.{NExprTree, nexpr_tree, Const, Read, Unary, Binar
 use Rattle.num_api.specs.Ranges.{IsUnder}
 use Rattle.num_api.specs.Plain.{Standing, IsPlain, plain, cut_sides, tested}
 use Rattle.num_api.proofs.Trees.{nexpr_const, nexpr_read, nexpr_unary, nexpr_binary}
-use Rattle.env_eval.specs.States.{known_in}
-use Rattle.env_eval.proofs.Parts.{wider}
-use Rattle.env_eval.specs.Standings.{standing_of}
+use Rattle.env_lift.specs.States.{known_in}
+use Rattle.num_api.proofs.Parts.{wider}
+use Rattle.num_api.specs.Standings.{standing_of}
 use Rattle.env_lift.specs.Changes.{HasTruth, Compare}
 use Rattle.env_lift.proofs.Changing.{ok_map, cut_weaker}
 use Rattle.env_lift.proofs.Cutting.{negated, sides_stand, tested_other}

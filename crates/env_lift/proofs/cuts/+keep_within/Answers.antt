@@ -5,7 +5,7 @@ use Rattle.num_api.specs.declared.expr.NExpr.{NExpr}
 use Rattle.num_api.specs.Exprs.{NExprTree, nexpr_tree, Binary}
 use Rattle.num_api.specs.Value.{value_of, binary_value}
 use Rattle.num_api.proofs.Trees.{nexpr_binary}
-use Rattle.env_eval.specs.States.{AllAdmit}
+use Rattle.env_lift.specs.States.{AllAdmit}
 use Rattle.env_lift.specs.Changes.{IsCut, LiesIn}
 use Rattle.env_lift.proofs.Changing.{ok_map, cut_weaker, cut_twice}
 use Rattle.env_lift.proofs.Cutting.{operands_lie}

@@ -3,9 +3,9 @@ use Rattle.num_api.specs.Exprs.{nexpr_tree}
 use Rattle.num_api.specs.Lives.{is_live}
 use Rattle.num_api.specs.Plain.{plain, cut, turned}
 use Rattle.num_api.specs.Spans.{range_of}
-use Rattle.env_eval.specs.States.{known_in}
-use Rattle.env_eval.proofs.Parts.{wider}
-use Rattle.env_eval.specs.Standings.{standing_of}
+use Rattle.env_lift.specs.States.{known_in}
+use Rattle.num_api.proofs.Parts.{wider}
+use Rattle.num_api.specs.Standings.{standing_of}
 use Rattle.env_lift.specs.Changes.{LiesIn, Compare}
 use Rattle.env_lift.proofs.Changing.{ok_map, ok_both, cut_twice}
 use Rattle.env_lift.proofs.Cutting.{left_plain, sides_under}

@@ -4,10 +4,10 @@ use Rattle.num_api.specs.declared.message.Range.{Range}
 use Rattle.num_api.specs.Ranges.{NoWider, holds_some}
 use Rattle.num_api.specs.Spans.{range_of}
 use Rattle.num_api.specs.Plain.{Standing, cut, turned}
-use Rattle.env_eval.specs.Standings.{standing_of, Stands}
-use Rattle.env_eval.proofs.Parts.{wider}
+use Rattle.num_api.specs.Standings.{standing_of, Stands}
+use Rattle.num_api.proofs.Parts.{wider}
 use Rattle.env_lift.proofs.Changing.{none_any}
-use Rattle.env_eval.proofs.Truths.{turned_stands}
+use Rattle.num_api.proofs.Truths.{turned_stands}
 use Rattle.env_lift.proofs.cuts.sides.Goals as goal
 
 pub returns-in_err-right-clause-none : goal.returns-in_err-right-clause-none

@@ -1,6 +1,6 @@
 use Rattle.std.proofs.Common.{◌*ℤ◌, sym, ◌∙◌}
 use Rattle.std.proofs.lemmas.Bool.{false≢true}
-use Rattle.env_eval.proofs.Parts.{none_of}
+use Rattle.num_api.proofs.Parts.{none_of}
 use Rattle.env_lift.proofs.Changing.{some_map}
 use Rattle.env_lift.proofs.Inverting.{not_zero, quotient_is}
 use Rattle.env_lift.proofs.inverses.factor.Goals as goal

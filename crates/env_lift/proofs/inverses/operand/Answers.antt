@@ -1,4 +1,4 @@
-use Rattle.env_eval.proofs.Parts.{none_of}
+use Rattle.num_api.proofs.Parts.{none_of}
 use Rattle.env_lift.proofs.Changing.{some_map}
 use Rattle.env_lift.proofs.Inverting.{negated_back}
 use Rattle.env_lift.proofs.inverses.operand.Goals as goal

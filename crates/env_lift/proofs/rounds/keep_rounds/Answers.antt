@@ -2,8 +2,8 @@ use Rattle.std.proofs.Common.{ap}
 use Rattle.num_api.specs.Exprs.{nexpr_tree}
 use Rattle.num_api.specs.Lives.{is_live}
 use Rattle.num_api.specs.Plain.{tested}
-use Rattle.env_eval.specs.States.{known_in}
-use Rattle.env_eval.proofs.Parts.{wider}
+use Rattle.env_lift.specs.States.{known_in}
+use Rattle.num_api.proofs.Parts.{wider}
 use Rattle.env_lift.specs.Changes.{HasTruth}
 use Rattle.env_lift.proofs.Changing.{ok_map, cut_twice}
 use Rattle.env_lift.proofs.rounds.keep_rounds.Goals as goal

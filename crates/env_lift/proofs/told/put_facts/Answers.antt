@@ -1,8 +1,8 @@
 use Rattle.std.proofs.Common.{sym, subst, ◌≡◌, Some}
-use Rattle.env_eval.specs.declared.entries.Entry.{Entry}
+use Rattle.env_lift.specs.declared.entries.Entry.{Entry}
 use Rattle.num_api.proofs.PutOut.{adds_twice, tells_twice}
-use Rattle.env_eval.specs.Entries.{value_in}
-use Rattle.env_eval.proofs.Rising.{rising_found}
+use Rattle.env_lift.specs.Entries.{value_in}
+use Rattle.env_lift.proofs.Rising.{rising_found}
 use Rattle.env_lift.proofs.told.put_facts.Goals as goal
 
 pub loop-entry-preserved : goal.loop-entry-preserved

@@ -1,6 +1,6 @@
 use Rattle.std.proofs.Common.{ℤ, List}
 use Rattle.num_api.specs.Messages.{Adds, TellsOf}
-use Rattle.env_eval.specs.States.{AllAdmit}
+use Rattle.env_lift.specs.States.{AllAdmit}
 use Rattle.env_lift.proofs.told.put_facts.Given as goal
 
 abbrev pub invariant-loop-entry : goal.invariant-loop-entry

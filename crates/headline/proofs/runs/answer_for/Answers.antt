@@ -6,9 +6,9 @@ use Rattle.constant_form.specs.Form.{IsForm}
 use Rattle.constant_form.specs.Tree.{expr_tree, HasConstants}
 use Rattle.headline.specs.Headline.{IsReport}
 use Rattle.headline.specs.Read.{IsOneProgram}
-use Rattle.headline.specs.Refusal.{refusal_tree}
-use Rattle.headline.specs.RefusalText.{line_of}
-use Rattle.headline.specs.Report.{text_of}
+use Rattle.report.specs.Refusal.{refusal_tree}
+use Rattle.report.specs.RefusalText.{line_of}
+use Rattle.report.specs.Report.{text_of}
 use Rattle.headline.specs.Verdict.{IsRefusedFor}
 use Rattle.headline.proofs.HeadlineLemmas.{refused, report}
 use Rattle.headline.proofs.runs.answer_for.Goals as goal

@@ -7,7 +7,7 @@ use Rattle.num_api.specs.Plain.{excludes}
 use Rattle.num_api.specs.Ranges.{NoWider}
 use Rattle.num_api.specs.Spans.{Span, range_of}
 use Rattle.num_api.specs.Value.{has_truth}
-use Rattle.env_eval.proofs.Parts.{wider}
+use Rattle.num_api.proofs.Parts.{wider}
 use Rattle.machine_nums.specs.MExprs.{mexpr_tree}
 use Rattle.machine_nums.specs.Rule.{value_span}
 use Rattle.machine_nums.proofs.Both.{ok_both, true_from}

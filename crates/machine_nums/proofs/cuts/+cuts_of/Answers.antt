@@ -4,7 +4,7 @@ use Rattle.num_api.specs.declared.expr.NOp.{NOp}
 use Rattle.num_api.specs.declared.expr.NOp.TheVariants.{Not}
 use Rattle.num_api.specs.Plain.{Standing}
 use Rattle.num_api.specs.Ranges.{IsUnder}
-use Rattle.env_eval.specs.Standings.{standing_of}
+use Rattle.num_api.specs.Standings.{standing_of}
 use Rattle.machine_nums.specs.MExprs.{MExprTree, Unary, Binary, mexpr_tree}
 use Rattle.machine_nums.specs.Machine.{machine_value}
 use Rattle.machine_nums.specs.Rule.{cut_sides, tested, side_variable, value_span}

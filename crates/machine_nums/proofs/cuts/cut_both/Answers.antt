@@ -3,9 +3,9 @@ use Rattle.num_api.specs.Exprs.{nexpr_tree}
 use Rattle.num_api.specs.Plain.{Standing, cut, turned}
 use Rattle.num_api.specs.Ranges.{NoWider}
 use Rattle.num_api.specs.Spans.{range_of}
-use Rattle.env_eval.specs.Standings.{standing_of, Stands}
-use Rattle.env_eval.proofs.Parts.{wider}
-use Rattle.env_eval.proofs.Truths.{turned_stands}
+use Rattle.num_api.specs.Standings.{standing_of, Stands}
+use Rattle.num_api.proofs.Parts.{wider}
+use Rattle.num_api.proofs.Truths.{turned_stands}
 use Rattle.machine_nums.specs.MExprs.{mexpr_tree}
 use Rattle.machine_nums.specs.Rule.{value_span, side_variable}
 use Rattle.machine_nums.proofs.Cutting.{cut_holds, read_cut, sides_under}

@@ -5,7 +5,7 @@ use Rattle.num_api.specs.declared.message.Range.{Range}
 use Rattle.num_api.specs.Plain.{cut}
 use Rattle.num_api.specs.Ranges.{NoWider}
 use Rattle.num_api.specs.Spans.{range_of}
-use Rattle.env_eval.specs.Standings.{standing_of}
+use Rattle.num_api.specs.Standings.{standing_of}
 use Rattle.machine_nums.proofs.cuts.standing_range.Goals as goal
 
 pub returns-then-holds_some-clause-plain : goal.returns-then-holds_some-clause-plain

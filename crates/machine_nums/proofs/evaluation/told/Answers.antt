@@ -1,5 +1,5 @@
 use Rattle.std.proofs.Common.{refl}
-use Rattle.env_eval.proofs.Parts.{wider}
+use Rattle.num_api.proofs.Parts.{wider}
 use Rattle.machine_nums.proofs.evaluation.told.Goals as goal
 
 pub returns : goal.returns

@@ -1,6 +1,6 @@
 use Rattle.std.proofs.Common.{refl}
 use Rattle.num_api.specs.Spans.{range_of}
-use Rattle.env_eval.proofs.Parts.{wider}
+use Rattle.num_api.proofs.Parts.{wider}
 use Rattle.intervals.specs.Interval.{ends_of}
 use Rattle.machine_nums.specs.Rule.{type_span}
 use Rattle.machine_nums.proofs.Wrapped.{point_holds}

@@ -2,7 +2,7 @@ use Rattle.std.proofs.Common.{refl, sym, subst}
 use Rattle.num_api.specs.declared.message.Range.{Range}
 use Rattle.num_api.specs.Ranges.{InRange}
 use Rattle.num_api.specs.Spans.{range_of}
-use Rattle.env_eval.proofs.Parts.{wider}
+use Rattle.num_api.proofs.Parts.{wider}
 use Rattle.machine_nums.proofs.Wrapped.{inside_has, has_inside, point_holds, point_from}
 use Rattle.machine_nums.proofs.Typed.{shifted_has}
 use Rattle.machine_nums.proofs.operators.shifted_range.Goals as goal

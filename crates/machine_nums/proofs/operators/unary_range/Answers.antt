@@ -2,7 +2,7 @@ use Rattle.std.proofs.Common.{refl, sym, subst}
 use Rattle.num_api.specs.declared.message.Range.{Range}
 use Rattle.num_api.specs.Ranges.{IsPoint, NoWider}
 use Rattle.num_api.specs.Spans.{range_of}
-use Rattle.env_eval.proofs.Parts.{wider}
+use Rattle.num_api.proofs.Parts.{wider}
 use Rattle.intervals.specs.Interval.{ends_of}
 use Rattle.machine_nums.proofs.Wrapped.{point_holds}
 use Rattle.machine_nums.proofs.Typed.{within_point}

@@ -1,7 +1,7 @@
 use Rattle.std.proofs.Common.{◌∙◌, FitsSigned, to_z, of_z, rules, ap}
 use Rattle.std.proofs.lemmas.Int.{to_z-of_z}
 use mir.Syntax.{w128}
-use Rattle.c_written.specs.Integer.{wrapped}
+use Rattle.c_syntax_written.specs.Integer.{wrapped}
 use Rattle.machine_nums.proofs.Wrapped.{taken_point, taken_all}
 use Rattle.machine_nums.proofs.wrapping.by_bits.Goals as goal
 

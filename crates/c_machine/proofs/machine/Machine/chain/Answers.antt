@@ -1,10 +1,10 @@
 use Rattle.std.proofs.Common.{List, [], ◌∷◌, ◌++◌, take, sym, ap, ◌∙◌, arith}
 use Rattle.std.proofs.lemmas.List.{take_all, take_more}
-use Rattle.c_written.specs.declared.place.Pos.{Pos}
+use Rattle.c_syntax_written.specs.declared.place.Pos.{Pos}
 use Rattle.c_steps.specs.Runs.{calls_in, chain_of}
-use Rattle.c_work.specs.declared.items.Item.{Item}
-use Rattle.c_work.specs.Views.{in_front, item_of}
-use Rattle.c_work.proofs.Lists.{in_front_none, in_front_push}
+use Rattle.c_machine_work.specs.declared.items.Item.{Item}
+use Rattle.c_machine_work.specs.Views.{in_front, item_of}
+use Rattle.c_machine_work.proofs.Lists.{in_front_none, in_front_push}
 use Rattle.c_machine.proofs.Chained.{with_call, without_call}
 use Rattle.c_machine.proofs.machine.Machine.chain.Goals as goal
 use Rattle.c_machine.proofs.machine.Machine.chain.Goals.{in-Some+in_ok-push, in_default}

@@ -1,6 +1,6 @@
 use Rattle.std.proofs.Common.{◌≡◌, [], take}
 use Rattle.c_steps.specs.Runs.{calls_in}
-use Rattle.c_work.specs.Views.{in_front}
+use Rattle.c_machine_work.specs.Views.{in_front}
 use Rattle.c_machine.proofs.machine.Machine.chain.Given as goal
 
 abbrev pub invariant-loop-item : goal.invariant-loop-item

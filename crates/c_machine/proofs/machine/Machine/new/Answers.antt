@@ -9,10 +9,10 @@ use Rattle.c_objects.specs.Statics as statics
 use Rattle.c_objects.proofs.Starting.{start_fits}
 use Rattle.c_steps.specs.States.{state}
 use Rattle.c_steps.specs.Work.{Enter, Finish, GivesZero}
-use Rattle.c_work.specs.declared.stack.Held as code
-use Rattle.c_work.specs.Works.{work_of}
-use Rattle.c_work.specs.Views.{on_top}
-use Rattle.c_work.proofs.Lists.{on_top_none}
+use Rattle.c_machine_work.specs.declared.stack.Held as code
+use Rattle.c_machine_work.specs.Works.{work_of}
+use Rattle.c_machine_work.specs.Views.{on_top}
+use Rattle.c_machine_work.proofs.Lists.{on_top_none}
 use Rattle.c_machine.proofs.machine.Machine.new.Goals as goal
 
 pub start-requires : goal.start-requires

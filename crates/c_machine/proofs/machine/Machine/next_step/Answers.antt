@@ -3,11 +3,11 @@ use Rattle.c_syntax.specs.Program.{tprogram_tree}
 use Rattle.c_steps.specs.States.{state}
 use Rattle.c_steps.specs.Steps.{work_step}
 use Rattle.c_steps.specs.Work as steps
-use Rattle.c_typed_runs.specs.Fits.{Fits}
-use Rattle.c_row_needs.proofs.Shaped.{work_left}
-use Rattle.c_value_rows.specs.Contents.{stack_of}
-use Rattle.c_work.specs.Views.{item_of}
-use Rattle.c_work.specs.Works.{work_of}
+use Rattle.c_steps_laws.specs.Fits.{Fits}
+use Rattle.c_steps_laws.proofs.Shaped.{work_left}
+use Rattle.c_machine_values.specs.Contents.{stack_of}
+use Rattle.c_machine_work.specs.Views.{item_of}
+use Rattle.c_machine_work.specs.Works.{work_of}
 use Rattle.c_machine.specs.Made.{state_of}
 use Rattle.c_machine.specs.States.{run_state}
 use Rattle.c_machine.specs.Steps.{IsRow}

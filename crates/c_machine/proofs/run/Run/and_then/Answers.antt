@@ -1,9 +1,9 @@
 use Rattle.std.proofs.Common.{◌∷◌, refl, sym, ap, ◌∙◌, subst}
-use Rattle.c_shared.specs.Expressions.{expr_tree}
+use Rattle.c_machine_trees.specs.Expressions.{expr_tree}
 use Rattle.c_steps.specs.States.{held}
-use Rattle.c_value_rows.specs.Contents.{stack_of}
-use Rattle.c_value_rows.specs.Rows.{Tests}
-use Rattle.c_work.specs.Works.{work_of}
+use Rattle.c_machine_values.specs.Contents.{stack_of}
+use Rattle.c_machine_values.specs.Rows.{Tests}
+use Rattle.c_machine_work.specs.Works.{work_of}
 use Rattle.c_machine.proofs.Tested.{and_on, and_over, and_wrong, arrives, stays}
 use Rattle.c_machine.proofs.run.Run.and_then.Goals as goal
 

@@ -1,7 +1,7 @@
 use Rattle.std.proofs.Common.{refl, sym, ◌∙◌, subst}
-use Rattle.c_value_rows.specs.Contents.{stack_of}
-use Rattle.c_value_rows.specs.Rows.{Tests}
-use Rattle.c_work.specs.Works.{work_of}
+use Rattle.c_machine_values.specs.Contents.{stack_of}
+use Rattle.c_machine_values.specs.Rows.{Tests}
+use Rattle.c_machine_work.specs.Works.{work_of}
 use Rattle.c_machine.proofs.Tested.{kept, keep_wrong, stopped, arrives, stays}
 use Rattle.c_machine.proofs.run.Run.assume.Goals as goal
 

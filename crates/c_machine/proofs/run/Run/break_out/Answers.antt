@@ -1,7 +1,7 @@
 use Rattle.std.proofs.Common.{◌∙◌}
-use Rattle.c_value_rows.specs.Contents.{stack_of}
-use Rattle.c_work.specs.Views.{item_of}
-use Rattle.c_work.specs.Works.{work_of}
+use Rattle.c_machine_values.specs.Contents.{stack_of}
+use Rattle.c_machine_work.specs.Views.{item_of}
+use Rattle.c_machine_work.specs.Works.{work_of}
 use Rattle.c_machine.proofs.Landing.{break_lands, broken_there, landed}
 use Rattle.c_machine.proofs.run.Run.break_out.Goals as goal
 

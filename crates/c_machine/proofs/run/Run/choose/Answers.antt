@@ -1,10 +1,10 @@
 use Rattle.std.proofs.Common.{◌∷◌, refl, sym, ap, ◌∙◌, subst}
-use Rattle.c_shared.specs.Statements.{stmt_tree}
-use Rattle.c_shared.specs.declared.statement.SharedStmt.{SharedStmt}
+use Rattle.c_machine_trees.specs.Statements.{stmt_tree}
+use Rattle.c_machine_trees.specs.declared.statement.SharedStmt.{SharedStmt}
 use Rattle.c_steps.specs.Work.{Do}
-use Rattle.c_value_rows.specs.Contents.{stack_of}
-use Rattle.c_value_rows.specs.Rows.{Tests}
-use Rattle.c_work.specs.Works.{work_of}
+use Rattle.c_machine_values.specs.Contents.{stack_of}
+use Rattle.c_machine_values.specs.Rows.{Tests}
+use Rattle.c_machine_work.specs.Works.{work_of}
 use Rattle.std.proofs.Common.{true, false}
 use Rattle.c_machine.proofs.Tested.{chosen_one, choose_wrong, arrives, stays}
 use Rattle.c_machine.proofs.run.Run.choose.Goals as goal

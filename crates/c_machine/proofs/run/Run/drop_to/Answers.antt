@@ -1,8 +1,8 @@
 use Rattle.std.proofs.Common.{◌≡◌, ◌∷◌, length, sym, ap, ◌∙◌, subst, arith}
 use Rattle.c_values.specs.Places.{ObjectMemory}
-use Rattle.c_row_needs.specs.Needs.{EndsThere}
-use Rattle.c_work.specs.Views.{item_of}
-use Rattle.c_work.specs.Works.{work_of}
+use Rattle.c_steps_laws.specs.Needs.{EndsThere}
+use Rattle.c_machine_work.specs.Views.{item_of}
+use Rattle.c_machine_work.specs.Works.{work_of}
 use Rattle.c_machine.specs.Landing.{memory_at, rest_at}
 use Rattle.c_machine.proofs.Landing.{closed_places, first_there, memory_here, memory_on, rest_here, rest_on, rest_there, still_there}
 use Rattle.c_machine.proofs.run.Run.drop_to.Goals as goal

@@ -1,6 +1,6 @@
 use Rattle.std.proofs.Common.{◌≡◌, length}
-use Rattle.c_row_needs.specs.Needs.{EndsThere}
-use Rattle.c_work.specs.Works.{work_of}
+use Rattle.c_steps_laws.specs.Needs.{EndsThere}
+use Rattle.c_machine_work.specs.Works.{work_of}
 use Rattle.c_machine.specs.Landing.{memory_at, rest_at}
 use Rattle.c_machine.proofs.run.Run.drop_to.Given as goal
 

@@ -2,8 +2,8 @@ use Rattle.std.proofs.Common.{◌≡◌, List, map, sym, ap, ◌∙◌, subst}
 use Rattle.c_syntax.specs.declared.types.Object.{Object}
 use Rattle.c_syntax.specs.Types.{object_tree}
 use Rattle.c_syntax.specs.Program.{tprogram_tree}
-use Rattle.c_value_rows.specs.Contents.{stack_of}
-use Rattle.c_value_rows.specs.Needs.{HasArguments}
+use Rattle.c_machine_values.specs.Contents.{stack_of}
+use Rattle.c_machine_values.specs.Needs.{HasArguments}
 use Rattle.c_machine.specs.Functions.{CalleeTree, callees_of}
 use Rattle.c_machine.proofs.Entered.{has_callee, same_callee}
 use Rattle.c_machine.proofs.run.Run.enter.Goals as goal

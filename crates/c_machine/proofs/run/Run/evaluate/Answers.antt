@@ -1,7 +1,7 @@
 use Rattle.std.proofs.Common.{refl, sym, ◌∙◌}
 use Rattle.c_syntax.specs.Program.{tprogram_tree}
-use Rattle.c_value_rows.specs.Contents.{stack_of}
-use Rattle.c_work.specs.Works.{work_of}
+use Rattle.c_machine_values.specs.Contents.{stack_of}
+use Rattle.c_machine_work.specs.Works.{work_of}
 use Rattle.c_machine.proofs.Parts.{puts_parts}
 use Rattle.c_machine.proofs.Tested.{arrives}
 use Rattle.c_machine.proofs.run.Run.evaluate.Goals as goal

@@ -1,8 +1,8 @@
 use Rattle.std.proofs.Common.{drop, sym, ap, ◌∙◌}
-use Rattle.c_value_rows.specs.Contents.{stack_of}
+use Rattle.c_machine_values.specs.Contents.{stack_of}
 use Rattle.c_steps.specs.States.{goes}
-use Rattle.c_work.specs.Views.{item_of}
-use Rattle.c_work.specs.Works.{work_of}
+use Rattle.c_machine_work.specs.Views.{item_of}
+use Rattle.c_machine_work.specs.Works.{work_of}
 use Rattle.c_machine.specs.declared.jumps.Way.TheVariants as ways
 use Rattle.c_machine.specs.Landing.{memory_at}
 use Rattle.c_machine.proofs.Landing.{continue_lands, continued_there, landed, on_ok}

@@ -1,12 +1,12 @@
 use Rattle.std.proofs.Common.{◌∷◌, drop, sym, ap, ◌∙◌}
-use Rattle.c_shared.specs.Statements.{stmts_tree}
-use Rattle.c_shared.specs.declared.statement.SharedStmts.{SharedStmts}
+use Rattle.c_machine_trees.specs.Statements.{stmts_tree}
+use Rattle.c_machine_trees.specs.declared.statement.SharedStmts.{SharedStmts}
 use Rattle.c_steps.specs.Marks.{AtLabel, behind, does}
 use Rattle.c_steps.specs.States.{goes}
 use Rattle.c_steps.specs.Work.{Close}
-use Rattle.c_value_rows.specs.Contents.{stack_of}
-use Rattle.c_work.specs.Views.{item_of}
-use Rattle.c_work.specs.Works.{work_of}
+use Rattle.c_machine_values.specs.Contents.{stack_of}
+use Rattle.c_machine_work.specs.Views.{item_of}
+use Rattle.c_machine_work.specs.Works.{work_of}
 use Rattle.c_machine.specs.declared.jumps.Way.TheVariants as ways
 use Rattle.c_machine.specs.Landing.{memory_at}
 use Rattle.c_machine.proofs.Landing.{goto_found, goto_lands, jumped_there, landed, no_block, on_ok}

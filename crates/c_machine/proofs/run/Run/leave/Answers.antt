@@ -2,9 +2,9 @@ use Rattle.std.proofs.Common.{[], ◌∷◌, drop, ap, ◌∙◌, List}
 use Rattle.c_steps.specs.States.{Held}
 use Rattle.c_steps.specs.Steps.{item_step}
 use Rattle.c_steps.specs.Work.{Leave}
-use Rattle.c_work.specs.declared.stack.Held as code
-use Rattle.c_work.specs.Views.{held_of, item_of, on_top}
-use Rattle.c_work.specs.Works.{work_of}
+use Rattle.c_machine_work.specs.declared.stack.Held as code
+use Rattle.c_machine_work.specs.Views.{held_of, item_of, on_top}
+use Rattle.c_machine_work.specs.Works.{work_of}
 use Rattle.c_machine.specs.declared.jumps.Way.TheVariants as ways
 use Rattle.c_machine.specs.Landing.{memory_at}
 use Rattle.c_machine.proofs.Landing.{landed_on, left_there, return_lands}

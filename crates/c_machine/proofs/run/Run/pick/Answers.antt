@@ -1,10 +1,10 @@
 use Rattle.std.proofs.Common.{◌∷◌, refl, sym, ap, ◌∙◌, subst}
-use Rattle.c_shared.specs.Expressions.{expr_tree}
-use Rattle.c_shared.specs.declared.expression.SharedExpr.{SharedExpr}
+use Rattle.c_machine_trees.specs.Expressions.{expr_tree}
+use Rattle.c_machine_trees.specs.declared.expression.SharedExpr.{SharedExpr}
 use Rattle.c_steps.specs.Work.{Eval}
-use Rattle.c_value_rows.specs.Contents.{stack_of}
-use Rattle.c_value_rows.specs.Rows.{Tests}
-use Rattle.c_work.specs.Works.{work_of}
+use Rattle.c_machine_values.specs.Contents.{stack_of}
+use Rattle.c_machine_values.specs.Rows.{Tests}
+use Rattle.c_machine_work.specs.Works.{work_of}
 use Rattle.std.proofs.Common.{true, false}
 use Rattle.c_machine.proofs.Tested.{picked, pick_wrong, arrives, stays}
 use Rattle.c_machine.proofs.run.Run.pick.Goals as goal

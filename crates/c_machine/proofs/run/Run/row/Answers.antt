@@ -1,17 +1,17 @@
 use Rattle.std.proofs.Common.{ℕ, List, sym, subst}
 use Rattle.c_syntax.specs.Program.{tprogram_tree}
-use Rattle.c_row_needs.specs.Needs.{AddrNeeds, AreThere, DoNeeds, Needs}
-use Rattle.c_row_needs.specs.Shapes.{HasShape}
-use Rattle.c_shared.specs.declared.expression.SharedPlace.{SharedPlace}
-use Rattle.c_shared.specs.declared.statement.SharedStmt.{SharedStmt}
-use Rattle.c_shared.specs.declared.statement.SharedStmts.{SharedStmts}
-use Rattle.c_shared.specs.Expressions.{place_tree}
-use Rattle.c_shared.specs.Statements.{stmt_tree, stmts_tree}
+use Rattle.c_steps_laws.specs.Needs.{AddrNeeds, AreThere, DoNeeds, Needs}
+use Rattle.c_steps_laws.specs.Shapes.{HasShape}
+use Rattle.c_machine_trees.specs.declared.expression.SharedPlace.{SharedPlace}
+use Rattle.c_machine_trees.specs.declared.statement.SharedStmt.{SharedStmt}
+use Rattle.c_machine_trees.specs.declared.statement.SharedStmts.{SharedStmts}
+use Rattle.c_machine_trees.specs.Expressions.{place_tree}
+use Rattle.c_machine_trees.specs.Statements.{stmt_tree, stmts_tree}
 use Rattle.c_steps.specs.Work.{Close}
-use Rattle.c_value_rows.specs.Contents.{stack_of}
-use Rattle.c_work.specs.declared.items.Item.{Item}
-use Rattle.c_work.specs.Views.{item_of}
-use Rattle.c_work.specs.Works.{work_of}
+use Rattle.c_machine_values.specs.Contents.{stack_of}
+use Rattle.c_machine_work.specs.declared.items.Item.{Item}
+use Rattle.c_machine_work.specs.Views.{item_of}
+use Rattle.c_machine_work.specs.Works.{work_of}
 use Rattle.c_machine.specs.States.{run_state}
 use Rattle.c_machine.specs.Steps.{IsRow}
 use Rattle.c_machine.proofs.Ready.{needs_of, shape_of}

@@ -2,17 +2,17 @@ use Rattle.std.proofs.Common.{◌∷◌, drop, map, sym, ap, ◌∙◌}
 use Rattle.c_syntax.specs.TypedStmt.{none}
 use Rattle.c_syntax.specs.Types.{object_tree}
 use Rattle.c_objects.specs.Opening.{open_all}
-use Rattle.c_shared.specs.declared.statement.SharedStmt.{SharedStmt}
-use Rattle.c_shared.specs.declared.statement.SharedStmts.{SharedStmts}
-use Rattle.c_shared.specs.Statements.{stmt_tree, stmts_tree}
-use Rattle.c_shared.proofs.SharedStmtTrees.{stmt_for}
+use Rattle.c_machine_trees.specs.declared.statement.SharedStmt.{SharedStmt}
+use Rattle.c_machine_trees.specs.declared.statement.SharedStmts.{SharedStmts}
+use Rattle.c_machine_trees.specs.Statements.{stmt_tree, stmts_tree}
+use Rattle.c_machine_trees.proofs.SharedStmtTrees.{stmt_for}
 use Rattle.c_steps.specs.Marks.{does}
 use Rattle.c_steps.specs.States.{Goes, goes}
 use Rattle.c_steps.specs.Statements.{do_step}
 use Rattle.c_steps.specs.Work.{Begin, Close}
-use Rattle.c_value_rows.specs.Contents.{stack_of}
-use Rattle.c_work.specs.Views.{loop_of}
-use Rattle.c_work.specs.Works.{work_of}
+use Rattle.c_machine_values.specs.Contents.{stack_of}
+use Rattle.c_machine_work.specs.Views.{loop_of}
+use Rattle.c_machine_work.specs.Works.{work_of}
 use Rattle.c_machine.proofs.Landing.{on_ok}
 use Rattle.c_machine.proofs.run.Run.start_loop.Goals as goal
 

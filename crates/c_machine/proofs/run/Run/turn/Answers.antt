@@ -1,12 +1,12 @@
 use Rattle.std.proofs.Common.{refl, sym, ap, ◌∙◌, subst}
 use Rattle.c_steps.specs.States.{Wrong}
 use Rattle.c_steps.specs.Statements.{condition_scalar}
-use Rattle.c_value_rows.specs.Contents.{stack_of}
-use Rattle.c_value_rows.specs.declared.row.Tested.TheVariants as tests
-use Rattle.c_value_rows.specs.Rows.{Tests}
-use Rattle.c_work.specs.declared.items.Loop.{Loop}
-use Rattle.c_work.specs.Views.{loop_of}
-use Rattle.c_work.specs.Works.{work_of}
+use Rattle.c_machine_values.specs.Contents.{stack_of}
+use Rattle.c_machine_values.specs.declared.row.Tested.TheVariants as tests
+use Rattle.c_machine_values.specs.Rows.{Tests}
+use Rattle.c_machine_work.specs.declared.items.Loop.{Loop}
+use Rattle.c_machine_work.specs.Views.{loop_of}
+use Rattle.c_machine_work.specs.Works.{work_of}
 use Rattle.c_machine.proofs.Tested.{arrives, stays, turn_wrong, turned, turns_over}
 use Rattle.c_machine.proofs.run.Run.turn.Goals as goal
 

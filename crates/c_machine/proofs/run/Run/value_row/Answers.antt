@@ -3,7 +3,7 @@ use Rattle.c_syntax.specs.declared.types.Object.{Object}
 use Rattle.c_syntax.specs.Types.{object_tree}
 use Rattle.c_syntax.specs.Program.{tprogram_tree}
 use Rattle.c_objects.specs.Kept.{AreSmall}
-use Rattle.c_work.specs.Views.{item_of}
+use Rattle.c_machine_work.specs.Views.{item_of}
 use Rattle.c_machine.specs.States.{run_state}
 use Rattle.c_machine.proofs.Ready.{sound_of, value_ready}
 use Rattle.c_machine.proofs.run.Run.value_row.Goals as goal

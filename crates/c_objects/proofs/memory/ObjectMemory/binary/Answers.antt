@@ -1,7 +1,7 @@
 use Rattle.std.proofs.Common.{◌≡◌, ℤ, pos, neg_ℤ, ◌-ℤ◌, FitsSigned, to_z, of_z, length, subst, [], map, rules, arith}
 use Rattle.std.specs.Int.{w128}
 use Rattle.std.proofs.lemmas.Int.{ints, to_z-of_z}
-use Rattle.c_written.specs.declared.int_type.IntType.TheVariants.{Long}
+use Rattle.c_syntax_written.specs.declared.int_type.IntType.TheVariants.{Long}
 use Rattle.c_syntax.specs.declared.operator.TBinaryOp.{TBinaryOp}
 use Rattle.c_syntax.specs.declared.operator.TBinaryOp.TheVariants as binaries
 use Rattle.c_syntax.specs.Types.{object_tree}

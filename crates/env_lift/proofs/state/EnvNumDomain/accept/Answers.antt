@@ -1,8 +1,8 @@
 use Rattle.std.proofs.Common.{sym, subst, List}
 use Rattle.num_api.specs.Ranges.{IsUnder}
-use Rattle.env_eval.specs.declared.entries.Entry.{Entry}
-use Rattle.env_eval.specs.States.{known_in}
-use Rattle.env_eval.proofs.Parts.{wider}
+use Rattle.env_lift.specs.declared.entries.Entry.{Entry}
+use Rattle.env_lift.specs.States.{known_in}
+use Rattle.num_api.proofs.Parts.{wider}
 use Rattle.env_lift.specs.Laws.{first_flag}
 use Rattle.env_lift.proofs.Changing.{ok_on}
 use Rattle.env_lift.proofs.state.EnvNumDomain.accept.Goals as goal

@@ -3,10 +3,10 @@ use Rattle.num_api.specs.declared.message.Range.{Range}
 use Rattle.num_api.specs.Exprs.{nexpr_tree}
 use Rattle.num_api.specs.Ranges.{IsPoint, IsUnder}
 use Rattle.num_api.specs.Spans.{range_of}
-use Rattle.env_eval.specs.declared.entries.Entry.{Entry}
-use Rattle.env_eval.specs.States.{AllAdmit, known_in}
-use Rattle.env_eval.specs.Evaluation.{IsValue}
-use Rattle.env_eval.proofs.Parts.{wider, still_point}
+use Rattle.env_lift.specs.declared.entries.Entry.{Entry}
+use Rattle.env_lift.specs.States.{AllAdmit, known_in}
+use Rattle.env_lift.specs.Evaluation.{IsValue}
+use Rattle.num_api.proofs.Parts.{wider, still_point}
 use Rattle.env_lift.specs.Laws.{first_flag}
 use Rattle.env_lift.proofs.Changing.{known_here, changed_under, changed_admits}
 use Rattle.env_lift.proofs.state.EnvNumDomain.assign.Goals as goal

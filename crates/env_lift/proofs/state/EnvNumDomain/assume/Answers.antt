@@ -1,6 +1,6 @@
 use Rattle.std.proofs.Common.{sym, subst, List}
-use Rattle.env_eval.specs.declared.entries.Entry.{Entry}
-use Rattle.env_eval.specs.States.{AllAdmit}
+use Rattle.env_lift.specs.declared.entries.Entry.{Entry}
+use Rattle.env_lift.specs.States.{AllAdmit}
 use Rattle.env_lift.proofs.state.EnvNumDomain.assume.Goals as goal
 
 pub returns-clause-told : goal.returns-clause-told

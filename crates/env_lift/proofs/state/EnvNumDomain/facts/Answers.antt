@@ -1,8 +1,8 @@
 use Rattle.std.proofs.Common.{subst, ◌∙◌, List, ℤ}
 use Rattle.std.specs.Prelude.{OnOk}
 use Rattle.num_api.specs.Messages.{TellsOf}
-use Rattle.env_eval.specs.declared.entries.Entry.{Entry}
-use Rattle.env_eval.specs.States.{AllAdmit}
+use Rattle.env_lift.specs.declared.entries.Entry.{Entry}
+use Rattle.env_lift.specs.States.{AllAdmit}
 use Rattle.env_lift.proofs.state.EnvNumDomain.facts.Goals as goal
 
 pub returns-clause-told : goal.returns-clause-told

@@ -3,8 +3,8 @@ use Rattle.num_api.specs.declared.message.Range.{Range}
 use Rattle.num_api.specs.Exprs.{nexpr_tree}
 use Rattle.num_api.specs.Ranges.{NoWider}
 use Rattle.num_api.specs.Spans.{range_of}
-use Rattle.env_eval.specs.declared.entries.Entry.{Entry}
-use Rattle.env_eval.specs.Evaluation.{IsValue}
+use Rattle.env_lift.specs.declared.entries.Entry.{Entry}
+use Rattle.env_lift.specs.Evaluation.{IsValue}
 use Rattle.env_lift.specs.Laws.{first_flag}
 use Rattle.env_lift.proofs.state.EnvOracle.range.Goals as goal
 

@@ -1,6 +1,6 @@
 use Rattle.std.proofs.Common.{sym, subst}
-use Rattle.c_written.specs.declared.int_type.IntType.{IntType}
-use Rattle.c_written.specs.Integer.{HasNumber}
+use Rattle.c_syntax_written.specs.declared.int_type.IntType.{IntType}
+use Rattle.c_syntax_written.specs.Integer.{HasNumber}
 use Rattle.machine_nums.specs.MExprs.{mexpr_tree}
 use Rattle.machine_nums.proofs.Values.{machine_has}
 use Rattle.machine_nums.proofs.expr.MExpr.int_type.Goals as goal

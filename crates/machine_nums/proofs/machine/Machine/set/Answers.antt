@@ -4,7 +4,7 @@ use Rattle.std.proofs.lemmas.Bool.{not-false}
 use Rattle.num_api.specs.Known.{IsSharp}
 use Rattle.num_api.specs.Ranges.{IsPoint, NoWider, IsUnder, with_range}
 use Rattle.num_api.specs.Spans.{range_of}
-use Rattle.env_eval.proofs.Parts.{wider}
+use Rattle.num_api.proofs.Parts.{wider}
 use Rattle.machine_nums.specs.MExprs.{mexpr_tree}
 use Rattle.machine_nums.specs.Rule.{value_span}
 use Rattle.machine_nums.proofs.Cutting.{under_here, under_itself}

@@ -1,0 +1,4 @@
+pub mod Carried
+pub mod Exact
+pub mod Inputs
+pub mod Meets

@@ -1,0 +1,4 @@
+pub mod Whole
+pub mod Forms
+pub mod Parts
+pub mod Wider

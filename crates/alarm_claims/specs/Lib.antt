@@ -1,0 +1,4 @@
+pub mod Admitted
+pub mod Analyzed
+pub mod Forms
+pub mod Wider

@@ -1,0 +1,4 @@
+pub mod Keys
+pub mod Forms
+pub mod Merged
+pub mod Sites

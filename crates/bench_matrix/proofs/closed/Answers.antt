@@ -1,0 +1,11 @@
+use Rattle.std.specs.Prelude.{pos}
+use Rattle.std.proofs.Common.{arith, refl}
+use Rattle.std.proofs.lemmas.Int.{ints}
+use Rattle.bound_matrix.specs.Bound.{bound_at}
+use Rattle.bound_matrix.proofs.Promises.{was-tight, lowered-small, none-small}
+use Rattle.bench_matrix.proofs.closed.Goals as goal
+
+pub close_one-requires-clause-lowered : goal.close_one-requires-clause-lowered
+close_one-requires-clause-lowered c = was-tight c.lower.new.self c.close.new.m c.lower-in-Live.new.self 2 0 _
+    (c.in-Live.ensures.tight refl (lowered-small 46 2 (pos 23) (bound_at c.in_ok-m.m) (bound_at c.lower.new.self) (omega (arith, ints), omega (arith, ints)) c.lower.ensures.lowered (none-small c.in_ok-m.m c.in_ok-m.ensures.none)))
+    c.in-Live.ensures.vars c.lower-in-Live.ensures.vars c.lower-in-Live.ensures.lowered

@@ -1,6 +1,0 @@
-use Rattle.std.proofs.Common.{◌≡◌, map, take}
-use Rattle.c_calls.specs.Placed.{placed}
-use Rattle.c_calls.proofs.search.Search.closed.Given as goal
-
-abbrev pub invariant-loop-step : goal.invariant-loop-step
-invariant-loop-step l = l.calls ≡ map placed (take l.step-index l.step-items)

@@ -1,0 +1,12 @@
+use Rattle.std.proofs.Common.{sym, ap, ◌∙◌}
+use Rattle.std.specs.Option.{option_map}
+use Rattle.std.specs.Str.{bytes_eq}
+use Rattle.c_check_names.specs.Trees.{binding_tree, meaning_tree}
+use Rattle.c_check_names.proofs.Found.{last_tree}
+use Rattle.c_check_names.proofs.world.World.meaning_of.Goals as goal
+
+pub returns-in-Some : goal.returns-in-Some
+returns-in-Some c = ap (option_map (λ b. meaning_tree b.meaning)) c.in-Some.ensures ∙ sym (last_tree binding_tree (λ b. b.meaning) (λ b. bytes_eq b.name c.args.name.now) c.args.self.now.names)
+
+pub returns-in-None : goal.returns-in-None
+returns-in-None c = ap (option_map (λ b. meaning_tree b.meaning)) c.in-None.ensures ∙ sym (last_tree binding_tree (λ b. b.meaning) (λ b. bytes_eq b.name c.args.name.now) c.args.self.now.names)

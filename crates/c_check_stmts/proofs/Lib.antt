@@ -1,0 +1,9 @@
+pub mod Results
+pub mod Parts
+pub mod Lines
+pub mod Lists
+pub mod Bodies
+pub mod Cases
+pub mod Expressions
+pub mod Leaving
+pub mod PartResults

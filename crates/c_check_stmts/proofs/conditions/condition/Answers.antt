@@ -1,0 +1,20 @@
+use Rattle.std.proofs.Common.{◌≡◌, refl}
+use Rattle.std.proofs.lemmas.Option.{IfSome_then}
+use Rattle.c_syntax_written.specs.Written.{expr_tree}
+use Rattle.c_syntax.specs.TypedExpr.{texpr_tree}
+use Rattle.c_typing.specs.Nodes as nodes
+use Rattle.c_typing.specs.Stmts.{Condition}
+use Rattle.c_typing.specs.World.{goes_on, stops}
+use Rattle.c_check_names.specs.Views.{refusal_of}
+use Rattle.c_check_names.specs.Worlds.{world_of}
+use Rattle.c_check_stmts.proofs.PartResults.{by}
+use Rattle.c_check_stmts.proofs.conditions.condition.Goals as goal
+
+pub returns-in-Err : goal.returns-in-Err
+returns-in-Err c = IfSome_then (refusal_of c.in-Err.error) c.in-Err.ensures (λ r p. stops p)
+
+pub returns : goal.returns
+returns c =
+    let w = world_of c.value.new.world in
+    by (λ out. out ≡ nodes.tested w c.args.at (texpr_tree c.in-Ok.got)) (Condition (world_of c.args.world.now) c.args.at (expr_tree c.args.e.now)) texpr_tree w
+    c.tested.result (c.tested.ensures w refl) (λ o p. goes_on c.in-Ok.ensures p)

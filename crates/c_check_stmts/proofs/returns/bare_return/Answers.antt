@@ -1,0 +1,21 @@
+use Rattle.std.proofs.Common.{sym, ap, ◌∙◌}
+use Rattle.c_syntax.specs.Types.{CTypeTree}
+use Rattle.c_syntax.specs.TypedStmt.{tstmt_tree}
+use Rattle.c_syntax.proofs.TypeTrees.{ctype_void}
+use Rattle.c_typing.specs.Stmts.{one, returned_bare}
+use Rattle.c_check_jumps.specs.ContextViews.{result_in}
+use Rattle.c_check_names.proofs.Steps.{so}
+use Rattle.c_check_names.specs.Worlds.{world_of}
+use Rattle.c_check_stmts.proofs.returns.bare_return.Goals as goal
+
+pub returns-in-None : goal.returns-in-None
+returns-in-None c =
+    let w = world_of c.args.world.now in
+    so (λ s. one (tstmt_tree s)) w c.returned_bare.result
+    (ap (λ (ty : CTypeTree). returned_bare w c.args.at ty) (ctype_void ∙ ap result_in (sym c.in-None.is))) c.returned_bare.ensures
+
+pub returns-in-Some : goal.returns-in-Some
+returns-in-Some c =
+    let w = world_of c.args.world.now in
+    so (λ s. one (tstmt_tree s)) w c.returned_bare-in-Some.result
+    (ap (λ (ty : CTypeTree). returned_bare w c.args.at ty) (ap result_in (sym c.in-Some.is))) c.returned_bare-in-Some.ensures

@@ -1,0 +1,5 @@
+pub mod ReadPlaces
+pub mod Tidy
+pub mod ExprTidy
+pub mod FileTidy
+pub mod Order

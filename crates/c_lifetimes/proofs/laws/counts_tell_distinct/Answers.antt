@@ -1,5 +1,0 @@
-use Rattle.c_lifetimes.proofs.Listed as listed
-use Rattle.c_lifetimes.proofs.laws.counts_tell_distinct.Goals as goal
-
-pub returns : goal.returns
-returns c = listed.distinct

@@ -1,0 +1,21 @@
+-- What a reader leaves is shorter than what its caller began with.
+use Rattle.std.proofs.Common.{ℕ, ◌<◌, ◌≤◌, List, length, Bor, arith}
+use Rattle.std.specs.Prelude.{Result, Ok, Err, IfOk}
+use Rattle.c_syntax_written.specs.declared.token.Placed.{Placed}
+use Rattle.c_parser_steps.specs.declared.fault.Fault.{Fault}
+
+pub shorter_by : {A : Type 0} {m n : ℕ} (r : Result (A × Bor (List Placed)) Fault) → IfOk r (λ x. length x.1.now ≤ m) → m < n → IfOk r (λ x. length x.1.now < n)
+shorter_by (Ok x) h k = omega (arith, h)
+shorter_by (Err f) h k = tt
+
+pub shorter_still : {A : Type 0} {m n : ℕ} (r : Result (A × Bor (List Placed)) Fault) → IfOk r (λ x. length x.1.now < m) → m ≤ n → IfOk r (λ x. length x.1.now < n)
+shorter_still (Ok x) h k = omega (arith, h)
+shorter_still (Err f) h k = tt
+
+pub no_longer_by : {A : Type 0} {m n : ℕ} (r : Result (A × Bor (List Placed)) Fault) → IfOk r (λ x. length x.1.now ≤ m) → m ≤ n → IfOk r (λ x. length x.1.now ≤ n)
+no_longer_by (Ok x) h k = omega (arith, h)
+no_longer_by (Err f) h k = tt
+
+pub no_longer : {A : Type 0} (r : Result (A × Bor (List Placed)) Fault) (n : ℕ) → IfOk r (λ x. length x.1.now < n) → IfOk r (λ x. length x.1.now ≤ n)
+no_longer (Ok x) n h = omega (arith, h)
+no_longer (Err f) n h = tt

@@ -1,9 +1,0 @@
-pub mod Shaped
-pub mod Jumps
-pub mod Changed
-pub mod Modified
-pub mod Sound
-pub mod Filled
-pub mod Entered
-pub mod Rows
-pub mod Runs

@@ -1,3 +1,0 @@
-pub mod Shapes
-pub mod Needs
-pub mod Laws

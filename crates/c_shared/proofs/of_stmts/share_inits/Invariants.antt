@@ -1,7 +1,0 @@
-use Rattle.std.proofs.Common.{◌≡◌, map, take}
-use Rattle.c_syntax.specs.TypedStmt.{tinit_tree}
-use Rattle.c_shared.specs.Statements.{inits_from}
-use Rattle.c_shared.proofs.of_stmts.share_inits.Given as goal
-
-abbrev pub invariant-loop-item : goal.invariant-loop-item
-invariant-loop-item l = inits_from l.items.items ≡ map tinit_tree (take l.item-index l.item-items)

@@ -1,7 +1,0 @@
-use Rattle.std.proofs.Common.{◌≡◌, [], map, take}
-use Rattle.c_calls.specs.Placed.{placed}
-use Rattle.c_sides.specs.Firsts.{called_writes}
-use Rattle.c_sides.proofs.clash.one_has_writes.Given as goal
-
-abbrev pub invariant-loop-call : goal.invariant-loop-call
-invariant-loop-call l = called_writes l.known (map placed (take l.call-index l.calls)) ≡ []

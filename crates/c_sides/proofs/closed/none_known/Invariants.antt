@@ -1,7 +1,0 @@
-use Rattle.std.proofs.Common.{◌≡◌, length}
-use Rattle.std.specs.Prelude.{All}
-use Rattle.c_effects.specs.Joined.{nothing}
-use Rattle.c_sides.proofs.closed.none_known.Given as goal
-
-abbrev pub invariant-loop : goal.invariant-loop
-invariant-loop l = (length l.known.items ≡ l.counter) × All (λ effects. effects ≡ nothing) l.known.items

@@ -1,9 +1,0 @@
-use Rattle.std.proofs.Common.{map}
-use Rattle.c_syntax.specs.Types.{object_tree}
-use Rattle.c_sides.specs.Gathered.{IsSeenObject}
-use Rattle.c_sides.proofs.Gathering.{with_one}
-use Rattle.c_sides.proofs.gather.with_seen.Goals as goal
-
-pub returns-then-is_seen : goal.returns-then-is_seen
-returns-then-is_seen c =
-    with_one (IsSeenObject (map object_tree c.args.objects.now)) c.args.list c.args.touch.now c.with.result c.if-is_seen.ensures c.with.ensures

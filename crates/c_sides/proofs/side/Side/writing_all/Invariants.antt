@@ -1,5 +1,0 @@
-use Rattle.std.proofs.Common.{◌≡◌, take}
-use Rattle.c_sides.proofs.side.Side.writing_all.Given as goal
-
-abbrev pub invariant-loop-touch : goal.invariant-loop-touch
-invariant-loop-touch l = l.writes ≡ take l.touch-index l.touches

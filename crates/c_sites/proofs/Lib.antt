@@ -1,0 +1,4 @@
+pub mod CallStand
+pub mod InLists
+pub mod SitedSame
+pub mod SitedStand

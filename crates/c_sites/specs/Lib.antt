@@ -1,0 +1,3 @@
+pub mod SitedChecks
+pub mod SitedLaws
+pub mod Sites

@@ -1,4 +1,0 @@
-pub mod Forms
-pub mod Counting
-pub mod Left
-pub mod Changed

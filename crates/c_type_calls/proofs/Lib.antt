@@ -1,4 +1,0 @@
-pub mod Limits
-pub mod Passing
-pub mod Refusals
-pub mod WordArguments

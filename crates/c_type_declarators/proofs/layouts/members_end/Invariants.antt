@@ -1,9 +1,0 @@
-use Rattle.std.proofs.Common.{◌≡◌, map, take}
-use Rattle.c_syntax.specs.Program.{structdef_tree}
-use Rattle.c_layout.specs.Layout.{members_end, spaces_by, in_table}
-use Rattle.c_typing.specs.Typing.{members_made}
-use Rattle.c_type_declarators.specs.PartViews.{made_tree}
-use Rattle.c_type_declarators.proofs.layouts.members_end.Given as goal
-
-abbrev pub invariant-loop-made : goal.invariant-loop-made
-invariant-loop-made l = l.end ≡ members_end (spaces_by (in_table (map structdef_tree l.structs)) (members_made (map made_tree (take l.made-index l.members))))

@@ -1,4 +1,0 @@
-pub mod Results
-pub mod Lines
-pub mod Lists
-pub mod Forms

@@ -1,7 +1,0 @@
-use Rattle.std.proofs.Common.{◌≡◌}
-use Rattle.c_written.specs.Written.{declarator_tree}
-use Rattle.c_typing.specs.Context.{is_function_declarator}
-use Rattle.c_type_jumps.proofs.declarators.is_function_declarator.Given as goal
-
-abbrev pub invariant-inward : goal.invariant-inward
-invariant-inward l = is_function_declarator (declarator_tree l.part) ≡ is_function_declarator (declarator_tree l.fn.declarator)

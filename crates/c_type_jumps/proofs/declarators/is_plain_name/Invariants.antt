@@ -1,7 +1,0 @@
-use Rattle.std.proofs.Common.{◌≡◌}
-use Rattle.c_written.specs.Written.{declarator_tree}
-use Rattle.c_typing.specs.Context.{is_plain_name}
-use Rattle.c_type_jumps.proofs.declarators.is_plain_name.Given as goal
-
-abbrev pub invariant-inward : goal.invariant-inward
-invariant-inward l = is_plain_name (declarator_tree l.part) ≡ is_plain_name (declarator_tree l.fn.declarator)

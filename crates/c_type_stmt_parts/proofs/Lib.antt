@@ -1,4 +1,0 @@
-pub mod Cases
-pub mod Expressions
-pub mod Leaving
-pub mod Results

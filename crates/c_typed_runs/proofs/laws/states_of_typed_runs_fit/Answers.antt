@@ -1,5 +1,0 @@
-use Rattle.c_typed_runs.proofs.Start as start
-use Rattle.c_typed_runs.proofs.laws.states_of_typed_runs_fit.Goals as goal
-
-pub returns : goal.returns
-returns c = start.runs_fit

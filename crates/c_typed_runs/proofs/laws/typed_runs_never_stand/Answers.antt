@@ -1,5 +1,0 @@
-use Rattle.c_typed_runs.proofs.Start as start
-use Rattle.c_typed_runs.proofs.laws.typed_runs_never_stand.Goals as goal
-
-pub returns : goal.returns
-returns c = start.runs_never_stand

@@ -1,5 +1,0 @@
-pub mod Wants
-pub mod Surroundings
-pub mod Takes
-pub mod Opens
-pub mod Fits

@@ -1,4 +1,0 @@
-mod Exactly
-pub mod Belonging
-mod Standing
-mod Arguments

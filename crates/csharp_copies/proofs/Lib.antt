@@ -1,2 +1,0 @@
-mod Variants
-mod Copied

@@ -1,0 +1,6 @@
+use Rattle.std.proofs.Common.{sym}
+use Rattle.csharp_exec.proofs.Variants.{no_default}
+use Rattle.csharp_exec.proofs.marks.is_default.Goals as goal
+
+pub returns-in_default : goal.returns-in_default
+returns-in_default c = sym (no_default c.args.item.now c.in_default.not-Default)

@@ -1,0 +1,5 @@
+pub mod Numbers
+pub mod Values
+pub mod Actions
+pub mod Begun
+pub mod Runs

@@ -1,0 +1,5 @@
+mod Exactly
+pub mod Belonging
+mod Standing
+mod Arguments
+mod Spots

@@ -1,0 +1,10 @@
+pub mod Everywhere
+pub mod Keeping
+pub mod Counts
+pub mod Values
+pub mod Memories
+pub mod Actions
+pub mod Starts
+pub mod Stays
+pub mod Steps
+pub mod Jumps

@@ -1,0 +1,5 @@
+use Rattle.csharp_typed_laws.proofs.Steps as steps
+use Rattle.csharp_typed_laws.proofs.laws.first_states_are_typed.Goals as goal
+
+pub returns : goal.returns
+returns c = steps.first_is_typed

@@ -1,0 +1,4 @@
+pub mod TypedStates
+pub mod Kept
+pub mod Counts
+pub mod Jumps

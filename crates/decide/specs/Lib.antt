@@ -1,4 +1,0 @@
-pub mod Decisions
-pub mod Offsets
-pub mod Pairs
-pub mod Spans

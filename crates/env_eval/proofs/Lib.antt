@@ -1,9 +1,0 @@
-pub mod Found
-pub mod Lookups
-pub mod Merges
-pub mod Parts
-pub mod Placing
-pub mod RangeCuts
-pub mod Rising
-pub mod Truths
-pub mod Values

@@ -1,8 +1,0 @@
-use Rattle.std.proofs.Common.{◌≡◌}
-use Rattle.interval_states.specs.Sets.{below}
-use Rattle.interval_states.proofs.states.numbers_below.Given as goal
-
-abbrev pub invariant-loop-number : goal.invariant-loop-number
-invariant-loop-number l = record {
-  items : l.numbers.items ≡ below l.number;
-}

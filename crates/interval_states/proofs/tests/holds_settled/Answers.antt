@@ -1,6 +1,0 @@
-use Rattle.interval_states.proofs.tests.holds_settled.Goals as goal
-
-pub covers-requires : goal.covers-requires
-covers-requires c =
-    let s = c.requires in
-    (s.program, s.is_for, c.in_ok-state.ensures s.program s.is_for)

@@ -1,0 +1,11 @@
+use Rattle.std.proofs.Common.{◌≡◌, true, false}
+use Rattle.csharp.specs.Trees.{csprogram_tree}
+use Rattle.iterator.proofs.switches.enter_case.Goals as goal
+
+pub returns-in_ok-enter_at-in-Live-clause-hit : goal.returns-in_ok-enter_at-in-Live-clause-hit
+returns-in_ok-enter_at-in-Live-clause-hit g c = λ s h t f.
+    c.in_ok-enter_at-in-Live.ensures.entered s (c.in_ok-assume.ensures.stands s t.0 h t.1 t.2).1 f
+
+pub returns-in-Dead-clause-hit : goal.returns-in-Dead-clause-hit
+returns-in-Dead-clause-hit g c = λ s h t f.
+    let z = (c.in_ok-assume.ensures.stands s t.0 h t.1 t.2).0 in let y : false ≡ true = rw c.in-Dead.is at z in absurd (cc)

@@ -1,0 +1,625 @@
+use Rattle.std.proofs.Common.{◌≡◌, ◌∙◌, ⊎_elim, suc, ◌-◌, [], true, false, Some, None, refl, ap, subst, arith, rules}
+use Rattle.std.specs.Prelude.{slice_get}
+use Rattle.csharp.specs.Trees.{Block, If, Loop, Scope, Sequence, Switch, cscall_tree, csexpr_tree, csfunction_tree, csprogram_tree, csstmt_tree, csstmts_from}
+use Rattle.csharp.specs.Trees.{csstmts_tree}
+use Rattle.csharp.specs.Sizes.{csstmts_size}
+use Rattle.csharp.proofs.CodeTrees.{csstmt_exit, csstmt_goto, csstmt_loop, csstmts_cons, csstmts_nil}
+use Rattle.walk_owes.specs.declared.way.Way.TheVariants as ways
+use Rattle.walk_owes.specs.Heads.{IsMore}
+use Rattle.walk_owes.specs.Items.{Begins, CoveredAll}
+use Rattle.walk_owes.proofs.Closing.{plain_pass}
+use Rattle.walk_owes.proofs.Heads.{begins_more}
+use Rattle.iterator.proofs.Settling.{closed_is, more_is}
+use Rattle.walk_owes.specs.Owes.{AllFor, HasTyped, SomeFor}
+use Rattle.walk_owes.specs.Walkable.{AreArgsReady, IsWalkable, target_of, worth}
+use Rattle.walk_owes.proofs.Admits.{all_into, block_admits, else_admits, first_admits, gained, gains_both, gains_into, gains_none, item_admits, loop_admits}
+use Rattle.walk_owes.proofs.Admits.{rest_admits, scope_admits, second_admits, switch_admits, then_admits}
+use Rattle.walk_owes.proofs.Entering.{nil_of}
+use Rattle.walk_owes.proofs.Fuel.{call_falls, callable, callee_is, function_there}
+use Rattle.walk_owes.proofs.Scopes.{passes_begin, passes_end}
+use Rattle.walk_owes.proofs.Steps.{block_sound, closed_by, descended, grows_both, grows_none, if_sound, loop_sound, reached, sequence_sound}
+use Rattle.walk_owes.proofs.Steps.{unrolled_dead, unrolled_end, unrolled_more, unrolled_none, whole_loop}
+use Rattle.walk_owes.proofs.Typed.{head_on, keeps_with, leaves_with, some_on}
+use Rattle.walk_owes.proofs.Typing.{call_typed, closed_typed, grows_with, passes_typed, scope_typed, side_dead, side_sound, switch_typed}
+use Rattle.iterator.proofs.walking.+walk.Goals as goal
+
+pub walk-returns-in_ok-walk_loop-in-Loop-clause-sound : goal.walk-returns-in_ok-walk_loop-in-Loop-clause-sound
+walk-returns-in_ok-walk_loop-in-Loop-clause-sound g t c =
+    let x = rw c.deref-in-Loop.ensures at c.in_ok-walk_loop-in-Loop.ensures.sound in
+    rw (c.in-Loop.is, csstmt_loop c.in-Loop.pos c.in-Loop.body)
+    (whole_loop (HasTyped g.M.MemDomain.stands (csprogram_tree c.args.program.now)) _ _ c.in-Loop.pos (csstmt_tree c.in-Loop.body.value) c.args.state _ _ (x c.in-Loop.pos))
+
+pub walk_sequence-returns-clause-sound : goal.walk_sequence-returns-clause-sound
+walk_sequence-returns-clause-sound g t c =
+    sequence_sound (HasTyped g.M.MemDomain.stands (csprogram_tree c.args.program.now)) _ _ (csstmt_tree c.args.first.now) (csstmt_tree c.args.second.now) (Some c.args.state) c.in_ok-mid.mid
+    c.in_ok-after.after c.walk.new.kept.items c.walk_live.new.kept.items c.walk.new.out.items c.walk_live.new.out.items c.in_ok-mid.ensures.sound
+    c.in_ok-after.ensures.grows c.in_ok-after.ensures.sound
+
+pub walk_if-returns-clause-is_for : goal.walk_if-returns-clause-is_for
+walk_if-returns-clause-is_for g t c =
+    c.in_ok-after.ensures.is_for (csprogram_tree c.args.program.now) c.in_ok-first.ensures.is_for c.in_ok-second.ensures.is_for
+
+pub walk_if-returns-clause-sound : goal.walk_if-returns-clause-sound
+walk_if-returns-clause-sound g t c =
+    let y = c.in_ok-second.ensures.sound in
+    if_sound (HasTyped g.M.MemDomain.stands (csprogram_tree c.args.program.now)) _ _ (csexpr_tree c.args.condition.now) (csstmt_tree c.args.then.now) (csstmt_tree c.args.otherwise.now) c.args.state
+    c.in_ok-first.first c.in_ok-second.second c.in_ok-after.after _ _ _ _ c.in_ok-first.ensures.sound c.in_ok-second.ensures.grows
+    (rw c.in_ok-other.ensures at y) (some_on g.M.MemDomain.stands (csprogram_tree c.args.program.now) _ _ c.in_ok-after.ensures.first)
+    (some_on g.M.MemDomain.stands (csprogram_tree c.args.program.now) _ _ c.in_ok-after.ensures.second)
+
+pub walk_block-returns-clause-is_for : goal.walk_block-returns-clause-is_for
+walk_block-returns-clause-is_for g t c =
+    c.in_ok-after.ensures.is_for (csprogram_tree c.args.program.now) c.in_ok-mid.ensures.kept_for c.in_ok-mid.ensures.is_for
+
+pub walk_block-returns-clause-kept_for : goal.walk_block-returns-clause-kept_for
+walk_block-returns-clause-kept_for g t c =
+    c.in_ok-after.ensures.kept_for (csprogram_tree c.args.program.now) c.in_ok-mid.ensures.kept_for c.requires.kept_for
+
+pub walk_block-returns-clause-sound : goal.walk_block-returns-clause-sound
+walk_block-returns-clause-sound g t c =
+    block_sound (HasTyped g.M.MemDomain.stands (csprogram_tree c.args.program.now)) _ _ (csstmt_tree c.args.body.now) (Some c.args.state) c.in_ok-mid.mid c.in_ok-after.after _ _ _ c.in_ok-mid.ensures.sound
+    (some_on g.M.MemDomain.stands (csprogram_tree c.args.program.now) _ _ c.in_ok-after.ensures.after)
+    (leaves_with g.M.MemDomain.stands (csprogram_tree c.args.program.now) _ _ _ c.in_ok-after.ensures.exits)
+
+pub descend-returns-in-None-clause-reaches : goal.descend-returns-in-None-clause-reaches
+descend-returns-in-None-clause-reaches g t c =
+    let x = c.in_ok-try_turn.ensures.turn in
+    descended (HasTyped g.M.MemDomain.stands (csprogram_tree c.args.program.now)) (csprogram_tree c.args.program.now) c.args.to (csstmt_tree c.args.body.now) c.args.entry.now c.args.head None _
+    c.requires.reaches (rw c.in-None.is at x) (λ s h. rw c.in_ok-next-in-None.ensures h) (λ s h. absurd h)
+
+pub descend-returns-clause-reaches : goal.descend-returns-clause-reaches
+descend-returns-clause-reaches g t c =
+    let x = c.in_ok-try_turn.ensures.turn in
+    descended (HasTyped g.M.MemDomain.stands (csprogram_tree c.args.program.now)) (csprogram_tree c.args.program.now) c.args.to (csstmt_tree c.args.body.now) c.args.entry.now c.args.head (Some c.in-Some.next) _
+    c.requires.reaches (rw c.in-Some.is at x) (λ s h. (c.in_ok-join-in-Some.ensures.right s h.0, h.1)) (λ s h. (c.in_ok-join-in-Some.ensures.left s h.0, h.1))
+
+pub settle-returns-in-None-clause-closed : goal.settle-returns-in-None-clause-closed
+settle-returns-in-None-clause-closed g t c =
+    closed_by (HasTyped g.M.MemDomain.stands (csprogram_tree c.args.program.now)) (csprogram_tree c.args.program.now) c.args.to (csstmt_tree c.args.body.now) c.loop-head.head None
+    (let h = c.in_ok-try_turn.ensures.turn in rw c.in-None.is at h) (λ s h. absurd h)
+
+pub settle-returns-then-not-branch-clause-closed : goal.settle-returns-then-not-branch-clause-closed
+settle-returns-then-not-branch-clause-closed g t c =
+    let x = c.in_ok-try_turn.ensures.turn in
+    let b : c.in_ok-widen-in-Some.field-0 ≡ false = search rules in
+    let e = c.in_ok-widen-in-Some.ensures.same b in
+    rw e (closed_by (HasTyped g.M.MemDomain.stands (csprogram_tree c.args.program.now)) (csprogram_tree c.args.program.now) c.args.to (csstmt_tree c.args.body.now) c.loop-head.head (Some c.in-Some.next)
+    (rw c.in-Some.is at x) (λ s h. (rw e at (c.in_ok-widen-in-Some.ensures.right s h.0), h.1)))
+
+pub walk_loop-returns-in-None-clause-sound : goal.walk_loop-returns-in-None-clause-sound
+walk_loop-returns-in-None-clause-sound g t c = λ at.
+    let x = c.in_ok-walk.ensures.sound in
+    unrolled_dead (HasTyped g.M.MemDomain.stands (csprogram_tree c.args.program.now)) _ _ at (csstmt_tree c.args.body.now) c.args.state c.loop-turns.head c.loop-turns.kept.items c.walk.new.kept.items
+    c.loop-turns.out.items c.walk.new.out.items (c.loop-turns.invariant.unrolled at) (rw c.in-None.is at x) c.in_ok-walk.ensures.grows
+
+pub walk_loop-loop-turns-preserved : goal.walk_loop-loop-turns-preserved
+walk_loop-loop-turns-preserved g t c =
+    let x = c.in_ok-walk.ensures.sound in
+    let i = c.in_ok-walk.ensures.is_for in
+    record {
+      is_for = rw c.in-Some.is at i;
+      kept_for = c.in_ok-walk.ensures.kept_for;
+      unrolled = λ at. unrolled_more (HasTyped g.M.MemDomain.stands (csprogram_tree c.args.program.now)) _ _ at (csstmt_tree c.args.body.now) c.args.state c.loop-turns.head c.in-Some.next _ _ _ _
+          (c.loop-turns.invariant.unrolled at) (rw c.in-Some.is at x) c.in_ok-walk.ensures.grows;
+      gains = gains_both (csprogram_tree c.args.program.now) (csstmt_tree c.args.body.now) _ _ _ c.loop-turns.invariant.gains c.in_ok-walk.ensures.gains;
+      grows = grows_both (HasTyped g.M.MemDomain.stands (csprogram_tree c.args.program.now)) _ c.args.to _ _ _ _ _ _ c.loop-turns.invariant.grows c.in_ok-walk.ensures.grows;
+    }
+
+pub walk_loop-returns-clause-sound : goal.walk_loop-returns-clause-sound
+walk_loop-returns-clause-sound g t c = λ at.
+    unrolled_end (HasTyped g.M.MemDomain.stands (csprogram_tree c.args.program.now)) _ _ at (csstmt_tree c.args.body.now) c.args.state c.loop-turns.head c.loop-turns.kept.items c.walk_rest.new.kept.items
+    c.loop-turns.out.items c.walk_rest.new.out.items (c.loop-turns.invariant.unrolled at) (c.in_ok-walk_rest.ensures.sound at) c.in_ok-walk_rest.ensures.grows
+
+pub walk_rest-loop-steps-init : goal.walk_rest-loop-steps-init
+walk_rest-loop-steps-init g t c =
+    let h = c.in_ok-head.ensures in
+    record {
+      is_for = h.is_for;
+      reaches = reached (HasTyped g.M.MemDomain.stands (csprogram_tree c.args.program.now)) (csprogram_tree c.args.program.now) c.args.to (csstmt_tree c.args.body.now) c.args.entry c.in_ok-head.head
+          (λ s i. (h.entry s (rw c.in_ok-start.ensures i.0), i.1)) h.closed;
+    }
+
+pub walk_rest-returns-clause-sound : goal.walk_rest-returns-clause-sound
+walk_rest-returns-clause-sound g t c = λ at.
+    loop_sound (HasTyped g.M.MemDomain.stands (csprogram_tree c.args.program.now)) _ _ at (csstmt_tree c.args.body.now) c.args.entry c.loop-steps.head _ _ _ c.loop-steps.invariant.reaches
+    c.in_ok-walk.ensures.sound
+
+pub walk_call-walk-requires : goal.walk_call-walk-requires
+walk_call-walk-requires g t c =
+    let q = csprogram_tree c.args.program.now in
+    let looked = c.in-Some.ensures.lookup in
+    let there : slice_get q.functions c.args.call.now.function ≡ Some (csfunction_tree c.in-Some.function.now) =
+    function_there c.as_slice.result.now c.args.program.now.functions c.args.call.now.function c.in-Some.function.now c.as_slice.ensures looked.3.0
+    (looked.3.1 c.in-Some.function.now) in
+    let less : c.args.depth ≡ suc (c.args.depth - 1) = omega (arith, c.if-depth-eq0.false) in
+    let callee = callable q c.args.depth (c.args.depth - 1) c.args.to (cscall_tree c.args.call.now) less c.requires.walkable in
+    let same = callee_is q (c.args.depth - 1) (cscall_tree c.args.call.now) (csfunction_tree c.in-Some.function.now) there callee in
+    let more : suc (c.args.depth - 1) ≡ c.args.depth = omega (arith, c.if-depth-eq0.false) in
+    let falls = call_falls q (c.args.depth - 1) c.args.call.now.function (csfunction_tree c.in-Some.function.now) there in
+    let worths = ap (worth q) more in
+    λ κs le. (
+      omega (arith, falls, worths, c.decreases),
+      (
+        le.0,
+        (
+          le.1.0,
+          (
+            le.1.1,
+            (
+              c.requires.ramp,
+              (
+                subst (λ f. IsWalkable q (c.args.depth - 1) (target_of (cscall_tree c.args.call.now)) f.body) same callee.body,
+                (callee.target, (c.in_ok-pass_args.ensures.is_for q c.requires.is_for, rw c.new-inner.ensures.items tt)),
+              ),
+            ),
+          ),
+        ),
+      ),
+    )
+
+pub walk_call-give_none-requires : goal.walk_call-give_none-requires
+walk_call-give_none-requires g t c =
+    let q = csprogram_tree c.args.program.now in
+    let less : c.args.depth ≡ suc (c.args.depth - 1) = omega (arith, c.if-depth-eq0.false) in
+    let callee = callable q c.args.depth (c.args.depth - 1) c.args.to (cscall_tree c.args.call.now) less c.requires.walkable in
+    record { given = (q, c.in_ok-mid.ensures.is_for, callee.target) }
+
+pub walk_call-take_returns-requires : goal.walk_call-take_returns-requires
+walk_call-take_returns-requires g t c = record { one = (csprogram_tree c.args.program.now, c.in_ok-mid.ensures.kept_for) }
+
+pub walk_call-merge_either-requires : goal.walk_call-merge_either-requires
+walk_call-merge_either-requires g t c =
+    let q = csprogram_tree c.args.program.now in
+    record { one = (q, c.in_ok-fallen.ensures.is_for q c.in_ok-mid.ensures.is_for, c.in_ok-given.ensures.is_for q c.in_ok-mid.ensures.kept_for) }
+
+pub walk_call-returns-clause-is_for : goal.walk_call-returns-clause-is_for
+walk_call-returns-clause-is_for g t c =
+    let q = csprogram_tree c.args.program.now in
+    c.in_ok-after.ensures.is_for q (c.in_ok-fallen.ensures.is_for q c.in_ok-mid.ensures.is_for) (c.in_ok-given.ensures.is_for q c.in_ok-mid.ensures.kept_for)
+
+pub walk_call-returns-clause-sound : goal.walk_call-returns-clause-sound
+walk_call-returns-clause-sound g t c =
+    let q = csprogram_tree c.args.program.now in
+    let looked = c.in-Some.ensures.lookup in
+    let there : slice_get q.functions c.args.call.now.function ≡ Some (csfunction_tree c.in-Some.function.now) =
+    function_there c.as_slice.result.now c.args.program.now.functions c.args.call.now.function c.in-Some.function.now c.as_slice.ensures looked.3.0
+    (looked.3.1 c.in-Some.function.now) in
+    let less : c.args.depth ≡ suc (c.args.depth - 1) = omega (arith, c.if-depth-eq0.false) in
+    let callee = callable q c.args.depth (c.args.depth - 1) c.args.to (cscall_tree c.args.call.now) less c.requires.walkable in
+    let same = callee_is q (c.args.depth - 1) (cscall_tree c.args.call.now) (csfunction_tree c.in-Some.function.now) there callee in
+    let ready = subst (λ f. AreArgsReady q (cscall_tree c.args.call.now).args f.params) same callee.args in
+    let passed = rw (c.as_slice-2.ensures, c.as_slice-3.ensures) at c.in_ok-pass_args.ensures.stands in
+    call_typed g.M.MemDomain.stands q c.args.to c.actions_keep_states_typed.ensures.set (cscall_tree c.args.call.now) (csfunction_tree c.in-Some.function.now)
+    c.args.state c.pass_args.new.state c.in_ok-mid.mid c.in_ok-fallen.fallen c.in_ok-given.given c.in_ok-after.after c.walk.new.kept.items _ c.walk.new.out.items _
+    there ready callee.target passed c.in_ok-mid.ensures.sound c.in_ok-fallen.ensures.none c.in_ok-given.ensures.taken c.in_ok-after.ensures.first
+    c.in_ok-after.ensures.second (c.in_ok-prefix.ensures.new q)
+
+pub walk_call-returns-clause-gains : goal.walk_call-returns-clause-gains
+walk_call-returns-clause-gains g t c =
+    let q = csprogram_tree c.args.program.now in
+    let looked = c.in-Some.ensures.lookup in
+    let there : slice_get q.functions c.args.call.now.function ≡ Some (csfunction_tree c.in-Some.function.now) =
+    function_there c.as_slice.result.now c.args.program.now.functions c.args.call.now.function c.in-Some.function.now c.as_slice.ensures looked.3.0
+    (looked.3.1 c.in-Some.function.now) in
+    let found = rw c.new-found.ensures.items at c.in_ok-mid.ensures.gains in
+    c.in_ok-prefix.ensures.gains q (cscall_tree c.args.call.now) (csfunction_tree c.in-Some.function.now) refl there
+    (gained q (csstmt_tree c.in-Some.function.now.body) _ found)
+
+-- ---- what alarms are gained
+
+pub walk_sequence-returns-clause-gains : goal.walk_sequence-returns-clause-gains
+walk_sequence-returns-clause-gains g t c =
+    let q = csprogram_tree c.args.program.now in
+    let a = csstmt_tree c.args.first.now in
+    let b = csstmt_tree c.args.second.now in
+    gains_both q (Sequence a b) _ _ _ (gains_into q a (Sequence a b) _ _ (first_admits q a b) c.in_ok-mid.ensures.gains)
+    (gains_into q b (Sequence a b) _ _ (second_admits q a b) c.in_ok-after.ensures.gains)
+
+pub walk_if-returns-clause-gains : goal.walk_if-returns-clause-gains
+walk_if-returns-clause-gains g t c =
+    let q = csprogram_tree c.args.program.now in
+    let e = csexpr_tree c.args.condition.now in
+    let a = csstmt_tree c.args.then.now in
+    let b = csstmt_tree c.args.otherwise.now in
+    gains_both q (If e a b) _ _ _ (gains_into q a (If e a b) _ _ (then_admits q e a b) c.in_ok-first.ensures.gains)
+    (gains_into q b (If e a b) _ _ (else_admits q e a b) c.in_ok-second.ensures.gains)
+
+pub walk_block-returns-clause-gains : goal.walk_block-returns-clause-gains
+walk_block-returns-clause-gains g t c =
+    let q = csprogram_tree c.args.program.now in
+    gains_into q (csstmt_tree c.args.body.now) (Block (csstmt_tree c.args.body.now)) _ _ (block_admits q (csstmt_tree c.args.body.now)) c.in_ok-mid.ensures.gains
+
+pub walk_block-returns-clause-grows : goal.walk_block-returns-clause-grows
+walk_block-returns-clause-grows g t c =
+    grows_with g.M.MemDomain.stands (csprogram_tree c.args.program.now) c.args.to _ _ _ _ c.in_ok-after.ensures.old c.in_ok-mid.ensures.grows.lists
+
+pub walk_side-returns-in-Dead-clause-gains : goal.walk_side-returns-in-Dead-clause-gains
+walk_side-returns-in-Dead-clause-gains g t c = gains_none (csprogram_tree c.args.program.now) (csstmt_tree c.args.a.now) c.args.out.now.items
+
+pub walk_live-returns-in-None-clause-gains : goal.walk_live-returns-in-None-clause-gains
+walk_live-returns-in-None-clause-gains g t c = gains_none (csprogram_tree c.args.program.now) (csstmt_tree c.args.a.now) c.args.out.now.items
+
+pub walk_side-returns-in_ok-after-in-Live-clause-sound : goal.walk_side-returns-in_ok-after-in-Live-clause-sound
+walk_side-returns-in_ok-after-in-Live-clause-sound g t c =
+    side_sound g.M.MemDomain.stands (csprogram_tree c.args.program.now) c.args.to (csexpr_tree c.args.condition.now) c.args.truth (csstmt_tree c.args.a.now)
+    c.args.state c.assume.new.self c.in_ok-after-in-Live.after _ _ (λ s v h i k. (c.in_ok-assume.ensures.stands s v h i k).1) c.in_ok-after-in-Live.ensures.sound
+
+pub walk_side-returns-in-Dead-clause-sound : goal.walk_side-returns-in-Dead-clause-sound
+walk_side-returns-in-Dead-clause-sound g t c =
+    side_dead g.M.MemDomain.stands (csprogram_tree c.args.program.now) c.args.to (csexpr_tree c.args.condition.now) c.args.truth (csstmt_tree c.args.a.now)
+    c.args.state None _ _
+    (λ s v h i k. let z = (c.in_ok-assume.ensures.stands s v h i k).0 in let y : false ≡ true = rw c.in-Dead.is at z in absurd (cc))
+
+pub walk_loop-returns-in-None-clause-gains : goal.walk_loop-returns-in-None-clause-gains
+walk_loop-returns-in-None-clause-gains g t c =
+    gains_both (csprogram_tree c.args.program.now) (csstmt_tree c.args.body.now) _ _ _ c.loop-turns.invariant.gains c.in_ok-walk.ensures.gains
+
+pub walk_loop-returns-clause-gains : goal.walk_loop-returns-clause-gains
+walk_loop-returns-clause-gains g t c =
+    gains_both (csprogram_tree c.args.program.now) (csstmt_tree c.args.body.now) _ _ _ c.loop-turns.invariant.gains c.in_ok-walk_rest.ensures.gains
+
+pub walk-returns-in_ok-walk_loop-in-Loop-clause-gains : goal.walk-returns-in_ok-walk_loop-in-Loop-clause-gains
+walk-returns-in_ok-walk_loop-in-Loop-clause-gains g t c =
+    let x = rw c.deref-in-Loop.ensures at c.in_ok-walk_loop-in-Loop.ensures.gains in
+    rw (c.in-Loop.is, csstmt_loop c.in-Loop.pos c.in-Loop.body)
+    (gains_into (csprogram_tree c.args.program.now) (csstmt_tree c.in-Loop.body.value) (Loop c.in-Loop.pos (csstmt_tree c.in-Loop.body.value)) _ _
+    (loop_admits (csprogram_tree c.args.program.now) c.in-Loop.pos (csstmt_tree c.in-Loop.body.value)) x)
+
+-- ---- scopes and switches
+
+pub walk_scope-returns-clause-is_for : goal.walk_scope-returns-clause-is_for
+walk_scope-returns-clause-is_for g t c = c.in_ok-after.ensures.is_for (csprogram_tree c.args.program.now) c.in_ok-pass.ensures.is_for.0
+
+pub walk_scope-returns-clause-kept_for : goal.walk_scope-returns-clause-kept_for
+walk_scope-returns-clause-kept_for g t c =
+    c.in_ok-leave_scope.ensures.kept_for (csprogram_tree c.args.program.now) c.in_ok-pass.ensures.is_for.1 c.requires.kept_for
+
+pub walk_scope-returns-clause-sound : goal.walk_scope-returns-clause-sound
+walk_scope-returns-clause-sound g t c =
+    let q = csprogram_tree c.args.program.now in
+    let all = csstmts_tree c.args.items.now in
+    let pass = rw (c.as_slice.ensures, c.new-heads.ensures.items) at c.in_ok-pass.ensures.sound in
+    let enters = rw c.as_slice-names.ensures at c.in_ok-enter.ensures.stands in
+    let behind = rw c.as_slice-names.ensures at c.in_ok-after.ensures.after in
+    let left = rw c.as_slice-names.ensures at c.in_ok-leave_scope.ensures.left in
+    scope_typed g.M.MemDomain.stands q c.args.to c.actions_keep_states_typed.ensures.enter c.actions_keep_states_typed.ensures.leave c.args.objects.now all []
+    c.args.state c.enter.new.self c.in_ok-pass.pass.after c.in_ok-after.after _ _ _ _ c.requires.walkable.0.numbers.2 (λ s i h. enters q s c.requires.is_for i h)
+    pass (c.in_ok-add_alarms.ensures.new q) behind left
+
+pub walk_scope-returns-clause-grows : goal.walk_scope-returns-clause-grows
+walk_scope-returns-clause-grows g t c =
+    grows_with g.M.MemDomain.stands (csprogram_tree c.args.program.now) c.args.to _ _ _ _ c.in_ok-leave_scope.ensures.old
+    (c.in_ok-add_alarms.ensures.old (csprogram_tree c.args.program.now))
+
+pub walk_scope-returns-clause-gains : goal.walk_scope-returns-clause-gains
+walk_scope-returns-clause-gains g t c =
+    let q = csprogram_tree c.args.program.now in
+    let all = csstmts_tree c.args.items.now in
+    let found = rw c.as_slice.ensures at c.in_ok-pass.ensures.gains in
+    c.in_ok-add_alarms.ensures.gains q (Scope c.args.objects.now all)
+    (all_into q (Scope [] all) (Scope c.args.objects.now all) _ (scope_admits q c.args.objects.now all) (gained q (Scope [] all) _ found))
+
+pub walk_switch-returns-clause-gains : goal.walk_switch-returns-clause-gains
+walk_switch-returns-clause-gains g t c =
+    let q = csprogram_tree c.args.program.now in
+    let all = csstmts_tree c.args.items.now in
+    let e = csexpr_tree c.args.value.now in
+    let found = rw c.as_slice-3.ensures at c.in_ok-pass.ensures.gains in
+    c.in_ok-add_alarms.ensures.gains q (Switch e c.args.objects.now all)
+    (all_into q (Scope [] all) (Switch e c.args.objects.now all) _ (switch_admits q e c.args.objects.now all) (gained q (Scope [] all) _ found))
+
+pub walk_switch-returns-clause-grows : goal.walk_switch-returns-clause-grows
+walk_switch-returns-clause-grows g t c =
+    grows_with g.M.MemDomain.stands (csprogram_tree c.args.program.now) c.args.to _ _ _ _ c.in_ok-leave_scope.ensures.old
+    (c.in_ok-add_alarms.ensures.old (csprogram_tree c.args.program.now))
+
+-- ---- passes
+
+pub one_pass-loop-item-init : goal.one_pass-loop-item-init
+one_pass-loop-item-init g t c =
+    let q = csprogram_tree c.args.program.now in
+    record {
+      walkable = c.requires.walkable;
+      size = omega arith;
+      after_for = c.requires.flow_for;
+      kept_for = rw c.new-kept.ensures.items tt;
+      passes = rw (c.new-gone.ensures.items, c.new-kept.ensures.items, c.new-out.ensures.items)
+          (passes_begin (HasTyped g.M.MemDomain.stands q) q c.args.to (csstmts_from c.args.items.now) c.args.heads.now c.args.flow [] [] []);
+      gains = rw c.new-out.ensures.items (gains_none q (Scope [] (csstmts_from c.args.items.now)) []);
+      among = λ x h. h;
+    }
+
+pub one_pass-walk_live-requires : goal.one_pass-walk_live-requires
+one_pass-walk_live-requires g t c =
+    let q = csprogram_tree c.args.program.now in
+    let own = rw (c.in-Some.ensures.cases.0, csstmts_cons c.in-Some.item.now c.in-Some.more.now) at c.loop-item.invariant.walkable in
+    let size = ap csstmts_size (ap csstmts_from c.in-Some.ensures.cases.0 ∙ csstmts_cons c.in-Some.item.now c.in-Some.more.now) in
+    let within = c.loop-item.invariant.size in
+    λ κs le. (
+      omega (arith, size, within, c.decreases),
+      (
+        le.0,
+        (
+          le.1.0,
+          (
+            le.1.1,
+            (
+              c.requires.ramp,
+              (
+                own.0,
+                (
+                  c.requires.target,
+                  (
+                    c.in_ok-begun.ensures.is_for q c.loop-item.invariant.after_for c.requires.heads_for c.loop-item.invariant.kept_for,
+                    c.in_ok-begun.ensures.kept_for q c.loop-item.invariant.kept_for,
+                  ),
+                ),
+              ),
+            ),
+          ),
+        ),
+      ),
+    )
+
+pub one_pass-loop-item-preserved : goal.one_pass-loop-item-preserved
+one_pass-loop-item-preserved g t c =
+    let q = csprogram_tree c.args.program.now in
+    let all = csstmts_from c.args.items.now in
+    let item = csstmt_tree c.in-Some.item.now in
+    let more1 = csstmts_from c.in-Some.more.now in
+    let own = rw (c.in-Some.ensures.cases.0, csstmts_cons c.in-Some.item.now c.in-Some.more.now) at c.loop-item.invariant.walkable in
+    let size = ap csstmts_size (ap csstmts_from c.in-Some.ensures.cases.0 ∙ csstmts_cons c.in-Some.item.now c.in-Some.more.now) in
+    let within = c.loop-item.invariant.size in
+    let passes = rw (c.in-Some.ensures.cases.0, csstmts_cons c.in-Some.item.now c.in-Some.more.now) at c.loop-item.invariant.passes in
+    let among = rw (c.in-Some.ensures.cases.0, csstmts_cons c.in-Some.item.now c.in-Some.more.now) at c.loop-item.invariant.among in
+    record {
+      walkable = own.2;
+      size = omega (arith, size, within);
+      after_for = c.in_ok-after.ensures.is_for;
+      kept_for = c.in_ok-after.ensures.kept_for;
+      passes = passes_typed g.M.MemDomain.stands q c.args.to all item more1 c.args.heads.now c.args.flow c.loop-item.after c.in_ok-begun.begun c.in_ok-after.after
+          [] _ _ _ _ _ _ _ passes own.1 c.in_ok-begun.ensures.flow c.in_ok-begun.ensures.heads c.in_ok-begun.ensures.came c.in_ok-begun.ensures.gone
+          c.in_ok-begun.ensures.stays c.in_ok-after.ensures.sound c.in_ok-after.ensures.grows;
+      gains = gains_both q (Scope [] all) [] _ _ c.loop-item.invariant.gains
+          (gains_into q item (Scope [] all) _ _ (λ x d. among x (item_admits q item more1 x d)) c.in_ok-after.ensures.gains);
+      among = λ x d. among x (rest_admits q item more1 x d);
+    }
+
+pub one_pass-returns-clause-sound : goal.one_pass-returns-clause-sound
+one_pass-returns-clause-sound g t c =
+    let q = csprogram_tree c.args.program.now in
+    let passes = rw (nil_of c.loop-item.rest.now c.in_default.ensures.cases, csstmts_nil) at c.loop-item.invariant.passes in (
+      c.loop-item.gone.items,
+      passes_end (HasTyped g.M.MemDomain.stands q) q c.args.to (csstmts_from c.args.items.now) c.args.heads.now c.args.flow c.loop-item.after [] _ _ _ passes,
+    )
+
+-- ---- states that leave
+
+pub walk-returns-in_ok-keep-in-Exit-clause-sound : goal.walk-returns-in_ok-keep-in-Exit-clause-sound
+walk-returns-in_ok-keep-in-Exit-clause-sound g t c =
+    rw (c.in-Exit.is, csstmt_exit c.in-Exit.level)
+    (record {
+      by = λ over n s h. keeps_with g.M.MemDomain.stands (csprogram_tree c.args.program.now) _ (ways.Exit c.in-Exit.level) s
+          (c.in_ok-keep-in-Exit.ensures.new s h.0) h.1;
+    })
+
+pub walk-returns-in_ok-keep-in-Exit-clause-grows : goal.walk-returns-in_ok-keep-in-Exit-clause-grows
+walk-returns-in_ok-keep-in-Exit-clause-grows g t c =
+    grows_with g.M.MemDomain.stands (csprogram_tree c.args.program.now) c.args.to _ _ _ _ c.in_ok-keep-in-Exit.ensures.old (λ d at k x m h. h)
+
+pub walk-returns-in_ok-keep-in-Exit-clause-gains : goal.walk-returns-in_ok-keep-in-Exit-clause-gains
+walk-returns-in_ok-keep-in-Exit-clause-gains g t c = gains_none (csprogram_tree c.args.program.now) (csstmt_tree c.args.a.now) c.args.out.now.items
+
+pub walk-returns-in_ok-keep-in-Goto-clause-sound : goal.walk-returns-in_ok-keep-in-Goto-clause-sound
+walk-returns-in_ok-keep-in-Goto-clause-sound g t c =
+    rw (c.in-Goto.is, csstmt_goto c.in-Goto.label)
+    (record {
+      by = λ over n s h. keeps_with g.M.MemDomain.stands (csprogram_tree c.args.program.now) _ (ways.Goto c.in-Goto.label) s
+          (c.in_ok-keep-in-Goto.ensures.new s h.0) h.1;
+    })
+
+pub walk-returns-in_ok-keep-in-Goto-clause-grows : goal.walk-returns-in_ok-keep-in-Goto-clause-grows
+walk-returns-in_ok-keep-in-Goto-clause-grows g t c =
+    grows_with g.M.MemDomain.stands (csprogram_tree c.args.program.now) c.args.to _ _ _ _ c.in_ok-keep-in-Goto.ensures.old (λ d at k x m h. h)
+
+pub walk-returns-in_ok-keep-in-Goto-clause-gains : goal.walk-returns-in_ok-keep-in-Goto-clause-gains
+walk-returns-in_ok-keep-in-Goto-clause-gains g t c = gains_none (csprogram_tree c.args.program.now) (csstmt_tree c.args.a.now) c.args.out.now.items
+
+pub walk-returns-in_ok-after-in-Set-clause-gains : goal.walk-returns-in_ok-after-in-Set-clause-gains
+walk-returns-in_ok-after-in-Set-clause-gains g t c = gains_none (csprogram_tree c.args.program.now) (csstmt_tree c.args.a.now) c.args.out.now.items
+
+pub walk-returns-in_ok-after-in-Load-clause-gains : goal.walk-returns-in_ok-after-in-Load-clause-gains
+walk-returns-in_ok-after-in-Load-clause-gains g t c = gains_none (csprogram_tree c.args.program.now) (csstmt_tree c.args.a.now) c.args.out.now.items
+
+pub walk-returns-in_ok-after-in-Store-clause-gains : goal.walk-returns-in_ok-after-in-Store-clause-gains
+walk-returns-in_ok-after-in-Store-clause-gains g t c = gains_none (csprogram_tree c.args.program.now) (csstmt_tree c.args.a.now) c.args.out.now.items
+
+pub walk-returns-in_ok-after-in-CopyBytes-clause-gains : goal.walk-returns-in_ok-after-in-CopyBytes-clause-gains
+walk-returns-in_ok-after-in-CopyBytes-clause-gains g t c = gains_none (csprogram_tree c.args.program.now) (csstmt_tree c.args.a.now) c.args.out.now.items
+
+pub walk-returns-in_ok-after-in-Undefine-clause-gains : goal.walk-returns-in_ok-after-in-Undefine-clause-gains
+walk-returns-in_ok-after-in-Undefine-clause-gains g t c = gains_none (csprogram_tree c.args.program.now) (csstmt_tree c.args.a.now) c.args.out.now.items
+
+pub walk-returns-in_ok-after-in-Input-clause-gains : goal.walk-returns-in_ok-after-in-Input-clause-gains
+walk-returns-in_ok-after-in-Input-clause-gains g t c = gains_none (csprogram_tree c.args.program.now) (csstmt_tree c.args.a.now) c.args.out.now.items
+
+pub walk-returns-in_ok-after-in-Assume-clause-gains : goal.walk-returns-in_ok-after-in-Assume-clause-gains
+walk-returns-in_ok-after-in-Assume-clause-gains g t c = gains_none (csprogram_tree c.args.program.now) (csstmt_tree c.args.a.now) c.args.out.now.items
+
+pub walk-returns-in_ok-walk_return-in-Return-clause-gains : goal.walk-returns-in_ok-walk_return-in-Return-clause-gains
+walk-returns-in_ok-walk_return-in-Return-clause-gains g t c = gains_none (csprogram_tree c.args.program.now) (csstmt_tree c.args.a.now) c.args.out.now.items
+
+pub walk-returns-in-Label-clause-gains : goal.walk-returns-in-Label-clause-gains
+walk-returns-in-Label-clause-gains g t c = gains_none (csprogram_tree c.args.program.now) (csstmt_tree c.args.a.now) c.args.out.now.items
+
+pub walk-returns-in-Nothing-clause-gains : goal.walk-returns-in-Nothing-clause-gains
+walk-returns-in-Nothing-clause-gains g t c = gains_none (csprogram_tree c.args.program.now) (csstmt_tree c.args.a.now) c.args.out.now.items
+
+pub walk-returns-in_ok-walk_return-in-Return-clause-grows : goal.walk-returns-in_ok-walk_return-in-Return-clause-grows
+walk-returns-in_ok-walk_return-in-Return-clause-grows g t c =
+    grows_with g.M.MemDomain.stands (csprogram_tree c.args.program.now) c.args.to _ _ _ _ c.in_ok-walk_return-in-Return.ensures.keeps (λ d at k x m h. h)
+
+pub walk_loop-loop-turns-init : goal.walk_loop-loop-turns-init
+walk_loop-loop-turns-init g t c =
+    let q = csprogram_tree c.args.program.now in
+    record {
+      is_for = c.requires.is_for;
+      kept_for = c.requires.kept_for;
+      unrolled = λ at. unrolled_none (HasTyped g.M.MemDomain.stands q) q c.args.to at (csstmt_tree c.args.body.now) c.args.state c.args.kept.now.items c.args.out.now.items;
+      grows = grows_none (HasTyped g.M.MemDomain.stands q) q c.args.to c.args.kept.now.items c.args.out.now.items;
+      gains = gains_none q (csstmt_tree c.args.body.now) c.args.out.now.items;
+    }
+
+-- ---- heads
+
+pub settle_heads-returns-in-Same-clause-is_for : goal.settle_heads-returns-in-Same-clause-is_for
+settle_heads-returns-in-Same-clause-is_for g t c = λ p e.
+    let q = csprogram_tree c.args.program.now in
+    subst (λ r. SomeFor g.M.MemDomain.is_for q r.after × AllFor g.M.MemDomain.is_for q r.kept.items) (closed_is _ p e)
+    (c.in_ok-pass.ensures.is_for.0, c.in_ok-next.ensures.kept_for q c.in_ok-pass.ensures.is_for.1)
+
+pub settle_heads-returns-in-Same-clause-sound : goal.settle_heads-returns-in-Same-clause-sound
+settle_heads-returns-in-Same-clause-sound g t c = λ p e.
+    let q = csprogram_tree c.args.program.now in
+    let all = csstmts_from c.args.items.now in
+    let pass = rw (c.as_slice.ensures.value, c.in_ok-start.ensures) at c.in_ok-pass.ensures.sound in
+    subst
+    (λ r. CoveredAll (HasTyped g.M.MemDomain.stands q) q c.args.to all (Begins (HasTyped g.M.MemDomain.stands q) all c.args.heads.items c.args.flow.now) r.after
+    r.kept.items r.out.items)
+    (closed_is _ p e)
+    (closed_typed g.M.MemDomain.stands q c.args.to all c.args.heads.items c.loop-heads.heads.items c.args.flow.now c.in_ok-pass.pass.after pass.0 _ _ _
+    c.loop-heads.invariant.labels c.loop-heads.invariant.among c.loop-heads.invariant.old pass.1 (c.in_ok-next.ensures.closed c.in-Same.is)
+    c.in_ok-next.ensures.left)
+
+pub settle_heads-returns-in-New-clause-more : goal.settle_heads-returns-in-New-clause-more
+settle_heads-returns-in-New-clause-more g t c = λ h e.
+    let q = csprogram_tree c.args.program.now in
+    let less = c.in_ok-next.ensures.new c.in-New.is in
+    let within = c.loop-heads.invariant.fewer in
+    subst (λ r. IsMore g.M.MemDomain.is_for g.M.MemDomain.stands q (csstmts_from c.args.items.now) c.args.heads.items r.items) (more_is _ h e)
+    (record {
+      is_for = c.in_ok-next.ensures.heads_for q c.loop-heads.invariant.heads_for c.in_ok-pass.ensures.is_for.1;
+      labels = λ l d. c.in_ok-next.ensures.there l (c.loop-heads.invariant.labels l d);
+      among = λ l d. c.loop-heads.invariant.among l (c.in_ok-next.ensures.only l d);
+      fewer = omega (arith, less, within);
+      old = λ mark s k. c.in_ok-next.ensures.old mark s (c.loop-heads.invariant.old mark s k);
+    })
+
+pub settle_heads-loop-heads-preserved-in-Wider : goal.settle_heads-loop-heads-preserved-in-Wider
+settle_heads-loop-heads-preserved-in-Wider g t c =
+    let q = csprogram_tree c.args.program.now in
+    let less = c.in_ok-next.ensures.fewer in
+    let within = c.loop-heads.invariant.fewer in
+    record {
+      heads_for = c.in_ok-next.ensures.heads_for q c.loop-heads.invariant.heads_for c.in_ok-pass.ensures.is_for.1;
+      labels = λ l d. c.in_ok-next.ensures.there l (c.loop-heads.invariant.labels l d);
+      among = λ l d. c.loop-heads.invariant.among l (c.in_ok-next.ensures.only l d);
+      old = λ mark s k. c.in_ok-next.ensures.old mark s (c.loop-heads.invariant.old mark s k);
+      fewer = omega (arith, less, within);
+    }
+
+pub settle_heads-loop-heads-preserved : goal.settle_heads-loop-heads-preserved
+settle_heads-loop-heads-preserved g t c =
+    let q = csprogram_tree c.args.program.now in
+    let less = c.in_ok-next.ensures.fewer in
+    let within = c.loop-heads.invariant.fewer in
+    record {
+      heads_for = c.in_ok-next.ensures.heads_for q c.loop-heads.invariant.heads_for c.in_ok-pass.ensures.is_for.1;
+      labels = λ l d. c.in_ok-next.ensures.there l (c.loop-heads.invariant.labels l d);
+      among = λ l d. c.loop-heads.invariant.among l (c.in_ok-next.ensures.only l d);
+      old = λ mark s k. c.in_ok-next.ensures.old mark s (c.loop-heads.invariant.old mark s k);
+      fewer = omega (arith, less, within);
+    }
+
+pub walk_all-returns-then-not-has_label-clause-sound : goal.walk_all-returns-then-not-has_label-clause-sound
+walk_all-returns-then-not-has_label-clause-sound g t c =
+    let q = csprogram_tree c.args.program.now in
+    let pass = rw c.as_slice.ensures.value at c.in_ok-pass.ensures.sound in
+    let none : c.has_label.result ≡ false = search rules in
+    plain_pass (HasTyped g.M.MemDomain.stands q) q c.args.to (csstmts_from c.args.items.now) c.args.heads.items c.args.flow c.in_ok-pass.pass.after pass.0 _ _
+    (c.has_label.ensures none) pass.1
+
+pub walk_all-loop-flow-init : goal.walk_all-loop-flow-init
+walk_all-loop-flow-init g t c = record {
+  heads_for = c.in_ok-add_labels.ensures.is_for (csprogram_tree c.args.program.now) c.requires.heads_for;
+  labels = c.in_ok-add_labels.ensures.labels;
+  among = λ l h. ⊎_elim (λ a. absurd (c.requires.no_labels l a)) (λ e. e) (c.in_ok-add_labels.ensures.only l h);
+  old = c.in_ok-add_labels.ensures.old;
+  same_flow = refl;
+}
+
+pub walk_all-settle_heads-requires : goal.walk_all-settle_heads-requires
+walk_all-settle_heads-requires g t c = λ κs le. (
+  omega (arith, c.decreases),
+  (
+    le.0,
+    (
+      le.1.0,
+      (
+        le.1.1,
+        (
+          c.requires.ramp,
+          (
+            c.requires.walkable,
+            (
+              c.requires.target,
+              (
+                rw c.loop-flow.invariant.same_flow c.requires.flow_for,
+                (c.loop-flow.invariant.heads_for, (c.loop-flow.invariant.labels, c.loop-flow.invariant.among)),
+              ),
+            ),
+          ),
+        ),
+      ),
+    ),
+  ),
+)
+
+pub walk_all-returns-in-Closed-clause-sound : goal.walk_all-returns-in-Closed-clause-sound
+walk_all-returns-in-Closed-clause-sound g t c = λ over n from s h.
+    let q = csprogram_tree c.args.program.now in
+    let all = csstmts_from c.args.items.now in
+    let sound = rw c.loop-flow.invariant.same_flow at c.in_ok-pass-2.ensures.sound in
+    sound c.in-Closed.pass c.in-Closed.is over n from s
+    (begins_more (HasTyped g.M.MemDomain.stands q) all c.args.heads.items c.loop-flow.heads.items c.args.flow
+    (head_on g.M.MemDomain.stands q c.args.heads.items c.loop-flow.heads.items c.loop-flow.invariant.old) from s h)
+
+pub walk_all-loop-flow-preserved : goal.walk_all-loop-flow-preserved
+walk_all-loop-flow-preserved g t c =
+    let more1 = c.in_ok-pass-2.ensures.more c.in-More.more c.in-More.is in
+    record {
+      heads_for = more1.is_for;
+      labels = more1.labels;
+      among = more1.among;
+      old = λ mark s k. more1.old mark s (c.loop-flow.invariant.old mark s k);
+      same_flow = c.loop-flow.invariant.same_flow;
+    }
+
+pub walk_switch-merge_either-requires : goal.walk_switch-merge_either-requires
+walk_switch-merge_either-requires g t c =
+    let q = csprogram_tree c.args.program.now in
+    record { one = (q, c.in_ok-ended.ensures.is_for q c.in_ok-pass.ensures.is_for.0, c.in_ok-heads.ensures.left_for) }
+
+pub walk_switch-returns-clause-is_for : goal.walk_switch-returns-clause-is_for
+walk_switch-returns-clause-is_for g t c =
+    let q = csprogram_tree c.args.program.now in
+    c.in_ok-after.ensures.is_for q (c.in_ok-ended.ensures.is_for q c.in_ok-pass.ensures.is_for.0) c.in_ok-heads.ensures.left_for
+
+pub walk_switch-returns-clause-kept_for : goal.walk_switch-returns-clause-kept_for
+walk_switch-returns-clause-kept_for g t c =
+    c.in_ok-leave_scope.ensures.kept_for (csprogram_tree c.args.program.now) c.in_ok-pass.ensures.is_for.1 c.requires.kept_for
+
+pub walk_switch-returns-clause-sound : goal.walk_switch-returns-clause-sound
+walk_switch-returns-clause-sound g t c =
+    let q = csprogram_tree c.args.program.now in
+    let all = csstmts_tree c.args.items.now in
+    let parted = rw (c.as_slice.ensures, c.as_slice-names.ensures) at c.in_ok-cases.ensures.parted in
+    let entered = rw (c.as_slice-2.ensures, c.as_slice-names.ensures) at c.in_ok-heads.ensures.entered in
+    let past = rw c.as_slice-2.ensures at c.in_ok-heads.ensures.behind in
+    let pass = rw c.as_slice-3.ensures at c.in_ok-pass.ensures.sound in
+    let behind = rw c.as_slice-names.ensures at c.in_ok-ended.ensures.after in
+    let left = rw c.as_slice-names.ensures at c.in_ok-leave_scope.ensures.left in
+    switch_typed g.M.MemDomain.stands q c.args.to c.actions_keep_states_typed.ensures.enter c.actions_keep_states_typed.ensures.leave c.values_are_typed.ensures
+    (csexpr_tree c.args.value.now) c.args.objects.now all c.args.state _ _ _ _ _ c.in_ok-ended.ended c.in_ok-after.after _ _ _ _ c.requires.walkable.1
+    c.requires.walkable.0.numbers.2 parted c.in_ok-heads.ensures.old entered past pass (c.in_ok-add_alarms.ensures.new q) behind left
+    c.in_ok-after.ensures.first c.in_ok-after.ensures.second

@@ -1,4 +1,0 @@
-use Rattle.layer_tests.proofs.matrices.counts_steps.Given as goal
-
-abbrev pub ghosts-steps_of_closing : goal.ghosts-steps_of_closing
-ghosts-steps_of_closing g a = record { name = a.blank.name; parts = a.blank.parts }

@@ -1,0 +1,3 @@
+pub mod Right
+pub mod Every
+pub mod Laws

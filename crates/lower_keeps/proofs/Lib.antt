@@ -1,0 +1,6 @@
+mod Main
+mod Ends
+mod Kept
+mod Told
+mod Opened
+mod Values

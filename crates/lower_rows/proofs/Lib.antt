@@ -1,0 +1,9 @@
+pub mod Steps
+pub mod Rows
+pub mod Operators
+pub mod Sim
+pub mod Jumps
+pub mod ZeroCells
+pub mod Initials
+pub mod Copies
+pub mod Tests

@@ -1,0 +1,5 @@
+mod Failures
+mod Jumps
+mod Calls
+mod Initials
+mod Values

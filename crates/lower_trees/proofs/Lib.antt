@@ -1,0 +1,4 @@
+pub mod ZeroBytes
+pub mod NamedPlaces
+pub mod ZerosTried
+pub mod Samples

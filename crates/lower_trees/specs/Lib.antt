@@ -1,0 +1,10 @@
+pub mod Temps
+pub mod Checking
+pub mod ZeroStores
+pub mod Zeros
+pub mod LowerExpr
+pub mod LowerStmt
+pub mod LowerProgram
+pub mod Correct
+pub mod Named
+pub mod Samples

@@ -1,0 +1,3 @@
+mod Cells
+mod Descent
+mod Marks

@@ -1,0 +1,12 @@
+pub mod Valuations
+pub mod Ranges
+pub mod Bytes
+pub mod Steps
+pub mod Wider
+pub mod Stores
+pub mod Joins
+pub mod Ends
+pub mod Begins
+pub mod Fills
+pub mod Weights
+pub mod Sets

@@ -1,0 +1,5 @@
+pub mod Options
+pub mod Acts
+pub mod Nodes
+pub mod Moves
+pub mod Made

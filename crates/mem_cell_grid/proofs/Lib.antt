@@ -1,0 +1,4 @@
+pub mod Lists
+pub mod Cutting
+pub mod Endings
+pub mod Meetings

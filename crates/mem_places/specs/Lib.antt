@@ -1,0 +1,5 @@
+pub mod Places
+pub mod ShownPlaces
+pub mod Totals
+pub mod Sides
+pub mod Units

@@ -1,0 +1,9 @@
+pub mod Classes
+pub mod Ends
+pub mod Hits
+pub mod Unfailing
+pub mod Matches
+pub mod Showings
+pub mod Together
+pub mod Having
+pub mod Hulling

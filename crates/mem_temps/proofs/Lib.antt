@@ -1,0 +1,14 @@
+pub mod Bounds
+pub mod Amounts
+pub mod Lists
+pub mod Results
+pub mod Valued
+pub mod Ranged
+pub mod Exacted
+pub mod Showed
+pub mod Checking
+pub mod ByKind
+pub mod Wraps
+pub mod Kept
+pub mod Siding
+pub mod Testing

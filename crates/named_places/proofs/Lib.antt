@@ -1,3 +1,0 @@
-pub mod Moving
-pub mod Shifting
-pub mod Showing

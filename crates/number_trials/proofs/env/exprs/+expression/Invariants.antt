@@ -1,4 +1,0 @@
-use Rattle.number_trials.proofs.env.exprs.+expression.Given as goal
-
-abbrev pub decreases-expression : goal.decreases-expression
-decreases-expression l = l.levels

@@ -1,5 +1,0 @@
-use Rattle.num_api.proofs.PowersRamp.{powers_answer}
-use Rattle.numbers_table.proofs.env.steps.settled.Goals as goal
-
-pub new-ramp-requires : goal.new-ramp-requires
-new-ramp-requires g = powers_answer _ _ _ (λ n small. tt) (λ n r small post. search post)

@@ -1,6 +1,0 @@
-use Rattle.std.proofs.Common.{arith, length}
-use Rattle.object_cells.proofs.Lists.{nothing_left}
-use Rattle.object_cells.proofs.cells.Cells.forget.Goals as goal
-
-pub returns : goal.returns
-returns c = nothing_left c.loop-x.self (length c.args.self.now) c.loop-x.invariant.size (λ k h. c.loop-x.invariant.none k (omega arith))

@@ -1,9 +1,0 @@
-use Rattle.std.proofs.Common.{◌≡◌, ℕ, ◌<◌, length, None}
-use Rattle.object_cells.specs.Cells.{cell_of}
-use Rattle.object_cells.proofs.cells.Cells.forget.Given as goal
-
-abbrev pub invariant-loop-x : goal.invariant-loop-x
-invariant-loop-x l = record {
-  size : length l.self ≡ length l.initial.self;
-  none : (k : ℕ) → k < l.x → cell_of l.self k ≡ None;
-}

@@ -1,7 +1,0 @@
-use Rattle.std.proofs.Common.{sym, ◌∙◌}
-use Rattle.object_cells.proofs.Lists.{some_copy}
-use Rattle.object_cells.proofs.copies.Copies.covers.Goals as goal
-
-pub returns-then-not-covers_one-clause-no : goal.returns-then-not-covers_one-clause-no
-returns-then-not-covers_one-clause-no c = λ e.
-    let s = c.covers_one.ensures.no c.if-not-covers_one.true in some_copy c.args.self.now c.loop-temp.temp s.0 (sym c.get.ensures ∙ s.1)

@@ -1,7 +1,0 @@
-use Rattle.std.proofs.Common.{◌≡◌, drop}
-use Rattle.object_cells.specs.Copies.{without_all}
-use Rattle.object_cells.proofs.copies.Copies.forget_objects.Given as goal
-
--- those that are left are forgotten too
-abbrev pub invariant-loop-object : goal.invariant-loop-object
-invariant-loop-object l = without_all (drop l.object-index l.objects) l.self ≡ without_all l.objects l.initial.self

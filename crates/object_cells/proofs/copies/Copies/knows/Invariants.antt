@@ -1,6 +1,0 @@
-use Rattle.std.proofs.Common.{◌≡◌, ℕ, ◌<◌, None}
-use Rattle.object_cells.specs.Copies.{copy_of}
-use Rattle.object_cells.proofs.copies.Copies.knows.Given as goal
-
-abbrev pub invariant-loop-temp : goal.invariant-loop-temp
-invariant-loop-temp l = (k : ℕ) → k < l.temp → copy_of l.self k ≡ None

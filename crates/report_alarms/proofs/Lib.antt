@@ -1,0 +1,5 @@
+pub mod Joins
+pub mod Keys
+pub mod Named
+pub mod Names
+pub mod Rows

@@ -1,0 +1,5 @@
+use Rattle.num_api.proofs.PowersRamp.{powers_answer}
+use Rattle.table_numbers.proofs.domains.widened.Goals as goal
+
+pub new-ramp-requires : goal.new-ramp-requires
+new-ramp-requires g c = powers_answer _ _ _ (λ n small. tt) (λ n r small post. search post)

@@ -1,9 +1,0 @@
-use Rattle.std.proofs.Common.{sym, subst}
-use Rattle.c_syntax.specs.declared.operator.TUnaryOp.{TUnaryOp}
-use Rattle.temp_ranges.specs.Checks.{IsExactUnary}
-use Rattle.temp_ranges.proofs.Exacted.{exact_minus}
-use Rattle.temp_ranges.proofs.exacts.exact_unary.Goals as goal
-
-pub returns-in-Minus : goal.returns-in-Minus
-returns-in-Minus c = subst (λ (x : TUnaryOp). IsExactUnary x c.args.r c.unary_range.result) (sym c.in-Minus.is)
-    (exact_minus c.in-Minus.field-0 c.args.r c.unary_range.result (c.unary_range.ensures.holds, c.unary_range.ensures.point, c.unary_range.ensures.plain))

@@ -1,0 +1,17 @@
+use Rattle.std.proofs.Common.{◌≡◌, true, false}
+use Rattle.csharp.specs.Trees.{csexpr_tree, csprogram_tree}
+use Rattle.walk_owes.specs.Owes.{HasTyped}
+use Rattle.walk_owes.proofs.Steps.{assume_sound}
+use Rattle.walk_acts.proofs.acts.walk_assume.Goals as goal
+
+pub returns-in-Live-clause-sound : goal.returns-in-Live-clause-sound
+returns-in-Live-clause-sound g c = λ to kept out.
+    let q = csprogram_tree c.args.program.now in
+    assume_sound (HasTyped g.M.MemDomain.stands q) q to (csexpr_tree c.args.condition.now) c.args.state _ kept out
+    (λ s v h i t. ((c.in_ok-assume.ensures.stands s v h.0 i t).1, h.1))
+
+pub returns-in-Dead-clause-sound : goal.returns-in-Dead-clause-sound
+returns-in-Dead-clause-sound g c = λ to kept out.
+    let q = csprogram_tree c.args.program.now in
+    assume_sound (HasTyped g.M.MemDomain.stands q) q to (csexpr_tree c.args.condition.now) c.args.state _ kept out
+    (λ s v h i t. let z = (c.in_ok-assume.ensures.stands s v h.0 i t).0 in let y : false ≡ true = rw c.in-Dead.is at z in absurd (cc))

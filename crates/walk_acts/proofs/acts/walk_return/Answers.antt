@@ -1,0 +1,29 @@
+use Rattle.std.proofs.Common.{Some}
+use Rattle.csharp.specs.Trees.{csexpr_tree, csprogram_tree}
+use Rattle.walk_owes.specs.declared.way.Way.TheVariants as ways
+use Rattle.walk_owes.specs.Owes.{HasTyped, returned}
+use Rattle.walk_owes.proofs.Acting.{none_typed, return_sound, value_typed}
+use Rattle.walk_owes.proofs.Typed.{keeps_with}
+use Rattle.walk_acts.proofs.acts.walk_return.Goals as goal
+
+pub keep-requires : goal.keep-requires
+keep-requires g c =
+    let q = csprogram_tree c.args.program.now in
+    record { one = (q, c.requires.kept_for, c.in_ok-give.ensures.is_for q c.requires.is_for) }
+
+pub returns-clause-kept_for : goal.returns-clause-kept_for
+returns-clause-kept_for g c =
+    let q = csprogram_tree c.args.program.now in
+    c.in_ok-keep.ensures.is_for q c.requires.kept_for (c.in_ok-give.ensures.is_for q c.requires.is_for)
+
+pub returns-clause-sound : goal.returns-clause-sound
+returns-clause-sound g c = λ out.
+    let q = csprogram_tree c.args.program.now in
+    let sets = c.actions_keep_states_typed.ensures.set in
+    return_sound (HasTyped g.M.MemDomain.stands q) q c.args.to c.args.state c.keep.new.kept.items out c.args.value.now
+    (λ s e h. keeps_with g.M.MemDomain.stands q c.keep.new.kept.items ways.Return _ (c.in_ok-keep.ensures.new _ (c.in_ok-give.ensures.none s e h.0))
+    (none_typed sets q c.args.to s c.requires.target h.1))
+    (λ x s v e h i. let given = rw e at c.requires.given in
+    keeps_with g.M.MemDomain.stands q c.keep.new.kept.items ways.Return (returned c.args.to (Some v) s)
+    (c.in_ok-keep.ensures.new (returned c.args.to (Some v) s) (c.in_ok-give.ensures.some x s v e h.0 i))
+    (value_typed sets q c.args.to s (csexpr_tree x) v c.requires.target given i h.1))

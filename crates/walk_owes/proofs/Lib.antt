@@ -1,0 +1,16 @@
+pub mod Lists
+pub mod Steps
+pub mod Passing
+pub mod Fuel
+pub mod Scopes
+pub mod Variants
+pub mod Heads
+pub mod Entering
+pub mod Closing
+pub mod Typed
+pub mod Admits
+pub mod Switches
+pub mod Marked
+pub mod Walks
+pub mod Acting
+pub mod Typing
