@@ -1,7 +1,7 @@
 use Rattle.num_api.proofs.PowersRamp.{powers_answer}
 use Rattle.std.proofs.Common.{◌≡◌, refl, sym, ap, ◌∙◌, []}
 use Rattle.csharp.specs.Trees.{CsProgramTree}
-use Rattle.mem_api.specs.declared.tests.Everything.{Everything}
+use Rattle.tests_layers.specs.declared.all_states.Everything.{Everything}
 use Rattle.tests_layers.proofs.all_states.settles.Goals as goal
 
 pub new-ramp-requires : goal.new-ramp-requires
