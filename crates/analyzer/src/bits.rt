@@ -7,7 +7,7 @@ ghost use Rattle.c_objects.specs.Statics.{AreEightBits, HasEightBits};
 use c_syntax::{InitByte, Initial};
 
 /// Reads each initial number, of which it is known then that it has eight bits.
-pub(crate) fn initials_have_eight_bits(initials: &[Initial])
+pub fn initials_have_eight_bits(initials: &[Initial])
     ensures { AreEightBits initials.now }
 {
     for initial in initials {

@@ -15,3 +15,4 @@ mod analysis;
 mod bits;
 
 pub use analysis::analyze;
+pub use bits::initials_have_eight_bits;

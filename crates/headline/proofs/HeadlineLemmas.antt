@@ -1,13 +1,14 @@
 -- One name, and the report of alarms.
 use Rattle.std.proofs.Common.{◌≡◌, ◌⊎◌, inl, inr, List, ℕ, Option, Some, None}
-use Rattle.std.specs.Prelude.{All, AllPairs, IfSome, IsSomeAnd}
+use Rattle.std.specs.Prelude.{false, IfSome, IsSomeAnd}
 use Rattle.c_syntax.specs.declared.alarm.Alarm.{Alarm}
 use Rattle.c_syntax.specs.Program.{TProgramTree}
-use Rattle.c_steps.specs.Sound.{IsSound}
-use Rattle.c_steps.specs.Admission.{IsAdmitted}
-use Rattle.c_steps.specs.Order.{Precedes, IsPrintable}
+use Rattle.c_syntax.specs.declared.program.Plan.{Plan}
+use Rattle.alarm_carried_laws.specs.Carried.{AreAlarmsOf}
+use Rattle.program_alarms.specs.Ready.{IsReady}
+use Rattle.report_alarms.specs.ReportText.{text_of}
+use Rattle.report_alarms.specs.Told.{told_of}
 use Rattle.headline.specs.Command.{IsCommand}
-use Rattle.report.specs.Report.{text_of}
 use Rattle.headline.specs.Read.{IsOneProgram}
 use Rattle.report.specs.Refusal.{RefusalTree}
 use Rattle.report.specs.RefusalText.{line_of}
@@ -39,16 +40,16 @@ pub refused : (name bytes text : List ℕ) (found : Option RefusalTree) → IsSo
 refused name bytes text None is line = absurd is
 refused name bytes text (Some r) is line = (r, is, line)
 
-pub report : (name bytes : List ℕ) (program : TProgramTree) (alarms : List Alarm) (text : List ℕ) → IsOneProgram bytes program
-    → IsSound program alarms → All (IsAdmitted program) alarms → AllPairs Precedes alarms → All IsPrintable alarms → text ≡ text_of name alarms → IsReport name bytes alarms text
-report name bytes program alarms text one sound admitted ordered printable text_is = record {
+-- the report of alarms of a program that is ready
+pub report : (name bytes : List ℕ) (program : TProgramTree) (plan : Plan) (alarms : List Alarm) (text : List ℕ) → IsReady program plan → IsOneProgram bytes program
+    → AreAlarmsOf program alarms → text ≡ text_of name (told_of program plan.main) false alarms → IsReport name bytes alarms text
+report name bytes program plan alarms text ready one alarms_are text_is = record {
   program = program;
+  main = plan.main;
   read = one.is;
   only = one.only;
   accepted = one.accepted;
-  sound = sound;
-  admitted = admitted;
-  ordered = ordered;
-  printable = printable;
+  main_is = ready.planned.main;
+  alarms_are = alarms_are;
   text_is = text_is;
 }

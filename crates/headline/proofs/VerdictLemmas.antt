@@ -17,10 +17,9 @@ use Rattle.c_rules.specs.Outcomes.{AdmittedIsNotRefused, RefusalsAreOne}
 use Rattle.c_rules.specs.Rules.{IsRefused}
 use Rattle.report.specs.RuleRefusals.{RuleRefusal}
 use Rattle.report.specs.RuleText.{names_of}
-use Rattle.constant_form.specs.Form.{IsBuilt}
-use Rattle.headline.specs.Program.{IsSource, IsTypedAs, IsAdmittedAs, IsProgram}
-use Rattle.report.specs.Refusal.{RefusalTree, FileTooLarge, Lexing, Syntax, Unsupported, TooDeep, Typing, Rule, NotBuilt, rule_without_calls, without_calls}
-use Rattle.headline.specs.Verdict.{IsUnparsed, IsUntyped, IsNotAdmitted, IsUnbuilt, IsRefusedFor}
+use Rattle.headline.specs.Program.{IsSource, IsTypedAs, IsAdmittedAs}
+use Rattle.report.specs.Refusal.{RefusalTree, FileTooLarge, Lexing, Syntax, Unsupported, TooDeep, Typing, Rule, rule_without_calls, without_calls}
+use Rattle.headline.specs.Verdict.{IsUnparsed, IsUntyped, IsNotAdmitted, IsRefusedFor}
 use Rattle.report.proofs.RuleLemmas.{asked, one_told}
 
 abbrev pub OneCut : Type 0
@@ -72,8 +71,8 @@ not_unparsed : OneCut → NotFileAndRefused → (bytes : List ℕ) (file : FileT
 not_unparsed cuts not_both bytes file why at (ts, cut, is) (us, other, (rest, refused, place)) =
     not_both ts.list rest why file is (subst (λ (v : Tokens). grammar.IsRefused v.list rest why) (cuts 0 bytes us ts other cut) refused)
 
-pub one_program : OneCut → OneFile → FilesHaveOne → (bytes : List ℕ) (a b : TProgramTree) → IsProgram bytes a → IsProgram bytes b → a ≡ b
-one_program cuts files outcomes bytes a b is other = one_typed cuts files outcomes bytes a b is.admitted.0 other.admitted.0
+pub one_program : OneCut → OneFile → FilesHaveOne → (bytes : List ℕ) (a b : TProgramTree) → IsAdmittedAs bytes a → IsAdmittedAs bytes b → a ≡ b
+one_program cuts files outcomes bytes a b is other = one_typed cuts files outcomes bytes a b is.0 other.0
 
 -- a program that is admitted is refused for no rule
 not_ruled : OneCut → OneFile → FilesHaveOne → AdmittedIsNotRefused → (bytes : List ℕ) (tree : TProgramTree) (names : List (List ℕ)) (r : RuleRefusal) → IsAdmittedAs bytes tree → IsNotAdmitted bytes names r → ⊥
@@ -81,25 +80,17 @@ not_ruled cuts files outcomes admits bytes tree names r (typed, admitted) (other
     let same : other ≡ tree = one_typed cuts files outcomes bytes other tree found typed in
     asked error r told (admits tree error admitted (subst (λ (p : TProgramTree). IsRefused p error) same refused))
 
--- what is admitted is not refused but for its form
-not_both_typed :
-    OneCut → NotCutAndUncut → OneFile → NotFileAndRefused → FilesHaveOne → AdmittedIsNotRefused → (bytes : List ℕ) (tree : TProgramTree) (r : RefusalTree)
-    → length bytes ≤ 4194304 → IsAdmittedAs bytes tree → IsBuilt tree → IsRefusedFor bytes r → ⊥
-not_both_typed cuts whole files parsed outcomes admits bytes tree FileTooLarge small typed form large = absurd (omega arith)
-not_both_typed cuts whole files parsed outcomes admits bytes tree (Lexing reason at) small ((file, (ts, cut, source), types), admitted) form (low, uncut) = whole 0 bytes ts at reason cut uncut
-not_both_typed cuts whole files parsed outcomes admits bytes tree (Syntax at) small ((file, source, types), admitted) form (low, r) = not_unparsed cuts parsed bytes file grammar.Syntax at source r
-not_both_typed cuts whole files parsed outcomes admits bytes tree (Unsupported c at) small ((file, source, types), admitted) form (low, r) = not_unparsed cuts parsed bytes file (grammar.Unsupported c) at source r
-not_both_typed cuts whole files parsed outcomes admits bytes tree (TooDeep at) small ((file, source, types), admitted) form (low, r) = not_unparsed cuts parsed bytes file grammar.TooDeep at source r
-not_both_typed cuts whole files parsed outcomes admits bytes tree (Typing r) small (typed, admitted) form (low, untyped) = not_untyped cuts files outcomes bytes tree r typed untyped
-not_both_typed cuts whole files parsed outcomes admits bytes tree (Rule names r) small typed form (low, refused) = not_ruled cuts files outcomes admits bytes tree names r typed refused
-not_both_typed cuts whole files parsed outcomes admits bytes tree NotBuilt small (typed, admitted) form (low, (other, (found, also), none)) =
-    none (subst IsBuilt (one_typed cuts files outcomes bytes tree other typed found) form)
-
+-- what is admitted is not refused
 pub not_both :
-    OneCut → NotCutAndUncut → OneFile → NotFileAndRefused → FilesHaveOne → AdmittedIsNotRefused → (bytes : List ℕ) (program : TProgramTree) (r : RefusalTree) → length bytes ≤ 4194304
-    → IsProgram bytes program → IsRefusedFor bytes r → ⊥
-not_both cuts whole files parsed outcomes admits bytes program r small is refused =
-    not_both_typed cuts whole files parsed outcomes admits bytes program r small is.admitted is.built refused
+    OneCut → NotCutAndUncut → OneFile → NotFileAndRefused → FilesHaveOne → AdmittedIsNotRefused → (bytes : List ℕ) (tree : TProgramTree) (r : RefusalTree)
+    → length bytes ≤ 4194304 → IsAdmittedAs bytes tree → IsRefusedFor bytes r → ⊥
+not_both cuts whole files parsed outcomes admits bytes tree FileTooLarge small typed large = absurd (omega arith)
+not_both cuts whole files parsed outcomes admits bytes tree (Lexing reason at) small ((file, (ts, cut, source), types), admitted) (low, uncut) = whole 0 bytes ts at reason cut uncut
+not_both cuts whole files parsed outcomes admits bytes tree (Syntax at) small ((file, source, types), admitted) (low, r) = not_unparsed cuts parsed bytes file grammar.Syntax at source r
+not_both cuts whole files parsed outcomes admits bytes tree (Unsupported c at) small ((file, source, types), admitted) (low, r) = not_unparsed cuts parsed bytes file (grammar.Unsupported c) at source r
+not_both cuts whole files parsed outcomes admits bytes tree (TooDeep at) small ((file, source, types), admitted) (low, r) = not_unparsed cuts parsed bytes file grammar.TooDeep at source r
+not_both cuts whole files parsed outcomes admits bytes tree (Typing r) small (typed, admitted) (low, untyped) = not_untyped cuts files outcomes bytes tree r typed untyped
+not_both cuts whole files parsed outcomes admits bytes tree (Rule names r) small typed (low, refused) = not_ruled cuts files outcomes admits bytes tree names r typed refused
 
 -- the refusal of a token
 abbrev parsing : Why → Pos → RefusalTree
@@ -111,7 +102,6 @@ parsing grammar.TooDeep at = TooDeep at
 data Late (bytes : List ℕ) (r : RefusalTree) : Type 0 where
   untyped : (refusal : typing.Refusal) → IsUntyped bytes refusal → r ≡ Typing refusal → Late bytes r
   ruled : (names : List (List ℕ)) (refusal : RuleRefusal) → IsNotAdmitted bytes names refusal → r ≡ Rule names refusal → Late bytes r
-  unbuilt : IsUnbuilt bytes → r ≡ NotBuilt → Late bytes r
 
 -- why bytes that are not too many are refused
 data Cause (bytes : List ℕ) (r : RefusalTree) : Type 0 where
@@ -132,8 +122,6 @@ kind_of bytes (TooDeep at) (low, is) = small low (unparsed grammar.TooDeep at is
 kind_of bytes (Typing r) (low, (file, source, types)) = small low (late file source (untyped r (file, source, types) refl))
 kind_of bytes (Rule names r) (low, (tree, (file, source, types), names_are, refused)) =
     small low (late file source (ruled names r (tree, (file, source, types), names_are, refused) refl))
-kind_of bytes NotBuilt (low, (tree, ((file, source, types), admitted), none)) =
-    small low (late file source (unbuilt (tree, ((file, source, types), admitted), none) refl))
 
 one_unparsed : OneCut → OneRefusal → (bytes : List ℕ) (why other : Why) (at to : Pos) → IsUnparsed bytes why at → IsUnparsed bytes other to → parsing why at ≡ parsing other to
 one_unparsed cuts refusal bytes why other at to (ts, cut, (rest, refused, place)) (us, cut_too, (more, refused_too, place_too)) =
@@ -169,15 +157,10 @@ one_late : LateLaws → (bytes : List ℕ) (a b : RefusalTree) → Late bytes a 
 one_late laws bytes a b (untyped r is e) (untyped s also f) = ap without_calls (e ∙ ap Typing (one_untyped laws.cuts laws.files laws.outcomes bytes r s is also) ∙ sym f)
 one_late laws bytes a b (untyped r is e) (ruled names s also f) =
     let (tree, typed) = typed_of bytes names s also in absurd (not_untyped laws.cuts laws.files laws.outcomes bytes tree r typed is)
-one_late laws bytes a b (untyped r is e) (unbuilt (tree, (typed, admitted), none) f) = absurd (not_untyped laws.cuts laws.files laws.outcomes bytes tree r typed is)
 one_late laws bytes a b (ruled names r is e) (untyped s also f) =
     let (tree, typed) = typed_of bytes names r is in absurd (not_untyped laws.cuts laws.files laws.outcomes bytes tree s typed also)
 one_late laws bytes a b (ruled names r is e) (ruled others s also f) =
     ap without_calls e ∙ one_ruled laws.cuts laws.files laws.outcomes laws.refusals bytes names others r s is also ∙ sym (ap without_calls f)
-one_late laws bytes a b (ruled names r is e) (unbuilt (tree, admitted, none) f) = absurd (not_ruled laws.cuts laws.files laws.outcomes laws.admits bytes tree names r admitted is)
-one_late laws bytes a b (unbuilt (tree, (typed, admitted), none) e) (untyped r also f) = absurd (not_untyped laws.cuts laws.files laws.outcomes bytes tree r typed also)
-one_late laws bytes a b (unbuilt (tree, admitted, none) e) (ruled names r also f) = absurd (not_ruled laws.cuts laws.files laws.outcomes laws.admits bytes tree names r admitted also)
-one_late laws bytes a b (unbuilt is e) (unbuilt also f) = ap without_calls (e ∙ sym f)
 
 one_cause : LateLaws → OneUncut → NotCutAndUncut → OneRefusal → NotFileAndRefused → (bytes : List ℕ) (a b : RefusalTree) → Cause bytes a → Cause bytes b → without_calls a ≡ without_calls b
 one_cause laws uncuts whole refusal parsed bytes a b (uncut reason at is e) (uncut other to also f) = let (p, q) = uncuts 0 bytes at to reason other is also in ap without_calls cc

@@ -1,14 +1,14 @@
 -- What a run may answer: every execution that goes wrong is listed, and what is listed is admitted and shown.
-use Rattle.std.specs.Prelude.{◌≡◌, ◌≢◌, ℕ, List, [], All, AllPairs}
+use Rattle.std.specs.Prelude.{◌≡◌, ◌≢◌, ℕ, Some, false, List, []}
 use Rattle.c_syntax.specs.declared.alarm.Alarm.{Alarm}
 use Rattle.headline.specs.declared.status.Status.{Status}
 use Rattle.headline.specs.declared.status.Status.TheVariants.{NoAlarm, Alarms, Refused, Usage, ReadFault, NoMemory}
 use Rattle.c_syntax.specs.Program.{TProgramTree}
-use Rattle.headline.specs.Program.{IsProgram}
-use Rattle.c_steps.specs.Sound.{IsSound}
-use Rattle.c_steps.specs.Admission.{IsAdmitted}
-use Rattle.c_steps.specs.Order.{Precedes, IsPrintable}
-use Rattle.report.specs.Report.{text_of}
+use Rattle.c_layout.specs.MainFunction.{main_of}
+use Rattle.headline.specs.Program.{IsAdmittedAs}
+use Rattle.alarm_carried_laws.specs.Carried.{AreAlarmsOf}
+use Rattle.report_alarms.specs.ReportText.{text_of}
+use Rattle.report_alarms.specs.Told.{told_of}
 use Rattle.report.specs.Refusal.{RefusalTree}
 use Rattle.report.specs.RefusalText.{line_of}
 use Rattle.headline.specs.Verdict.{IsRefusedFor}
@@ -16,14 +16,13 @@ use Rattle.headline.specs.Verdict.{IsRefusedFor}
 -- the text is the report of these alarms on the one program of the bytes, which are not refused
 pub record IsReport (name bytes : List ℕ) (alarms : List Alarm) (text : List ℕ) : Type 0 where
   pub program : TProgramTree
-  pub read : IsProgram bytes program
-  pub only : (other : TProgramTree) → IsProgram bytes other → other ≡ program
+  pub main : ℕ
+  pub read : IsAdmittedAs bytes program
+  pub only : (other : TProgramTree) → IsAdmittedAs bytes other → other ≡ program
   pub accepted : (r : RefusalTree) → IsRefusedFor bytes r → ⊥
-  pub sound : IsSound program alarms
-  pub admitted : All (IsAdmitted program) alarms
-  pub ordered : AllPairs Precedes alarms
-  pub printable : All IsPrintable alarms
-  pub text_is : text ≡ text_of name alarms
+  pub main_is : main_of program ≡ Some main
+  pub alarms_are : AreAlarmsOf program alarms
+  pub text_is : text ≡ text_of name (told_of program main) false alarms
 
 -- the answer and its text, for a file of this name with these bytes
 abbrev pub IsAnswer : List ℕ → List ℕ → Status → List ℕ → Type 0

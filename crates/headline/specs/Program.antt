@@ -7,7 +7,6 @@ use Rattle.c_lexer.specs.Cut.{IsCut}
 use Rattle.c_grammar.specs.Refused.{IsFile}
 use Rattle.c_typing.specs.File.{TypesFile, Program}
 use Rattle.c_rules.specs.Rules.{IsAdmitted}
-use Rattle.constant_form.specs.Form.{IsBuilt}
 
 -- the bytes are cut into the tokens of this file, of which none is refused
 abbrev pub IsSource : List ℕ → FileTree → Type 0
@@ -17,11 +16,6 @@ IsSource bytes file = (ts : Tokens) × IsCut 0 bytes ts × IsFile ts.list file
 abbrev pub IsTypedAs : List ℕ → TProgramTree → Type 0
 IsTypedAs bytes typed = (file : FileTree) × IsSource bytes file × TypesFile file (Program typed)
 
--- and the rules admit it
+-- the bytes are this program: they have it, and the rules admit it
 abbrev pub IsAdmittedAs : List ℕ → TProgramTree → Type 0
 IsAdmittedAs bytes typed = IsTypedAs bytes typed × IsAdmitted typed
-
--- the bytes are this program, which is of the built form
-pub record IsProgram (bytes : List ℕ) (program : TProgramTree) : Type 0 where
-  pub admitted : IsAdmittedAs bytes program
-  pub built : IsBuilt program

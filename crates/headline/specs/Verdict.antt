@@ -15,9 +15,8 @@ use Rattle.c_rules.specs.declared.error.RuleError.{RuleError}
 use Rattle.c_rules.specs.Rules.{IsRefused}
 use Rattle.report.specs.RuleRefusals.{RuleRefusal, refusal_of}
 use Rattle.report.specs.RuleText.{names_of}
-use Rattle.constant_form.specs.Form.{IsBuilt}
-use Rattle.headline.specs.Program.{IsSource, IsTypedAs, IsAdmittedAs}
-use Rattle.report.specs.Refusal.{RefusalTree, FileTooLarge, Lexing, Syntax, Unsupported, TooDeep, Typing, Rule, NotBuilt}
+use Rattle.headline.specs.Program.{IsSource, IsTypedAs}
+use Rattle.report.specs.Refusal.{RefusalTree, FileTooLarge, Lexing, Syntax, Unsupported, TooDeep, Typing, Rule}
 
 -- the bytes are cut into tokens, of which the first that is refused stands at this place, for this reason; or it is their end
 abbrev pub IsUnparsed : List ℕ → Why → Pos → Type 0
@@ -35,12 +34,8 @@ IsRefusedBy typed r = (error : RuleError) × IsRefused typed error × (refusal_o
 abbrev pub IsNotAdmitted : List ℕ → List (List ℕ) → RuleRefusal → Type 0
 IsNotAdmitted bytes names r = (typed : TProgramTree) × IsTypedAs bytes typed × (names ≡ names_of typed) × IsRefusedBy typed r
 
--- the bytes are a typed program that the rules admit, of another form
-abbrev pub IsUnbuilt : List ℕ → Type 0
-IsUnbuilt bytes = (typed : TProgramTree) × IsAdmittedAs bytes typed × (IsBuilt typed → ⊥)
-
 -- the first of these for which the bytes are refused: their number, a place that is not cut into tokens, a token, a part that has no type,
--- a rule, and a form that is not built yet
+-- and a rule
 abbrev pub IsRefusedFor : List ℕ → RefusalTree → Type 0
 IsRefusedFor bytes FileTooLarge = 4194304 < length bytes
 IsRefusedFor bytes (Lexing reason at) = (length bytes ≤ 4194304) × IsUncut 0 bytes at reason
@@ -49,4 +44,3 @@ IsRefusedFor bytes (Unsupported construct at) = (length bytes ≤ 4194304) × Is
 IsRefusedFor bytes (TooDeep at) = (length bytes ≤ 4194304) × IsUnparsed bytes grammar.TooDeep at
 IsRefusedFor bytes (Typing r) = (length bytes ≤ 4194304) × IsUntyped bytes r
 IsRefusedFor bytes (Rule names r) = (length bytes ≤ 4194304) × IsNotAdmitted bytes names r
-IsRefusedFor bytes NotBuilt = (length bytes ≤ 4194304) × IsUnbuilt bytes

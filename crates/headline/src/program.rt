@@ -3,7 +3,9 @@ ghost use Rattle.std.specs.Prelude.{◌≤◌, List, ℕ, length, IfOk};
 ghost use Rattle.c_syntax_written.specs.WrittenFile.{file_tree};
 ghost use Rattle.c_syntax.specs.Program.{tprogram_tree};
 ghost use Rattle.c_lexer.specs.Cut.{IsCut};
-ghost use Rattle.headline.specs.Program.{IsSource, IsTypedAs, IsAdmittedAs};
+ghost use Rattle.c_layout.specs.Plans.{IsPlanFor};
+ghost use Rattle.c_rules.specs.Rules.{IsAdmitted};
+ghost use Rattle.headline.specs.Program.{IsSource, IsTypedAs};
 ghost use Rattle.headline.specs.Read.{Tells};
 
 use crate::verdict::{one_program, program_nor_refused};
@@ -12,16 +14,17 @@ use c_check_names::TypeError;
 use c_lexer::{LexError, Reason, lex};
 use c_parser::{ParseError, parse};
 use c_rules::{RuleError, admit};
-use c_syntax::{File, TProgram, Tokens};
-use constant_form::{Expr, form_of};
+use c_syntax::{File, Plan, TProgram, Tokens};
+use c_typing_laws::typed_is_well_typed;
+use c_typing_places::sites_of_texts_agree;
 use report::{Refusal, names_of};
 use std::alloc::{AllocError, Global};
 
 /// What a file's bytes are.
 #[derive(Drop)]
 pub enum Read {
-    /// The program that returns this expression.
-    Program(Expr),
+    /// This program, with its plan.
+    Program(TProgram, Plan),
     /// No program, for this.
     Refused(Refusal),
 }
@@ -67,37 +70,38 @@ fn typed(alloc: Global, file: File) -> Result<Read, AllocError>
     ensures { IfOk result (λ read. (bytes : List ℕ) → length bytes ≤ 4194304 → IsSource bytes (file_tree file) → Tells bytes read) }
 {
     match check(alloc, file) {
-        Ok(program) => ruled(alloc, &program),
+        Ok(program) => ruled(alloc, program),
         Err(TypeError::NoMemory) => Err(AllocError),
         Err(error) => Ok(Read::Refused(Refusal::Typing(error))),
     }
 }
 
 // The program of bytes that have this typed program.
-fn ruled(alloc: Global, program: &TProgram) -> Result<Read, AllocError>
+fn ruled(alloc: Global, program: TProgram) -> Result<Read, AllocError>
     ensures { IfOk result
-        (λ read. (bytes : List ℕ) → length bytes ≤ 4194304 → IsTypedAs bytes (tprogram_tree program.now) → Tells bytes read) }
+        (λ read. (bytes : List ℕ) → length bytes ≤ 4194304 → IsTypedAs bytes (tprogram_tree program) → Tells bytes read) }
 {
-    match admit(alloc, program) {
-        Ok(_plan) => built(alloc, program),
+    match admit(alloc, &program) {
+        Ok(plan) => Ok(planned(program, plan)),
         Err(RuleError::NoMemory) => Err(AllocError),
         Err(error) => {
-            let names = names_of(alloc, program)?;
+            let names = names_of(alloc, &program)?;
             Ok(Read::Refused(Refusal::Rule(names, error)))
         }
     }
 }
 
-// The program of bytes that have this typed program, which the rules admit.
-fn built(alloc: Global, program: &TProgram) -> Result<Read, AllocError>
-    ensures { IfOk result
-        (λ read. (bytes : List ℕ) → length bytes ≤ 4194304 → IsAdmittedAs bytes (tprogram_tree program.now) → Tells bytes read) }
+// The program of bytes that have this typed program, which the rules admit with this plan.
+fn planned(program: TProgram, plan: Plan) -> Read
+    requires admitted { IsAdmitted (tprogram_tree program) }
+    requires plan { IsPlanFor (tprogram_tree program) plan }
+    ensures { (bytes : List ℕ) → length bytes ≤ 4194304 → IsTypedAs bytes (tprogram_tree program) → Tells bytes result }
 {
     // The bytes have no other program, and with one they are not refused.
     one_program();
     program_nor_refused();
-    match form_of(alloc, program)? {
-        Some(e) => Ok(Read::Program(e)),
-        None => Ok(Read::Refused(Refusal::NotBuilt)),
-    }
+    // The program is well typed, and what stands at one place of it looks at the same.
+    typed_is_well_typed();
+    sites_of_texts_agree();
+    Read::Program(program, plan)
 }

@@ -2,14 +2,19 @@
 ghost use Rattle.std.specs.Prelude.{◌≡◌, ◌⊎◌, ◌<◌, ◌≤◌, ◌++◌, List, ℕ, Some, length, IfOk};
 ghost use Rattle.outside_io.specs.Io.{Rose, IsFront};
 ghost use Rattle.headline.specs.Command.{IsCommand, texts};
+ghost use Rattle.c_syntax.specs.Program.{tprogram_tree};
+ghost use Rattle.program_alarms.specs.Ready.{IsReady};
 ghost use Rattle.headline.specs.Headline.{IsAnswer, OnWhole, OnNothing, IsWhole, Completes};
+ghost use Rattle.headline.specs.Read.{IsOneProgram};
 
 use crate::program::{Read, program_of};
 use crate::status::Status;
 use crate::words::command;
-use constant_form::alarms_of;
+use c_syntax::{Plan, TProgram};
 use outside_io::{Files, ReadError, Sink, read_all, write_all};
-use report::{Refusal, refusal_line, report_text};
+use program_alarms::alarms_of;
+use report::{Refusal, refusal_line};
+use report_alarms::alarms_text;
 use std::alloc::{AllocError, Global};
 
 /// Analyzes the file that the words name, and writes the report.
@@ -82,16 +87,27 @@ fn answer_for(alloc: Global, name: &str, bytes: &[u8]) -> Result<(Status, Vec<u8
             let line = refusal_line(alloc, name, &refusal)?;
             Ok((Status::Refused, line))
         }
-        Read::Program(e) => {
-            let alarms = alarms_of(alloc, &e)?;
-            let report = report_text(alloc, name, &alarms)?;
-            let text = report.into_bytes();
-            if alarms.is_empty() {
-                Ok((Status::NoAlarm, text))
-            } else {
-                Ok((Status::Alarms, text))
-            }
-        }
+        Read::Program(program, plan) => reported(alloc, name, &program, &plan),
+    }
+}
+
+// The answer for a file of this name whose bytes are this program.
+fn reported(
+    alloc: Global,
+    name: &str,
+    program: &TProgram,
+    plan: &Plan,
+) -> Result<(Status, Vec<u8>), AllocError>
+    requires { IsReady (tprogram_tree program.now) plan.now }
+    ensures answer { IfOk result (λ r. (bytes : List ℕ) → IsOneProgram bytes (tprogram_tree program.now) → IsAnswer name.now bytes r.0 r.1.items) }
+    ensures done { IfOk result (λ r. IsWhole r.0) }
+{
+    let alarms = alarms_of(alloc, program, plan)?;
+    let text = alarms_text(alloc, name, program, plan.main, false, alarms.as_slice())?;
+    if alarms.as_slice().is_empty() {
+        Ok((Status::NoAlarm, text))
+    } else {
+        Ok((Status::Alarms, text))
     }
 }
 

@@ -1,7 +1,7 @@
 // Laws of the verdict: bytes are one program, or are refused once.
 ghost use Rattle.std.specs.Prelude.{◌≡◌, ◌≤◌, ℕ, List, length};
 ghost use Rattle.c_syntax.specs.Program.{TProgramTree};
-ghost use Rattle.headline.specs.Program.{IsProgram};
+ghost use Rattle.headline.specs.Program.{IsAdmittedAs};
 ghost use Rattle.report.specs.Refusal.{RefusalTree, without_calls};
 ghost use Rattle.headline.specs.Verdict.{IsRefusedFor};
 
@@ -12,7 +12,7 @@ use c_typing::files_have_one;
 
 /// Bytes are one program at most.
 pub fn one_program()
-    ensures { (bytes : List ℕ) (a b : TProgramTree) → IsProgram bytes a → IsProgram bytes b → a ≡ b }
+    ensures { (bytes : List ℕ) (a b : TProgramTree) → IsAdmittedAs bytes a → IsAdmittedAs bytes b → a ≡ b }
 {
     one_cut();
     one_file();
@@ -36,7 +36,7 @@ pub fn one_verdict()
 
 /// Bytes that are a program are refused only where they are too many.
 pub fn program_nor_refused()
-    ensures { (bytes : List ℕ) (program : TProgramTree) (r : RefusalTree) → length bytes ≤ 4194304 → IsProgram bytes program → IsRefusedFor bytes r → ⊥ }
+    ensures { (bytes : List ℕ) (program : TProgramTree) (r : RefusalTree) → length bytes ≤ 4194304 → IsAdmittedAs bytes program → IsRefusedFor bytes r → ⊥ }
 {
     one_cut();
     cut_nor_uncut();

@@ -5,4 +5,3 @@ pub mod RuleRefusals
 pub mod RuleText
 pub mod Refusal
 pub mod RefusalText
-pub mod Report

@@ -18,7 +18,6 @@ pub data RefusalTree : Type 0 where
   TooDeep : Pos → RefusalTree
   Typing : typing.Refusal → RefusalTree
   Rule : List (List ℕ) → RuleRefusal → RefusalTree
-  NotBuilt : RefusalTree
 
 -- the refusal that a value of the code stands for; out of memory in typing or in the rules is none
 abbrev pub refusal_tree : Refusal → Option RefusalTree
@@ -29,7 +28,6 @@ refusal_tree (refusals.Unsupported construct at) = Some (Unsupported construct a
 refusal_tree (refusals.TooDeep at) = Some (TooDeep at)
 refusal_tree (refusals.Typing error) = option_map Typing (refusal_of error)
 refusal_tree (refusals.Rule names error) = option_map (Rule names) (rules.refusal_of error)
-refusal_tree refusals.NotBuilt = Some NotBuilt
 
 -- the same without the calls that it tells of: a program may have several lists of calls that lead back, or too deep
 abbrev pub rule_without_calls : RuleRefusal → RuleRefusal

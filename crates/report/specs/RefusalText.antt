@@ -6,7 +6,7 @@ use Rattle.c_lexer.specs.declared.reason.Reason.TheVariants as reasons
 use Rattle.report.specs.Words.{construct_text}
 use Rattle.report.specs.TypeRefusals.{refusal_pos, refusal_text}
 use Rattle.report.specs.RuleText.{rule_pos, rule_text}
-use Rattle.report.specs.Refusal.{RefusalTree, FileTooLarge, Lexing, Syntax, Unsupported, TooDeep, Typing, Rule, NotBuilt}
+use Rattle.report.specs.Refusal.{RefusalTree, FileTooLarge, Lexing, Syntax, Unsupported, TooDeep, Typing, Rule}
 
 abbrev pub reason_text : Reason → List ℕ
 reason_text reasons.BadByte = codes "byte not allowed"
@@ -42,4 +42,3 @@ line_of name (Unsupported construct at) = place_line name at (codes "unsupported
 line_of name (TooDeep at) = place_line name at (codes "nesting above 200")
 line_of name (Typing r) = place_line name (refusal_pos r) (refusal_text r)
 line_of name (Rule names r) = line_at name (rule_pos r) (rule_text names r)
-line_of name NotBuilt = file_line name (codes "not built yet")

@@ -1,4 +1,4 @@
-//! What the program prints: the text of a list of alarms, and the line that says why a file is refused.
+//! The line that says why a file is refused.
 //!
 //! A refusal is told at its place, in one line. A type is told from the outside in, by C's words and the tags of its structs:
 //! `int *a[3]` has the type `array of 3 pointer to int`, and the refusal of `s + 1`, where `s` is a `struct S`, is told by
@@ -8,7 +8,6 @@
 //!
 //! | What | Stated in `specs/` | Promised by |
 //! |---|---|---|
-//! | the text of a list of alarms | `Report` | `report_text` |
 //! | refusals as trees without pointers; the line of one | `Refusal`, `RefusalText` | `refusal_line` |
 //! | operators, integer types and constructs as words; types as words | `Words`, `TypeText` | `op_name`, `construct_name`, `type_text` |
 //! | what is told of a refusal of typing, and where it stands | `TypeRefusals` | `refusal_text`, `refusal_pos` |
@@ -18,7 +17,6 @@
 //! A text is a list of bytes, as the tag of a struct is. A type may be a chain of any length, so it is told by a loop.
 #![tactic(auto)]
 
-mod alarms;
 mod function_names;
 mod refusal;
 mod rule_calls;
@@ -27,7 +25,6 @@ mod type_refusals;
 mod type_words;
 mod types;
 
-pub use alarms::report_text;
 pub use function_names::names_of;
 pub use refusal::{Refusal, refusal_line};
 pub use rule_refusals::{rule_pos, rule_text};

@@ -34,8 +34,6 @@ pub enum Refusal {
     Typing(TypeError),
     /// The rules refuse it, for this reason, which is never out of memory. These are the names of its functions.
     Rule(Names, RuleError),
-    /// It is of another form than the one that is built.
-    NotBuilt,
 }
 
 /// The line that tells of a refusal of the file of this name.
@@ -55,7 +53,6 @@ pub fn refusal_line(alloc: Global, name: &str, refusal: &Refusal) -> Result<Vec<
         Refusal::TooDeep(at) => place_line(alloc, name, *at, "nesting above 200".as_bytes()),
         Refusal::Typing(error) => typing_line(alloc, name, error),
         Refusal::Rule(names, error) => rule_line(alloc, name, names, error),
-        Refusal::NotBuilt => file_line(alloc, name, "not built yet".as_bytes()),
     }
 }
 

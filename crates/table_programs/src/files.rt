@@ -1,4 +1,4 @@
-// The typed program of a file, what the rules say of it, and its alarms.
+// The typed program of a file, and what the rules say of it.
 
 ghost use Rattle.std.specs.Prelude.{IfOk};
 ghost use Rattle.c_layout.specs.Plans.{IsPlanFor};
@@ -12,13 +12,12 @@ use c_check_names::TypeError;
 use c_lexer::{LexError, lex};
 use c_parser::{ParseError, parse};
 use c_rules::{RuleError, admit};
-use c_syntax::{Alarm, File, Names, Plan, TProgram};
-use constant_form::{alarms_of, form_of};
+use c_syntax::{File, Names, Plan, TProgram};
 use report::names_of;
 use std::alloc::{AllocError, AllocFailed, Global};
 
 /// The most bytes of a file that is cut into tokens.
-const MOST: usize = 4_194_304;
+pub const MOST: usize = 4_194_304;
 
 /// Why a file is not typed or admitted.
 #[derive(Drop)]
@@ -60,7 +59,6 @@ fn told_of(alloc: Global, word: &str, program: &TProgram) -> Result<String, Faul
         "file" => Ok(answer::objects(alloc, &program.objects)?),
         "admit" => admission(alloc, program),
         "plan" => order(alloc, program),
-        "alarms" => alarms(alloc, program),
         _ => Ok(String::from_str(alloc, "no such row")?),
     }
 }
@@ -75,26 +73,6 @@ fn admission(alloc: Global, program: &TProgram) -> Result<String, Fault> {
 fn order(alloc: Global, program: &TProgram) -> Result<String, Fault> {
     let plan = plan(alloc, program)?;
     Ok(answer::order(alloc, &plan)?)
-}
-
-// What may go wrong in a program that is admitted.
-fn alarms(alloc: Global, program: &TProgram) -> Result<String, Fault> {
-    plan(alloc, program)?;
-    Ok(built(alloc, program)?)
-}
-
-fn built(alloc: Global, program: &TProgram) -> Result<String, AllocError> {
-    match alarms_in(alloc, program)? {
-        None => String::from_str(alloc, "not built"),
-        Some(alarms) => answer::alarms(alloc, alarms.as_slice()),
-    }
-}
-
-fn alarms_in(alloc: Global, program: &TProgram) -> Result<Option<Vec<Alarm>>, AllocError> {
-    match form_of(alloc, program)? {
-        None => Ok(None),
-        Some(returned) => Ok(Some(alarms_of(alloc, &returned)?)),
-    }
 }
 
 /// The plan of a program, or the fault of the rule that refuses it.

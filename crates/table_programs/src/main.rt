@@ -6,7 +6,7 @@
 //! | `file`, and a file of C | the line that it is refused with, or `typed` and the names and sizes of its objects, by their numbers |
 //! | `admit`, and a file | `admitted`, or the line that typing or a rule refuses it with |
 //! | `plan`, and a file | the functions of its plan in their order, and main |
-//! | `alarms`, and a file | what may go wrong, as `Overflow 1:36 2147483648`, or `no alarm`, or `not built`, or the line of its refusal |
+//! | `alarms`, and a file | its alarms (below), or `no alarm`, or the line of its refusal |
 //! | `run 7 -3: `, and a file | what its run on these inputs comes to |
 //! | `timed 7 -3: `, and a file | the same, with many more steps |
 //! | `whole room=9: `, and a file | the exit status of `verac analyze a.c`, and what it wrote (below) |
@@ -24,6 +24,10 @@
 //! | `Wrong 1:23 DivideByZero [1:54]` | something is wrong at this line and column, in the calls at these places, the outermost first |
 //! | `StillGoing` | has not come to an end after 100,000 steps, or a billion where it is timed |
 //! | `Refused` | there is none: the file is refused, or the inputs are no numbers |
+//!
+//! An alarm is its kind, its line and column and its example in the words of the report, as `Bounds 1:33 a@1:20+16`; behind it
+//! stand the places of the calls that lead there, the outermost first, as `DivideByZero 1:23 0 > 1:54`. Several alarms are told
+//! with `; ` between them.
 //!
 //! The files and the sink of a whole run are in memory. `room` is how many bytes the sink takes, where that is not 1,000;
 //! `read` and `write` are the call of the files and of the sink that fails, counted from 1; `name` is the name of the file, for
@@ -70,6 +74,7 @@
 //! it. In a text `S` is its first struct, `T` any other, and arrays have any size.
 #![tactic(auto)]
 
+mod alarms;
 mod files;
 mod runs;
 mod typing;
@@ -105,6 +110,7 @@ fn line(alloc: Global, row: &str) -> Result<String, AllocError> {
         "run" => runs::line(alloc, STEPS, rest),
         "timed" => runs::line(alloc, MANY, rest),
         "whole" => whole_runs::line(alloc, rest),
+        "alarms" => alarms::line(alloc, rest),
         _ => files::line(alloc, word, rest),
     }
 }

@@ -2,7 +2,7 @@
 #![tactic(auto)]
 
 use crate::files::Fault;
-use c_syntax::{Alarm, Example, Objects, Plan, Pos};
+use c_syntax::{Objects, Plan, Pos};
 use report::{refusal_pos, refusal_text, rule_pos, rule_text};
 use std::alloc::{AllocError, Global};
 
@@ -26,31 +26,6 @@ pub fn order(alloc: Global, plan: &Plan) -> Result<String, AllocError> {
     let main = plan.main;
     line.push_str(format!(in alloc; ", main {main}")?.as_str())?;
     Ok(line)
-}
-
-/// What may go wrong, each with its place and the number that fails.
-pub fn alarms(alloc: Global, alarms: &[Alarm]) -> Result<String, AllocError> {
-    if alarms.is_empty() {
-        return String::from_str(alloc, "no alarm");
-    }
-    let mut line = String::new(alloc);
-    let mut between = "";
-    for told in alarms {
-        line.push_str(between)?;
-        line.push_str(alarm(alloc, told)?.as_str())?;
-        between = "; ";
-    }
-    Ok(line)
-}
-
-fn alarm(alloc: Global, alarm: &Alarm) -> Result<String, AllocError> {
-    let kind = alarm.kind;
-    let line = alarm.pos.line;
-    let col = alarm.pos.col;
-    match &alarm.example {
-        Example::Number(n) => format!(in alloc; "{kind:?} {line}:{col} {n}"),
-        _ => format!(in alloc; "{kind:?} {line}:{col} no number"),
-    }
 }
 
 /// Why there is nothing to tell.
