@@ -24,7 +24,7 @@ use Rattle.csharp.specs.Meaning.{beyond, bounded_exec, exec, run}
 use Rattle.lower_trees.specs.Correct.{Lowers}
 use Rattle.lower_trees.specs.LowerProgram.{lower}
 use Rattle.csharp.specs.Meaning.{bounded_run}
-use Rattle.alarm_carried_laws.specs.ExactFor.{AlarmsOf, IsExactFor}
+use Rattle.alarm_claims.specs.ExactFor.{AlarmsOf, IsExactFor}
 use Rattle.c_steps.specs.Sound.{MainGoesWrong, MainIsWrongAt, TellsOf}
 use Rattle.alarm_carried_laws.specs.Exact.{TellsAll, IsExactReport, BoundedRunsAreTold}
 use Rattle.csharp_laws.specs.Inputs.{NeverWaits}

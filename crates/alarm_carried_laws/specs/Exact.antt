@@ -17,7 +17,7 @@ use Rattle.mem_api.specs.FactsOf.{whole_cell}
 use Rattle.mem_api.specs.Showing.{IsAlone}
 use Rattle.lower_trees.specs.Correct.{Lowers}
 use Rattle.lower_trees.specs.LowerProgram.{lower}
-use Rattle.alarm_carried_laws.specs.ExactFor.{IsExactFor}
+use Rattle.alarm_claims.specs.ExactFor.{IsExactFor}
 use Rattle.c_steps.specs.Sound.{MainGoesWrong, MainIsWrongAt, TellsOf}
 
 -- the alarm shows the failing operand alone, and tells the number of each integer object whose bytes are one there

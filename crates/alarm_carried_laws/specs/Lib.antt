@@ -1,3 +1,2 @@
 pub mod Carried
 pub mod Exact
-pub mod ExactFor

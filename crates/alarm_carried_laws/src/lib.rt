@@ -7,7 +7,6 @@
 //! | What | Stated in `specs/` | Promised by |
 //! |---|---|---|
 //! | the alarms of a lowered program are alarms of the program that was lowered | `Carried` | `analyses_carry_over` |
-//! | what an analysis owes of the one run without inputs | `ExactFor` | |
 //! | one bounded run is told without a false alarm | `Exact` | `bounded_runs_are_told` |
 #![tactic(auto)]
 

@@ -14,6 +14,7 @@
 //! | which alarms are admitted, and when one holds another | `Admitted` | |
 //! | an alarm made wider serves for both, and stays admitted | `Wider` | `serving_alarms_tell`, `holding_alarms_are_admitted`, `gains_are_admitted` |
 //! | checks of one place and kind that look at as many operands | `Forms` | `forms_are_apart` |
+//! | what an analysis owes of the one run without inputs, where it is exact of that run | `ExactFor` | |
 //!
 //! The order of alarms is that of `c_steps`.
 #![tactic(auto)]
