@@ -25,7 +25,8 @@ use Rattle.alarm_claims.specs.Admitted.{SomeIn, SomeAmong, IsCheckAt, IsCallAt, 
 use Rattle.alarm_claims.specs.Analyzed.{Analyzed, Admits}
 use Rattle.c_steps.specs.Sound.{MainGoesWrong, IsSound}
 use Rattle.c_steps.specs.Admission.{ChecksAt, IsAdmitted}
-use Rattle.alarm_carried_laws.specs.Carried.{NamesOwn, AreAlarmsOf, AnalysesCarryOver}
+use Rattle.alarm_carried_laws.specs.AlarmsOf.{NamesOwn, AreAlarmsOf}
+use Rattle.alarm_carried_laws.specs.Carried.{AnalysesCarryOver}
 
 -- ---- what holds of each statement holds of one of them
 

@@ -1,2 +1,3 @@
+pub mod AlarmsOf
 pub mod Carried
 pub mod Exact

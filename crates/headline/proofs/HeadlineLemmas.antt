@@ -4,7 +4,7 @@ use Rattle.std.specs.Prelude.{false, IfSome, IsSomeAnd}
 use Rattle.c_syntax.specs.declared.alarm.Alarm.{Alarm}
 use Rattle.c_syntax.specs.Program.{TProgramTree}
 use Rattle.c_syntax.specs.declared.program.Plan.{Plan}
-use Rattle.alarm_carried_laws.specs.Carried.{AreAlarmsOf}
+use Rattle.alarm_carried_laws.specs.AlarmsOf.{AreAlarmsOf}
 use Rattle.program_alarms.specs.Ready.{IsReady}
 use Rattle.report_alarms.specs.ReportText.{text_of}
 use Rattle.report_alarms.specs.Told.{told_of}

@@ -6,7 +6,7 @@ use Rattle.headline.specs.declared.status.Status.TheVariants.{NoAlarm, Alarms, R
 use Rattle.c_syntax.specs.Program.{TProgramTree}
 use Rattle.c_layout.specs.MainFunction.{main_of}
 use Rattle.headline.specs.Program.{IsAdmittedAs}
-use Rattle.alarm_carried_laws.specs.Carried.{AreAlarmsOf}
+use Rattle.alarm_carried_laws.specs.AlarmsOf.{AreAlarmsOf}
 use Rattle.report_alarms.specs.ReportText.{text_of}
 use Rattle.report_alarms.specs.Told.{told_of}
 use Rattle.report.specs.Refusal.{RefusalTree}

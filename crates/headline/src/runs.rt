@@ -12,7 +12,7 @@ use crate::status::Status;
 use crate::words::command;
 use c_syntax::{Plan, TProgram};
 use outside_io::{Files, ReadError, Sink, read_all, write_all};
-use program_alarms::alarms_of;
+use program_alarms::{NARROWING_STEPS, UNROLLED_TURNS, alarms_of};
 use report::{Refusal, refusal_line};
 use report_alarms::alarms_text;
 use std::alloc::{AllocError, Global};
@@ -102,7 +102,7 @@ fn reported(
     ensures answer { IfOk result (λ r. (bytes : List ℕ) → IsOneProgram bytes (tprogram_tree program.now) → IsAnswer name.now bytes r.0 r.1.items) }
     ensures done { IfOk result (λ r. IsWhole r.0) }
 {
-    let alarms = alarms_of(alloc, program, plan)?;
+    let alarms = alarms_of(alloc, program, plan, UNROLLED_TURNS, NARROWING_STEPS)?;
     let text = alarms_text(alloc, name, program, plan.main, false, alarms.as_slice())?;
     if alarms.as_slice().is_empty() {
         Ok((Status::NoAlarm, text))

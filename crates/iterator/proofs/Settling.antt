@@ -2,7 +2,6 @@
 use Rattle.std.proofs.Common.{◌≡◌, Global, Vec}
 use Rattle.walk_owes.specs.declared.marks.Head.{Head}
 use Rattle.iterator.specs.declared.walking.Pass.{Pass}
-use Rattle.iterator.specs.declared.walking.Settled.{Settled}
 use Rattle.iterator.specs.declared.walking.Settled.TheVariants as settled
 
 pub closed_is : {M : Type 0} (p r : Pass M) → settled.Closed p ≡ settled.Closed r → p ≡ r

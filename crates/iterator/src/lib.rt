@@ -13,6 +13,7 @@
 //! (`Gains`). The walk ends for every program whose calls lead down, and it has no fuel.
 #![tactic(auto)]
 
+mod heads;
 mod switches;
 mod walking;
 

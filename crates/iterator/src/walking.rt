@@ -10,11 +10,12 @@ ghost use Rattle.csharp.specs.States.{State};
 ghost use Rattle.mem_api.specs.Given.{IsOf};
 ghost use Rattle.alarm_claims.specs.Admitted.{Gains};
 ghost use Rattle.walk_owes.specs.Owes.{AllFor, Grows, HasTyped, SomeFor, Sound, SoundIf};
-ghost use Rattle.walk_owes.specs.Loops.{Closed, OneTurn, Reaches, SoundLoop};
+ghost use Rattle.walk_owes.specs.Loops.{Reaches, SoundLoop};
 ghost use Rattle.walk_owes.specs.Items.{Begins, CoveredAll, HeadsFor, SoundItems};
 ghost use Rattle.walk_owes.specs.Heads.{HeadsAmong, IsHead, IsMore, LabelsHave};
 ghost use Rattle.walk_owes.specs.Walkable.{AreWalkable, IsTarget, IsWalkable};
 
+use crate::heads::{next_head, widen_by};
 use crate::switches::{Parts, enter_default, part_cases, value_type};
 use block_mem::Scalar;
 use c_syntax::{Alarm, Numbers};
@@ -30,8 +31,8 @@ use walk_acts::{
 };
 use walk_alarms::{add_alarms, prefix};
 use walk_kept::{
-    Stepped, add_labels, arrive, copy_flow, has_label, keep, leave, leave_objects, leave_scope,
-    merge_either, step_heads, take_returns,
+    Stepped, add_labels, arrive, copy_flow, has_label, keep, keep_all, leave, leave_objects,
+    leave_scope, merge_either, step_heads, take_returns,
 };
 use walk_owes::{Change, Head, Kept, Target, Way};
 
@@ -50,6 +51,13 @@ pub struct Pass<M> {
     pub after: Option<M>,
     pub kept: Vec<Kept<M>>,
     pub out: Vec<Alarm>,
+}
+
+// A set from which a turn was walked, and what the turn came to.
+#[derive(Drop)]
+struct Turned<M> {
+    head: M,
+    pass: Pass<M>,
 }
 
 /// Passes end with one that is closed, or where a label got its first head.
@@ -377,7 +385,7 @@ fn walk_loop<M: MemDomain, U: Fn(i128) -> Option<i128>, S: Steps>(
     Ok(())
 }
 
-// All turns from a set on: a set that a turn stays in, some turns from it, and the turn whose alarms are listed.
+// All turns from a set on: a set that a turn stays in, some smaller ones, and what the turn from the last comes to.
 #[cycle(walk)]
 fn walk_rest<M: MemDomain, U: Fn(i128) -> Option<i128>, S: Steps>(
     set: &Settings<'_, U>,
@@ -400,18 +408,19 @@ fn walk_rest<M: MemDomain, U: Fn(i128) -> Option<i128>, S: Steps>(
     ensures gains { OnOk result (Gains (csprogram_tree program.now) (csstmt_tree body.now) out.old.items out.new.items) }
 {
     let start = entry.copy()?;
-    let mut head = settle::<M, U, S>(set, program, depth, to, body, start)?;
-    let narrow = set.narrow;
-    let mut steps: u32 = 0;
-    while steps < narrow {
-        head = descend::<M, U, S>(set, program, depth, to, body, &entry, head)?;
-        steps += 1;
-    }
-    walk::<M, U, S>(set, program, depth, to, body, head, kept, out)?;
+    let turned = settle::<M, U, S>(set, program, depth, to, body, start)?;
+    let pass = narrow::<M, U, S>(set, program, depth, to, body, &entry, turned)?;
+    let Pass {
+        after: _,
+        kept: inner,
+        out: found,
+    } = pass;
+    keep_all(inner, kept)?;
+    add_alarms(found, out)?;
     Ok(())
 }
 
-// A set that has all that the given one has, and in which a turn stays.
+// A set that has all that turns from the given one lead to, and what the turn from it comes to, which stays in it.
 #[cycle(walk)]
 fn settle<M: MemDomain, U: Fn(i128) -> Option<i128>, S: Steps>(
     set: &Settings<'_, U>,
@@ -420,81 +429,87 @@ fn settle<M: MemDomain, U: Fn(i128) -> Option<i128>, S: Steps>(
     to: Target,
     body: &CsStmt,
     mut head: M,
-) -> Result<M, NoMemory>
+) -> Result<Turned<M>, NoMemory>
     requires ramp { Keeps U.pre U.post set.now.ramp.now S.list }
     requires walkable { IsWalkable (csprogram_tree program.now) depth to (csstmt_tree body.now) }
     requires target { IsTarget (csprogram_tree program.now) to }
     requires is_for { M.is_for head (csprogram_tree program.now) }
-    ensures is_for { IfOk result (λ m. M.is_for m (csprogram_tree program.now)) }
-    ensures entry { IfOk result (λ m. (s : State) → M.stands head s → M.stands m s) }
-    ensures closed { IfOk result (λ m. Closed (HasTyped M.stands (csprogram_tree program.now)) (csprogram_tree program.now) (csstmt_tree body.now) m) }
+    ensures is_for { IfOk result (λ t. M.is_for t.head (csprogram_tree program.now)) }
+    ensures pass_for { IfOk result (λ t. SomeFor M.is_for (csprogram_tree program.now) t.pass.after × AllFor M.is_for (csprogram_tree program.now) t.pass.kept.items) }
+    ensures reaches { IfOk result (λ t. Reaches (HasTyped M.stands (csprogram_tree program.now)) (csprogram_tree program.now) (csstmt_tree body.now) head t.head) }
+    ensures sound { IfOk result (λ t. Sound (HasTyped M.stands (csprogram_tree program.now)) (csprogram_tree program.now) to (csstmt_tree body.now) (Some t.head) t.pass.after t.pass.kept.items t.pass.out.items) }
+    ensures gains { IfOk result (λ t. Gains (csprogram_tree program.now) (csstmt_tree body.now) [] t.pass.out.items) }
 {
     loop {
-        match try_turn::<M, U, S>(set, program, depth, to, body, &head)? {
-            None => return Ok(head),
-            Some(next) => {
-                if !head.widen::<U, S>(&next, set.ramp)? {
-                    return Ok(head);
-                }
-            }
+        let pass = turn_from::<M, U, S>(set, program, depth, to, body, &head)?;
+        if !widen_by::<M, U, S>(&mut head, &pass.after, set.ramp)? {
+            return Ok(Turned { head, pass });
         }
     }
 }
 
-// A turn whose alarms and exits are not kept.
+// A turn from a set, with what leaves it and its alarms apart.
 #[cycle(walk)]
-fn try_turn<M: MemDomain, U: Fn(i128) -> Option<i128>, S: Steps>(
+fn turn_from<M: MemDomain, U: Fn(i128) -> Option<i128>, S: Steps>(
     set: &Settings<'_, U>,
     program: &CsProgram,
     depth: u64,
     to: Target,
     body: &CsStmt,
     head: &M,
-) -> Result<Option<M>, NoMemory>
+) -> Result<Pass<M>, NoMemory>
     requires ramp { Keeps U.pre U.post set.now.ramp.now S.list }
     requires walkable { IsWalkable (csprogram_tree program.now) depth to (csstmt_tree body.now) }
     requires target { IsTarget (csprogram_tree program.now) to }
     requires is_for { M.is_for head.now (csprogram_tree program.now) }
-    ensures is_for { IfOk result (λ next. SomeFor M.is_for (csprogram_tree program.now) next) }
-    ensures turn { IfOk result (λ next. OneTurn (HasTyped M.stands (csprogram_tree program.now)) (csprogram_tree program.now) (csstmt_tree body.now) head.now next) }
+    ensures pass_for { IfOk result (λ p. SomeFor M.is_for (csprogram_tree program.now) p.after × AllFor M.is_for (csprogram_tree program.now) p.kept.items) }
+    ensures sound { IfOk result (λ p. Sound (HasTyped M.stands (csprogram_tree program.now)) (csprogram_tree program.now) to (csstmt_tree body.now) (Some head.now) p.after p.kept.items p.out.items) }
+    ensures gains { IfOk result (λ p. Gains (csprogram_tree program.now) (csstmt_tree body.now) [] p.out.items) }
 {
     let mut kept = Vec::new(set.alloc);
     let mut out = Vec::new(set.alloc);
     let start = head.copy()?;
-    let next = walk::<M, U, S>(set, program, depth, to, body, start, &mut kept, &mut out)?;
-    Ok(next)
+    let after = walk::<M, U, S>(set, program, depth, to, body, start, &mut kept, &mut out)?;
+    Ok(Pass { after, kept, out })
 }
 
-// A smaller set that still has all that turns from the entry lead to.
+// Smaller sets that still have all that turns from the entry lead to, and what a turn from the last comes to.
 #[cycle(walk)]
-fn descend<M: MemDomain, U: Fn(i128) -> Option<i128>, S: Steps>(
+fn narrow<M: MemDomain, U: Fn(i128) -> Option<i128>, S: Steps>(
     set: &Settings<'_, U>,
     program: &CsProgram,
     depth: u64,
     to: Target,
     body: &CsStmt,
     entry: &M,
-    head: M,
-) -> Result<M, NoMemory>
+    turned: Turned<M>,
+) -> Result<Pass<M>, NoMemory>
     requires ramp { Keeps U.pre U.post set.now.ramp.now S.list }
     requires walkable { IsWalkable (csprogram_tree program.now) depth to (csstmt_tree body.now) }
     requires target { IsTarget (csprogram_tree program.now) to }
-    requires is_for { M.is_for head (csprogram_tree program.now) }
     requires entry_for { M.is_for entry.now (csprogram_tree program.now) }
-    requires reaches { Reaches (HasTyped M.stands (csprogram_tree program.now)) (csprogram_tree program.now) (csstmt_tree body.now) entry.now head }
-    ensures is_for { IfOk result (λ m. M.is_for m (csprogram_tree program.now)) }
-    ensures reaches { IfOk result (λ m. Reaches (HasTyped M.stands (csprogram_tree program.now)) (csprogram_tree program.now) (csstmt_tree body.now) entry.now m) }
+    requires is_for { M.is_for turned.head (csprogram_tree program.now) }
+    requires pass_for { SomeFor M.is_for (csprogram_tree program.now) turned.pass.after × AllFor M.is_for (csprogram_tree program.now) turned.pass.kept.items }
+    requires reaches { Reaches (HasTyped M.stands (csprogram_tree program.now)) (csprogram_tree program.now) (csstmt_tree body.now) entry.now turned.head }
+    requires sound { Sound (HasTyped M.stands (csprogram_tree program.now)) (csprogram_tree program.now) to (csstmt_tree body.now) (Some turned.head) turned.pass.after turned.pass.kept.items turned.pass.out.items }
+    requires gains { Gains (csprogram_tree program.now) (csstmt_tree body.now) [] turned.pass.out.items }
+    ensures kept_for { IfOk result (λ p. AllFor M.is_for (csprogram_tree program.now) p.kept.items) }
+    ensures sound { IfOk result (λ p. (at : Place) → SoundLoop (HasTyped M.stands (csprogram_tree program.now)) (csprogram_tree program.now) to at (csstmt_tree body.now) entry.now p.kept.items p.out.items) }
+    ensures gains { IfOk result (λ p. Gains (csprogram_tree program.now) (csstmt_tree body.now) [] p.out.items) }
 {
-    match try_turn::<M, U, S>(set, program, depth, to, body, &head)? {
-        None => {
-            let next = entry.copy()?;
-            Ok(next)
+    let Turned { mut head, mut pass } = turned;
+    let most = set.narrow;
+    let mut steps: u32 = 0;
+    while steps < most {
+        let next = next_head(entry, &pass.after)?;
+        if next.covers(&head)? {
+            return Ok(pass);
         }
-        Some(mut next) => {
-            next.join(entry)?;
-            Ok(next)
-        }
+        pass = turn_from::<M, U, S>(set, program, depth, to, body, &next)?;
+        head = next;
+        steps += 1;
     }
+    Ok(pass)
 }
 
 // A scope: its objects live while its items are walked, and end at each way out.

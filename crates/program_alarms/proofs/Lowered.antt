@@ -7,7 +7,6 @@ use Rattle.c_syntax.specs.Program.{TProgramTree}
 use Rattle.c_objects.specs.Statics.{AreEightBits}
 use Rattle.c_steps_laws.specs.Fits.{Runs}
 use Rattle.csharp.specs.Trees.{CsCallTree, CsStmtTree, Call, CsFunctionTree, CsProgramTree}
-use Rattle.csharp.specs.Formed.{IsFormed}
 use Rattle.lower_trees.specs.Correct.{LoweringIsRight}
 use Rattle.lower_trees.specs.LowerProgram.{lower}
 use Rattle.lower_sites_laws.specs.Laws as laws
@@ -17,14 +16,12 @@ use Rattle.alarm_claims.specs.Analyzed.{Analyzed}
 use Rattle.alarm_claims.proofs.Parts.{some_on}
 use Rattle.alarm_lists.specs.Sites as lists
 use Rattle.alarm_lists.specs.Sites.{SitesAgree}
-use Rattle.alarm_carried_laws.specs.Carried.{AnalysesCarryOver, AreAlarmsOf}
+use Rattle.alarm_carried_laws.specs.AlarmsOf.{AreAlarmsOf}
+use Rattle.alarm_carried_laws.specs.Carried.{AnalysesCarryOver}
 use Rattle.program_alarms.specs.Ready.{IsReady}
 
-runs_of : (p : TProgramTree) (plan : Plan) → IsReady p plan → AreEightBits p.initial → Runs p plan
+pub runs_of : (p : TProgramTree) (plan : Plan) → IsReady p plan → AreEightBits p.initial → Runs p plan
 runs_of p plan ready bits = record { typed = ready.typed; planned = ready.planned; bits = bits }
-
-pub formed : LoweringIsRight → (p : TProgramTree) (plan : Plan) (q : CsProgramTree) → IsReady p plan → AreEightBits p.initial → q ≡ lower p plan → IsFormed q
-formed right p plan q ready bits is = subst IsFormed (sym is) (right p plan (runs_of p plan ready bits)).formed
 
 called : (c : CsCallTree) (a : CsStmtTree) → lists.IsCalled c a → laws.IsCalled c a
 called c (Call d) e = e

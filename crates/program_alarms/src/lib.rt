@@ -10,9 +10,9 @@
 //! | What | Stated in | Promised by |
 //! |---|---|---|
 //! | what is asked of a program | `Ready` | - |
-//! | what is promised of its alarms | `Carried` of alarm_carried_laws | `alarms_of` |
+//! | what is promised of its alarms | `AlarmsOf` of alarm_carried_laws | `alarms_of` |
 #![tactic(auto)]
 
 mod alarms;
 
-pub use alarms::alarms_of;
+pub use alarms::{NARROWING_STEPS, UNROLLED_TURNS, alarms_of};

@@ -7,6 +7,7 @@
 //! | `admit`, and a file | `admitted`, or the line that typing or a rule refuses it with |
 //! | `plan`, and a file | the functions of its plan in their order, and main |
 //! | `alarms`, and a file | its alarms (below), or `no alarm`, or the line of its refusal |
+//! | `walked 10 2: `, and a file | the same, with so many turns of a loop one by one, and at most so many steps of narrowing |
 //! | `run 7 -3: `, and a file | what its run on these inputs comes to |
 //! | `timed 7 -3: `, and a file | the same, with many more steps |
 //! | `whole room=9: `, and a file | the exit status of `verac analyze a.c`, and what it wrote (below) |
@@ -111,6 +112,7 @@ fn line(alloc: Global, row: &str) -> Result<String, AllocError> {
         "timed" => runs::line(alloc, MANY, rest),
         "whole" => whole_runs::line(alloc, rest),
         "alarms" => alarms::line(alloc, rest),
+        "walked" => alarms::walked_line(alloc, rest),
         _ => files::line(alloc, word, rest),
     }
 }

@@ -47,3 +47,19 @@ pub fn leave_scope<M: MemDomain>(
     }
     Ok(())
 }
+
+/// Keeps all that is kept elsewhere, for the same ways.
+pub fn keep_all<M: MemDomain>(
+    mut inner: Vec<Kept<M>>,
+    kept: &mut Vec<Kept<M>>,
+) -> Result<(), NoMemory>
+    requires one { (q : CsProgramTree) × AllFor M.is_for q inner.items × AllFor M.is_for q kept.old.items }
+    ensures kept_for { OnOk result ((q : CsProgramTree) → AllFor M.is_for q inner.items → AllFor M.is_for q kept.old.items → AllFor M.is_for q kept.new.items) }
+    ensures old { OnOk result ((w : Ways) (s : State) → KeepsState M.stands kept.old.items w s → KeepsState M.stands kept.new.items w s) }
+    ensures all { OnOk result ((w : Ways) (s : State) → KeepsState M.stands inner.items w s → KeepsState M.stands kept.new.items w s) }
+{
+    while let Some(Kept { way, state }) = inner.pop() {
+        keep(kept, way, state)?;
+    }
+    Ok(())
+}

@@ -1,5 +1,4 @@
 use Rattle.std.proofs.Common.{◌≡◌, true, false}
-use Rattle.csharp.specs.Trees.{csprogram_tree}
 use Rattle.iterator.proofs.switches.enter_case.Goals as goal
 
 pub returns-in_ok-enter_at-in-Live-clause-hit : goal.returns-in_ok-enter_at-in-Live-clause-hit

@@ -1,4 +1,3 @@
-use Rattle.std.proofs.Common.{[]}
 use Rattle.csharp.proofs.CodeTrees.{csstmts_cons, csstmts_nil}
 use Rattle.csharp.specs.Meaning.{AtCase}
 use Rattle.csharp.specs.Trees.{csexpr_tree, csprogram_tree, csstmt_tree, csstmts_from}

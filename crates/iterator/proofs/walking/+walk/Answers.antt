@@ -10,6 +10,7 @@ use Rattle.walk_owes.specs.Items.{Begins, CoveredAll}
 use Rattle.walk_owes.proofs.Closing.{plain_pass}
 use Rattle.walk_owes.proofs.Heads.{begins_more}
 use Rattle.iterator.proofs.Settling.{closed_is, more_is}
+use Rattle.iterator.proofs.Turns.{loop_into, turn_descends, turn_stays}
 use Rattle.walk_owes.specs.Owes.{AllFor, HasTyped, SomeFor}
 use Rattle.walk_owes.specs.Walkable.{AreArgsReady, IsWalkable, target_of, worth}
 use Rattle.walk_owes.proofs.Admits.{all_into, block_admits, else_admits, first_admits, gained, gains_both, gains_into, gains_none, item_admits, loop_admits}
@@ -17,9 +18,9 @@ use Rattle.walk_owes.proofs.Admits.{rest_admits, scope_admits, second_admits, sw
 use Rattle.walk_owes.proofs.Entering.{nil_of}
 use Rattle.walk_owes.proofs.Fuel.{call_falls, callable, callee_is, function_there}
 use Rattle.walk_owes.proofs.Scopes.{passes_begin, passes_end}
-use Rattle.walk_owes.proofs.Steps.{block_sound, closed_by, descended, grows_both, grows_none, if_sound, loop_sound, reached, sequence_sound}
+use Rattle.walk_owes.proofs.Steps.{block_sound, grows_both, grows_none, if_sound, loop_sound, reached, sequence_sound}
 use Rattle.walk_owes.proofs.Steps.{unrolled_dead, unrolled_end, unrolled_more, unrolled_none, whole_loop}
-use Rattle.walk_owes.proofs.Typed.{head_on, keeps_with, leaves_with, some_on}
+use Rattle.walk_owes.proofs.Typed.{head_on, keeps_with, leaves_with, some_of, some_on}
 use Rattle.walk_owes.proofs.Typing.{call_typed, closed_typed, grows_with, passes_typed, scope_typed, side_dead, side_sound, switch_typed}
 use Rattle.iterator.proofs.walking.+walk.Goals as goal
 
@@ -61,30 +62,42 @@ walk_block-returns-clause-sound g t c =
     (some_on g.M.MemDomain.stands (csprogram_tree c.args.program.now) _ _ c.in_ok-after.ensures.after)
     (leaves_with g.M.MemDomain.stands (csprogram_tree c.args.program.now) _ _ _ c.in_ok-after.ensures.exits)
 
-pub descend-returns-in-None-clause-reaches : goal.descend-returns-in-None-clause-reaches
-descend-returns-in-None-clause-reaches g t c =
-    let x = c.in_ok-try_turn.ensures.turn in
-    descended (HasTyped g.M.MemDomain.stands (csprogram_tree c.args.program.now)) (csprogram_tree c.args.program.now) c.args.to (csstmt_tree c.args.body.now) c.args.entry.now c.args.head None _
-    c.requires.reaches (rw c.in-None.is at x) (λ s h. rw c.in_ok-next-in-None.ensures h) (λ s h. absurd h)
+pub settle-returns-then-not-branch-clause-reaches : goal.settle-returns-then-not-branch-clause-reaches
+settle-returns-then-not-branch-clause-reaches g t c =
+    let q = csprogram_tree c.args.program.now in
+    let a = csstmt_tree c.args.body.now in
+    let b : c.in_ok-widen_by.field-0 ≡ false = search rules in
+    let e = c.in_ok-widen_by.ensures.same b in
+    rw e (reached (HasTyped g.M.MemDomain.stands q) q c.args.to a c.args.head c.loop-head.head (λ s i. (c.loop-head.invariant.entry s i.0, i.1))
+    (turn_stays (HasTyped g.M.MemDomain.stands q) q c.args.to a c.loop-head.head c.in_ok-pass.pass.after c.in_ok-pass.pass.kept.items c.in_ok-pass.pass.out.items
+    c.in_ok-pass.ensures.sound
+    (λ s h. let y = some_of g.M.MemDomain.stands q c.in_ok-pass.pass.after s h in (rw e at (c.in_ok-widen_by.ensures.right s y.0), y.1))))
 
-pub descend-returns-clause-reaches : goal.descend-returns-clause-reaches
-descend-returns-clause-reaches g t c =
-    let x = c.in_ok-try_turn.ensures.turn in
-    descended (HasTyped g.M.MemDomain.stands (csprogram_tree c.args.program.now)) (csprogram_tree c.args.program.now) c.args.to (csstmt_tree c.args.body.now) c.args.entry.now c.args.head (Some c.in-Some.next) _
-    c.requires.reaches (rw c.in-Some.is at x) (λ s h. (c.in_ok-join-in-Some.ensures.right s h.0, h.1)) (λ s h. (c.in_ok-join-in-Some.ensures.left s h.0, h.1))
+pub narrow-returns-then-branch-clause-sound : goal.narrow-returns-then-branch-clause-sound
+narrow-returns-then-branch-clause-sound g t c = λ at.
+    let q = csprogram_tree c.args.program.now in
+    loop_sound (HasTyped g.M.MemDomain.stands q) q c.args.to at (csstmt_tree c.args.body.now) c.args.entry.now c.loop-steps.head c.loop-steps.pass.after
+    c.loop-steps.pass.kept.items c.loop-steps.pass.out.items c.loop-steps.invariant.reaches c.loop-steps.invariant.sound
 
-pub settle-returns-in-None-clause-closed : goal.settle-returns-in-None-clause-closed
-settle-returns-in-None-clause-closed g t c =
-    closed_by (HasTyped g.M.MemDomain.stands (csprogram_tree c.args.program.now)) (csprogram_tree c.args.program.now) c.args.to (csstmt_tree c.args.body.now) c.loop-head.head None
-    (let h = c.in_ok-try_turn.ensures.turn in rw c.in-None.is at h) (λ s h. absurd h)
+pub narrow-loop-steps-preserved : goal.narrow-loop-steps-preserved
+narrow-loop-steps-preserved g t c =
+    let q = csprogram_tree c.args.program.now in
+    record {
+      is_for = c.in_ok-next.ensures.is_for q c.requires.entry_for c.loop-steps.invariant.pass_for.0;
+      pass_for = c.in_ok-pass.ensures.pass_for;
+      reaches = turn_descends (HasTyped g.M.MemDomain.stands q) q c.args.to (csstmt_tree c.args.body.now) c.args.entry.now c.loop-steps.head c.loop-steps.pass.after
+          c.loop-steps.pass.kept.items c.loop-steps.pass.out.items c.in_ok-next.next c.loop-steps.invariant.reaches c.loop-steps.invariant.sound
+          (λ s h. (c.in_ok-next.ensures.entry s h.0, h.1))
+          (λ s h. let y = some_of g.M.MemDomain.stands q c.loop-steps.pass.after s h in (c.in_ok-next.ensures.next s y.0, y.1));
+      sound = c.in_ok-pass.ensures.sound;
+      gains = c.in_ok-pass.ensures.gains;
+    }
 
-pub settle-returns-then-not-branch-clause-closed : goal.settle-returns-then-not-branch-clause-closed
-settle-returns-then-not-branch-clause-closed g t c =
-    let x = c.in_ok-try_turn.ensures.turn in
-    let b : c.in_ok-widen-in-Some.field-0 ≡ false = search rules in
-    let e = c.in_ok-widen-in-Some.ensures.same b in
-    rw e (closed_by (HasTyped g.M.MemDomain.stands (csprogram_tree c.args.program.now)) (csprogram_tree c.args.program.now) c.args.to (csstmt_tree c.args.body.now) c.loop-head.head (Some c.in-Some.next)
-    (rw c.in-Some.is at x) (λ s h. (rw e at (c.in_ok-widen-in-Some.ensures.right s h.0), h.1)))
+pub narrow-returns-clause-sound : goal.narrow-returns-clause-sound
+narrow-returns-clause-sound g t c = λ at.
+    let q = csprogram_tree c.args.program.now in
+    loop_sound (HasTyped g.M.MemDomain.stands q) q c.args.to at (csstmt_tree c.args.body.now) c.args.entry.now c.loop-steps.head c.loop-steps.pass.after
+    c.loop-steps.pass.kept.items c.loop-steps.pass.out.items c.loop-steps.invariant.reaches c.loop-steps.invariant.sound
 
 pub walk_loop-returns-in-None-clause-sound : goal.walk_loop-returns-in-None-clause-sound
 walk_loop-returns-in-None-clause-sound g t c = λ at.
@@ -110,19 +123,26 @@ walk_loop-returns-clause-sound g t c = λ at.
     unrolled_end (HasTyped g.M.MemDomain.stands (csprogram_tree c.args.program.now)) _ _ at (csstmt_tree c.args.body.now) c.args.state c.loop-turns.head c.loop-turns.kept.items c.walk_rest.new.kept.items
     c.loop-turns.out.items c.walk_rest.new.out.items (c.loop-turns.invariant.unrolled at) (c.in_ok-walk_rest.ensures.sound at) c.in_ok-walk_rest.ensures.grows
 
-pub walk_rest-loop-steps-init : goal.walk_rest-loop-steps-init
-walk_rest-loop-steps-init g t c =
-    let h = c.in_ok-head.ensures in
-    record {
-      is_for = h.is_for;
-      reaches = reached (HasTyped g.M.MemDomain.stands (csprogram_tree c.args.program.now)) (csprogram_tree c.args.program.now) c.args.to (csstmt_tree c.args.body.now) c.args.entry c.in_ok-head.head
-          (λ s i. (h.entry s (rw c.in_ok-start.ensures i.0), i.1)) h.closed;
-    }
+pub walk_rest-returns-clause-kept_for : goal.walk_rest-returns-clause-kept_for
+walk_rest-returns-clause-kept_for g t c = c.in_ok-keep_all.ensures.kept_for (csprogram_tree c.args.program.now) c.in_ok-pass.ensures.kept_for c.requires.kept_for
 
 pub walk_rest-returns-clause-sound : goal.walk_rest-returns-clause-sound
 walk_rest-returns-clause-sound g t c = λ at.
-    loop_sound (HasTyped g.M.MemDomain.stands (csprogram_tree c.args.program.now)) _ _ at (csstmt_tree c.args.body.now) c.args.entry c.loop-steps.head _ _ _ c.loop-steps.invariant.reaches
-    c.in_ok-walk.ensures.sound
+    let q = csprogram_tree c.args.program.now in
+    loop_into (HasTyped g.M.MemDomain.stands q) q c.args.to at (csstmt_tree c.args.body.now) c.args.entry c.in_ok-pass.pass.kept.items c.keep_all.new.kept.items
+    c.in_ok-pass.pass.out.items c.add_alarms.new.out.items (c.in_ok-pass.ensures.sound at)
+    (grows_with g.M.MemDomain.stands q c.args.to _ _ _ _ c.in_ok-keep_all.ensures.all (c.in_ok-add_alarms.ensures.new q))
+
+pub walk_rest-returns-clause-grows : goal.walk_rest-returns-clause-grows
+walk_rest-returns-clause-grows g t c =
+    let q = csprogram_tree c.args.program.now in
+    grows_with g.M.MemDomain.stands q c.args.to _ _ _ _ c.in_ok-keep_all.ensures.old (c.in_ok-add_alarms.ensures.old q)
+
+pub walk_rest-returns-clause-gains : goal.walk_rest-returns-clause-gains
+walk_rest-returns-clause-gains g t c =
+    let q = csprogram_tree c.args.program.now in
+    let a = csstmt_tree c.args.body.now in
+    c.in_ok-add_alarms.ensures.gains q a (gained q a _ c.in_ok-pass.ensures.gains)
 
 pub walk_call-walk-requires : goal.walk_call-walk-requires
 walk_call-walk-requires g t c =

@@ -1,4 +1,4 @@
-use Rattle.std.proofs.Common.{◌≡◌, ◌-◌, ◌+◌, ◌*◌, ◌≤◌, [], length}
+use Rattle.std.proofs.Common.{◌≡◌, ◌-◌, ◌+◌, ◌*◌, ◌≤◌, [], length, Some}
 use Rattle.c_syntax_written.specs.declared.place.Pos.{Pos}
 use Rattle.c_syntax.specs.declared.alarm.Alarm.{Alarm}
 use Rattle.csharp.specs.Trees.{Scope, csprogram_tree, csstmt_tree, csstmts_from, csstmts_tree}
@@ -6,7 +6,7 @@ use Rattle.csharp.specs.Sizes.{csstmt_size, csstmts_size}
 use Rattle.csharp.specs.States.{State}
 use Rattle.alarm_claims.specs.Admitted.{Gains, IsAdmittedIn}
 use Rattle.walk_owes.specs.declared.marks.Mark.{Mark}
-use Rattle.walk_owes.specs.Owes.{AllFor, Grows, HasTyped, SomeFor}
+use Rattle.walk_owes.specs.Owes.{AllFor, Grows, HasTyped, SomeFor, Sound}
 use Rattle.walk_owes.specs.Loops.{Reaches, Unrolled}
 use Rattle.walk_owes.specs.Items.{HasHead, HeadsFor, PassesOn}
 use Rattle.walk_owes.specs.Heads.{HeadsAmong, LabelsHave, missing, weigh}
@@ -22,14 +22,14 @@ decreases-walk_live g l = worth (csprogram_tree l.program.now) l.depth + 8 * css
 abbrev pub decreases-walk_side : goal.decreases-walk_side
 decreases-walk_side g l = worth (csprogram_tree l.program.now) l.depth + 8 * csstmt_size (csstmt_tree l.a.now) + 2
 
-abbrev pub decreases-try_turn : goal.decreases-try_turn
-decreases-try_turn g l = worth (csprogram_tree l.program.now) l.depth + 8 * csstmt_size (csstmt_tree l.body.now) + 2
+abbrev pub decreases-turn_from : goal.decreases-turn_from
+decreases-turn_from g l = worth (csprogram_tree l.program.now) l.depth + 8 * csstmt_size (csstmt_tree l.body.now) + 2
 
 abbrev pub decreases-settle : goal.decreases-settle
 decreases-settle g l = worth (csprogram_tree l.program.now) l.depth + 8 * csstmt_size (csstmt_tree l.body.now) + 3
 
-abbrev pub decreases-descend : goal.decreases-descend
-decreases-descend g l = worth (csprogram_tree l.program.now) l.depth + 8 * csstmt_size (csstmt_tree l.body.now) + 3
+abbrev pub decreases-narrow : goal.decreases-narrow
+decreases-narrow g l = worth (csprogram_tree l.program.now) l.depth + 8 * csstmt_size (csstmt_tree l.body.now) + 3
 
 abbrev pub decreases-walk_rest : goal.decreases-walk_rest
 decreases-walk_rest g l = worth (csprogram_tree l.program.now) l.depth + 8 * csstmt_size (csstmt_tree l.body.now) + 4
@@ -67,17 +67,20 @@ invariant-walk_loop-loop-turns g l = record {
   gains : Gains (csprogram_tree l.program) (csstmt_tree l.body) l.fn.out.items l.out.items;
 }
 
-abbrev pub invariant-walk_rest-loop-steps : goal.invariant-walk_rest-loop-steps
-invariant-walk_rest-loop-steps g l = record {
+abbrev pub invariant-narrow-loop-steps : goal.invariant-narrow-loop-steps
+invariant-narrow-loop-steps g l = record {
   is_for : g.M.MemDomain.is_for l.head (csprogram_tree l.program);
+  pass_for : SomeFor g.M.MemDomain.is_for (csprogram_tree l.program) l.pass.after × AllFor g.M.MemDomain.is_for (csprogram_tree l.program) l.pass.kept.items;
   reaches : Reaches (HasTyped g.M.MemDomain.stands (csprogram_tree l.program)) (csprogram_tree l.program) (csstmt_tree l.body) l.entry l.head;
+  sound : Sound (HasTyped g.M.MemDomain.stands (csprogram_tree l.program)) (csprogram_tree l.program) l.to (csstmt_tree l.body) (Some l.head) l.pass.after l.pass.kept.items l.pass.out.items;
+  gains : Gains (csprogram_tree l.program) (csstmt_tree l.body) [] l.pass.out.items;
 }
 
 abbrev pub decreases-walk_loop-loop-turns : goal.decreases-walk_loop-loop-turns
 decreases-walk_loop-loop-turns g l = l.unroll - l.turns
 
-abbrev pub decreases-walk_rest-loop-steps : goal.decreases-walk_rest-loop-steps
-decreases-walk_rest-loop-steps g l = l.narrow - l.steps
+abbrev pub decreases-narrow-loop-steps : goal.decreases-narrow-loop-steps
+decreases-narrow-loop-steps g l = l.most - l.steps
 
 abbrev pub decreases-one_pass : goal.decreases-one_pass
 decreases-one_pass g l = worth (csprogram_tree l.program.now) l.depth + 8 * csstmts_size (csstmts_from l.items.now) + 3
