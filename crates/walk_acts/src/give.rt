@@ -28,6 +28,7 @@ pub fn pass_args<M: MemDomain>(
     requires ready { (q : CsProgramTree) × M.is_for state.old q × AreArgsReady q (map csexpr_tree args.now) params.now }
     ensures is_for { OnOk result ((q : CsProgramTree) → M.is_for state.old q → M.is_for state.new q) }
     ensures stands { OnOk result ((s t : State) → M.stands state.old s → pass (map csexpr_tree args.now) params.now s ≡ Some t → M.stands state.new t) }
+    ensures sharp { OnOk result ((s t : State) → M.sharp state.old s → pass (map csexpr_tree args.now) params.now s ≡ Some t → M.sharp state.new t) }
 {
     let mut rest = args;
     let mut others = params;
@@ -47,6 +48,7 @@ fn set_number<M: MemDomain>(temp: Option<u64>, number: i128, state: &mut M) -> R
     requires given { (q : CsProgramTree) × M.is_for state.old q × IfSome temp (λ d. IsOf q (code.Set d (code.Const ints.Int number))) }
     ensures is_for { OnOk result ((q : CsProgramTree) → M.is_for state.old q → M.is_for state.new q) }
     ensures stands { OnOk result ((s : State) → M.stands state.old s → M.stands state.new (put_into temp (values.Int ints.Int number) s)) }
+    ensures sharp { OnOk result ((s : State) → M.sharp state.old s → M.sharp state.new (put_into temp (values.Int ints.Int number) s)) }
 {
     match temp {
         None => Ok(()),
@@ -66,6 +68,7 @@ fn set_value<M: MemDomain>(temp: Option<u64>, value: &CsExpr, state: &mut M) -> 
     requires given { (q : CsProgramTree) × M.is_for state.old q × IfSome temp (λ d. IsOf q (code.Set d (csexpr_tree value.now))) }
     ensures is_for { OnOk result ((q : CsProgramTree) → M.is_for state.old q → M.is_for state.new q) }
     ensures stands { OnOk result ((s : State) (v : Value) → M.stands state.old s → value_of (csexpr_tree value.now) s ≡ Some v → M.stands state.new (put_into temp v s)) }
+    ensures sharp { OnOk result ((s : State) (v : Value) → M.sharp state.old s → value_of (csexpr_tree value.now) s ≡ Some v → M.sharp state.new (put_into temp v s)) }
 {
     match temp {
         None => Ok(()),
@@ -81,8 +84,11 @@ pub fn give<M: MemDomain>(to: Target, value: &Option<CsExpr>, state: &mut M) -> 
     requires given { (q : CsProgramTree) × M.is_for state.old q × IsTarget q to × IsGivenTo q to (option_map csexpr_tree value.now) }
     ensures is_for { OnOk result ((q : CsProgramTree) → M.is_for state.old q → M.is_for state.new q) }
     ensures none { OnOk result ((s : State) → value.now ≡ None → M.stands state.old s → M.stands state.new (returned to None s)) }
+    ensures sharp_none { OnOk result ((s : State) → value.now ≡ None → M.sharp state.old s → M.sharp state.new (returned to None s)) }
     ensures some { OnOk result ((e : CsExpr) (s : State) (v : Value) → value.now ≡ Some e → M.stands state.old s → value_of (csexpr_tree e) s ≡ Some v
         → M.stands state.new (returned to (Some v) s)) }
+    ensures sharp_some { OnOk result ((e : CsExpr) (s : State) (v : Value) → value.now ≡ Some e → M.sharp state.old s → value_of (csexpr_tree e) s ≡ Some v
+        → M.sharp state.new (returned to (Some v) s)) }
 {
     match value {
         None => {
@@ -102,6 +108,8 @@ pub fn give_none<M: MemDomain>(to: Target, after: Option<M>) -> Result<Option<M>
     requires given { (q : CsProgramTree) × SomeFor M.is_for q after × IsTarget q to }
     ensures is_for { IfOk result (λ m. (q : CsProgramTree) → SomeFor M.is_for q after → SomeFor M.is_for q m) }
     ensures none { IfOk result (λ m. (s : State) → InSome M.stands after s → InSome M.stands m (returned to None s)) }
+    ensures sharp_none { IfOk result (λ m. (s : State) → InSome M.sharp after s → InSome M.sharp m (returned to None s)) }
+    ensures dead { IfOk result (λ m. after ≡ None → m ≡ None) }
 {
     match after {
         None => Ok(None),

@@ -40,6 +40,21 @@ pub failed : (objects : List ObjectTree) (check : Check) (o : Option Operand) (k
 failed objects check None k x h = absurd (cc)
 failed objects check (Some y) k x h = fail_case objects check y k x (fails objects check y) refl h
 
+pub record Passed (objects : List ObjectTree) (check : Check) (o : Option Operand) : Type 0 where
+  pub operand : Operand
+  pub there : o ≡ Some operand
+  pub good : Fails objects check operand → ⊥
+
+pass_case : (objects : List ObjectTree) (check : Check) (y : Operand) (b : Bool) → fails objects check y ≡ b
+    → (if b then FailsAs check.kind y else Passes) ≡ Passes → Passed objects check (Some y)
+pass_case objects check y true e h = absurd (cc)
+pass_case objects check y false e h =
+    record { operand = y; there = refl; good = λ bad. let t = (failing objects check check.kind y).1 bad in absurd (cc) }
+
+pub passed : (objects : List ObjectTree) (check : Check) (o : Option Operand) → judge_one objects check o Passes ≡ Passes → Passed objects check o
+passed objects check None h = absurd (cc)
+passed objects check (Some y) h = pass_case objects check y (fails objects check y) refl h
+
 -- ---- fields
 
 zero_moderate : IsModerate (Some (pos 0))

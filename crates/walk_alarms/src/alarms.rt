@@ -6,16 +6,17 @@ ghost use Rattle.c_syntax_written.specs.declared.place.Pos.{Pos as Place};
 ghost use Rattle.c_syntax.specs.Operand.{Operand, operand_of};
 ghost use Rattle.c_syntax.specs.Admission.{IsInShown, IsProper};
 ghost use Rattle.c_syntax.specs.declared.alarm.WrongKind.{WrongKind as Kind};
-ghost use Rattle.c_values.specs.Looks.{judge as judged, FailsAs};
+ghost use Rattle.c_values.specs.Looks.{judge as judged, Passes, FailsAs};
 ghost use Rattle.c_values.specs.Places.{ObjectMemory};
 ghost use Rattle.csharp.specs.Trees.{CsCallTree, CsFunctionTree, CsProgramTree, CsStmtTree, cscheck_tree, csprogram_tree};
 ghost use Rattle.csharp.specs.Trees as code;
 ghost use Rattle.csharp.specs.States.{State, look_of};
 ghost use Rattle.mem_api.specs.Given.{IsOf};
-ghost use Rattle.mem_api.specs.Showing.{HasForm};
+ghost use Rattle.mem_api.specs.Showing.{HasForm, IsAlone};
 ghost use Rattle.mem_shown.specs.Decisions.{IsFailing, NamesObjects};
 ghost use Rattle.alarm_claims.specs.Admitted.{Gains, IsAdmittedIn};
 ghost use Rattle.alarm_claims.specs.Analyzed.{Listed};
+ghost use Rattle.alarm_claims.specs.ExactFor.{ListedAlone};
 ghost use Rattle.walk_owes.specs.Owes.{IsMoved};
 
 use c_syntax::{Alarm, Example, Facts, Places, Pos, Shown};
@@ -40,6 +41,11 @@ pub fn judge<M: MemDomain>(
         → judged (csprogram_tree program.now).objects (look_of (cscheck_tree check.now) s ∷ []) ≡ FailsAs wrong operand
         → Listed (csprogram_tree program.now) out.new.items [] check.now.pos wrong operand s.memory) }
     ensures gains { OnOk result (Gains (csprogram_tree program.now) (code.Checked (cscheck_tree check.now)) out.old.items out.new.items) }
+    ensures passes { OnOk result ((s : State) → M.sharp state.now s → judged (csprogram_tree program.now).objects (look_of (cscheck_tree check.now) s ∷ []) ≡ Passes
+        → out.new.items ≡ out.old.items) }
+    ensures alone { OnOk result ((s : State) (wrong : Kind) (operand : Operand) → M.sharp state.now s
+        → judged (csprogram_tree program.now).objects (look_of (cscheck_tree check.now) s ∷ []) ≡ FailsAs wrong operand → out.old.items ≡ []
+        → ListedAlone (csprogram_tree program.now) out.new.items [] check.now.pos wrong operand s.memory) }
 {
     let shown = state.show(check)?;
     match decide(&check.check, &shown, program.objects.as_slice()) {
@@ -71,6 +77,8 @@ fn raise<M: MemDomain>(
     ensures new { OnOk result ((s : State) (operand : Operand) → M.stands state.now s → IsInShown (csprogram_tree program.now).objects operand shown
         → Listed (csprogram_tree program.now) out.new.items [] check.now.pos check.now.check.kind operand s.memory) }
     ensures gains { OnOk result (Gains (csprogram_tree program.now) (code.Checked (cscheck_tree check.now)) out.old.items out.new.items) }
+    ensures alone { OnOk result ((s : State) (operand : Operand) → M.sharp state.now s → IsAlone (csprogram_tree program.now).objects operand shown → out.old.items ≡ []
+        → ListedAlone (csprogram_tree program.now) out.new.items [] check.now.pos check.now.check.kind operand s.memory) }
 {
     let mut facts = Facts::new(alloc);
     state.facts(&mut facts)?;
@@ -94,6 +102,8 @@ pub fn prefix(at: Pos, mut inner: Vec<Alarm>, out: &mut Vec<Alarm>) -> Result<()
         → Listed q inner.items calls place wrong operand memory → Listed q out.new.items (at ∷ calls) place wrong operand memory) }
     ensures gains { OnOk result ((q : CsProgramTree) (c : CsCallTree) (f : CsFunctionTree) → c.pos ≡ at → slice_get q.functions c.function ≡ Some f
         → All (IsAdmittedIn q f.body) inner.items → Gains q (code.Call c) out.old.items out.new.items) }
+    ensures none { OnOk result (inner.items ≡ [] → out.new.items ≡ out.old.items) }
+    ensures one { OnOk result ((x : Alarm) → inner.items ≡ x ∷ [] → out.old.items ≡ [] → (y : Alarm) × (out.new.items ≡ y ∷ []) × IsMoved at x y) }
 {
     while let Some(alarm) = inner.pop() {
         let moved = prepend(at, alarm)?;
@@ -109,6 +119,7 @@ pub fn add_alarms(mut found: Vec<Alarm>, out: &mut Vec<Alarm>) -> Result<(), NoM
     ensures new { OnOk result ((q : CsProgramTree) (calls : List Place) (place : Place) (wrong : Kind) (operand : Operand) (memory : ObjectMemory)
         → Listed q found.items calls place wrong operand memory → Listed q out.new.items calls place wrong operand memory) }
     ensures gains { OnOk result ((q : CsProgramTree) (a : CsStmtTree) → All (IsAdmittedIn q a) found.items → Gains q a out.old.items out.new.items) }
+    ensures alone { OnOk result (out.old.items ≡ [] → out.new.items ≡ found.items) }
 {
     out.append(&mut found)?;
     Ok(())

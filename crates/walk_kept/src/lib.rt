@@ -16,7 +16,7 @@ mod leaving;
 mod marks;
 mod passes;
 
-pub use kept::{keep, leave, merge, merge_either, take_returns, take_way};
-pub use leaving::{keep_all, leave_objects, leave_scope};
+pub use kept::{keep, keep_all, leave, merge, merge_either, take_returns, take_way};
+pub use leaving::{leave_objects, leave_scope};
 pub use marks::{arrive, has_default, has_label};
 pub use passes::{Stepped, add_labels, copy_flow, step_heads};

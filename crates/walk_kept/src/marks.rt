@@ -1,13 +1,14 @@
 // Sets that enter items at a mark: at a label, a case or the default.
 #![tactic(auto, using(csharp::proofs::CodeTrees::the_code_trees))]
 
-ghost use Rattle.std.specs.Prelude.{◌≡◌, ◌⊎◌, ℕ, true, false, IfOk, OnOk, Option, Some, None};
+ghost use Rattle.std.specs.Prelude.{◌≡◌, ◌≢◌, ◌⊎◌, ℕ, true, false, [], ◌∷◌, IfOk, OnOk, Option, Some, None};
 ghost use Rattle.csharp.specs.Trees.{CsProgramTree, csstmt_tree, csstmts_from};
 ghost use Rattle.csharp.specs.States.{State};
 ghost use Rattle.csharp.specs.Meaning as meaning;
 ghost use Rattle.walk_owes.specs.declared.way.Way.{Way as Ways};
 ghost use Rattle.walk_owes.specs.Owes.{AllFor, InSome, KeepsState, SomeFor};
 ghost use Rattle.walk_owes.specs.Items.{HasHead, HeadsFor, Stays, mark_of};
+ghost use Rattle.walk_owes.specs.Exactly.{HeadAlone, IsBare};
 
 use crate::kept::{merge, take_way};
 use csharp::CsStmt;
@@ -79,6 +80,16 @@ pub fn arrive<M: MemDomain>(
     ensures came { IfOk result (λ m. (l : ℕ) (s : State) → KeepsState M.stands gone.new.items (Way.Goto l) s
         → KeepsState M.stands gone.old.items (Way.Goto l) s ⊎ ((meaning.is_mark (meaning.AtLabel l) (csstmt_tree item.now) ≡ true) × InSome M.stands m s)) }
     ensures stays { OnOk result ((w : Ways) (s : State) → KeepsState M.stands kept.old.items w s → Stays M.stands gone.new.items kept.new.items w s) }
+    ensures flows { IfOk result (λ m. ((mark : _) → meaning.is_mark (mark_of mark) (csstmt_tree item.now) ≡ true → IsBare heads.now mark) → kept.old.items ≡ []
+        → (m ≡ flow) × (kept.new.items ≡ [])) }
+    ensures enters { IfOk result (λ m. (mark : _) (s : State) → meaning.is_mark (mark_of mark) (csstmt_tree item.now) ≡ true → HeadAlone M.sharp heads.now mark s
+        → flow ≡ None → kept.old.items ≡ [] → InSome M.sharp m s × (kept.new.items ≡ [])) }
+    ensures jumps { IfOk result (λ m. ((mark : _) → meaning.is_mark (mark_of mark) (csstmt_tree item.now) ≡ true → IsBare heads.now mark) → (l : ℕ) (x : Kept M)
+        → kept.old.items ≡ x ∷ [] → x.way ≡ Way.Goto l → meaning.is_mark (meaning.AtLabel l) (csstmt_tree item.now) ≡ true → flow ≡ None
+        → (m ≡ Some x.state) × (kept.new.items ≡ [])) }
+    ensures passes { IfOk result (λ m. ((mark : _) → meaning.is_mark (mark_of mark) (csstmt_tree item.now) ≡ true → IsBare heads.now mark) → (x : Kept M)
+        → kept.old.items ≡ x ∷ [] → ((l : ℕ) → meaning.is_mark (meaning.AtLabel l) (csstmt_tree item.now) ≡ true → x.way ≢ Way.Goto l)
+        → (m ≡ flow) × (kept.new.items ≡ x ∷ [])) }
 {
     match item {
         CsStmt::Label { label, .. } => {
@@ -109,6 +120,8 @@ fn join_heads<M: MemDomain>(
     ensures is_for { IfOk result (λ m. (q : CsProgramTree) → SomeFor M.is_for q flow → HeadsFor M.is_for q heads.now → SomeFor M.is_for q m) }
     ensures flow { IfOk result (λ m. (s : State) → InSome M.stands flow s → InSome M.stands m s) }
     ensures heads { IfOk result (λ m. (s : State) → HasHead M.stands heads.now mark s → InSome M.stands m s) }
+    ensures bare { IfOk result (λ m. IsBare heads.now mark → m ≡ flow) }
+    ensures alone { IfOk result (λ m. (s : State) → HeadAlone M.sharp heads.now mark s → flow ≡ None → InSome M.sharp m s) }
 {
     let mut all = flow;
     let mut rest = heads;
@@ -128,6 +141,8 @@ fn join_head<M: MemDomain>(
     ensures is_for { IfOk result (λ m. (q : CsProgramTree) → SomeFor M.is_for q flow → SomeFor M.is_for q head.now.state → SomeFor M.is_for q m) }
     ensures flow { IfOk result (λ m. (s : State) → InSome M.stands flow s → InSome M.stands m s) }
     ensures head { IfOk result (λ m. (s : State) → head.now.mark ≡ mark → InSome M.stands head.now.state s → InSome M.stands m s) }
+    ensures bare { IfOk result (λ m. (head.now.mark ≡ mark → head.now.state ≡ None) → m ≡ flow) }
+    ensures alone { IfOk result (λ m. head.now.mark ≡ mark → flow ≡ None → m ≡ head.now.state) }
 {
     if head.mark != mark {
         return Ok(flow);
@@ -146,6 +161,7 @@ fn join_into<M: MemDomain>(flow: Option<M>, state: &M) -> Result<M, NoMemory>
     ensures is_for { IfOk result (λ m. (q : CsProgramTree) → SomeFor M.is_for q flow → M.is_for state.now q → M.is_for m q) }
     ensures flow { IfOk result (λ m. (s : State) → InSome M.stands flow s → M.stands m s) }
     ensures state { IfOk result (λ m. (s : State) → M.stands state.now s → M.stands m s) }
+    ensures alone { IfOk result (λ m. flow ≡ None → m ≡ state.now) }
 {
     match flow {
         None => {
@@ -173,6 +189,8 @@ fn join_jumps<M: MemDomain>(
     ensures taken { OnOk result ((s : State) → InSome M.stands taken s → KeepsState M.stands gone.new.items (Way.Goto label) s) }
     ensures came { IfOk result (λ m. (w : Ways) (s : State) → KeepsState M.stands gone.new.items w s
         → KeepsState M.stands gone.old.items w s ⊎ ((w ≡ Way.Goto label) × InSome M.stands m s)) }
+    ensures none { IfOk result (λ m. taken ≡ None → m ≡ flow) }
+    ensures alone { IfOk result (λ m. flow ≡ None → m ≡ taken) }
 {
     match taken {
         None => Ok(flow),

@@ -1,7 +1,7 @@
 // Passes over items: heads that are widened until a pass is closed.
 #![tactic(auto, using(csharp::proofs::CodeTrees::the_code_trees))]
 
-ghost use Rattle.std.specs.Prelude.{◌≡◌, ◌⊎◌, ◌<◌, ◌≤◌, ℕ, true, false, IfOk, OnOk, Option, Some, None};
+ghost use Rattle.std.specs.Prelude.{◌≡◌, ◌≢◌, ◌⊎◌, ◌<◌, ◌≤◌, ℕ, true, false, [], ◌∷◌, IfOk, OnOk, Option, Some, None};
 ghost use Rattle.num_api.specs.Told.{Keeps};
 ghost use Rattle.csharp.specs.Trees.{CsProgramTree, csstmt_tree, csstmts_from};
 ghost use Rattle.csharp.specs.States.{State};
@@ -10,6 +10,7 @@ ghost use Rattle.walk_owes.specs.declared.way.Way.{Way as Ways};
 ghost use Rattle.walk_owes.specs.Owes.{AllFor, InSome, KeepsState, SomeFor};
 ghost use Rattle.walk_owes.specs.Items.{HasHead, HeadsFor};
 ghost use Rattle.walk_owes.specs.Heads.{IsHead, IsStep, missing, weigh};
+ghost use Rattle.walk_owes.specs.Exactly.{HeadAlone, IsBare};
 
 use crate::kept::take_way;
 use csharp::CsStmt;
@@ -39,6 +40,8 @@ pub fn add_labels<M: MemDomain>(items: &[CsStmt], heads: &mut Vec<Head<M>>) -> R
     ensures old { OnOk result ((mark : _) (s : State) → HasHead M.stands heads.old.items mark s → HasHead M.stands heads.new.items mark s) }
     ensures labels { OnOk result ((l : ℕ) → meaning.has (meaning.AtLabel l) (csstmts_from items.now) ≡ true → IsHead heads.new.items l) }
     ensures only { OnOk result ((l : ℕ) → IsHead heads.new.items l → IsHead heads.old.items l ⊎ (meaning.has (meaning.AtLabel l) (csstmts_from items.now) ≡ true)) }
+    ensures bare { OnOk result ((mark : _) → IsBare heads.old.items mark → IsBare heads.new.items mark) }
+    ensures alone { OnOk result ((mark : _) (s : State) → HeadAlone M.sharp heads.old.items mark s → HeadAlone M.sharp heads.new.items mark s) }
 {
     let mut rest = items;
     while let Some((item, more)) = rest.split_first() {
@@ -54,6 +57,8 @@ fn add_label<M: MemDomain>(item: &CsStmt, heads: &mut Vec<Head<M>>) -> Result<()
     ensures there { OnOk result ((l : ℕ) → IsHead heads.old.items l → IsHead heads.new.items l) }
     ensures only { OnOk result ((l : ℕ) → IsHead heads.new.items l → IsHead heads.old.items l ⊎ (meaning.is_mark (meaning.AtLabel l) (csstmt_tree item.now) ≡ true)) }
     ensures label { OnOk result ((l : ℕ) → meaning.is_mark (meaning.AtLabel l) (csstmt_tree item.now) ≡ true → IsHead heads.new.items l) }
+    ensures bare { OnOk result ((mark : _) → IsBare heads.old.items mark → IsBare heads.new.items mark) }
+    ensures alone { OnOk result ((mark : _) (s : State) → HeadAlone M.sharp heads.old.items mark s → HeadAlone M.sharp heads.new.items mark s) }
 {
     match item {
         CsStmt::Label { label, .. } => {
@@ -89,6 +94,9 @@ pub fn step_heads<M: MemDomain, U: Fn(i128) -> Option<i128>, S: Steps>(
     ensures left { IfOk result (λ r. (w : Ways) (s : State) → KeepsState M.stands kept.items w s
         → KeepsState M.stands r.kept.items w s ⊎ ((l : ℕ) × (w ≡ Way.Goto l) × IsHead heads.items l)) }
     ensures only { IfOk result (λ r. (l : ℕ) → IsHead r.heads.items l → IsHead heads.items l) }
+    ensures none { IfOk result (λ r. kept.items ≡ [] → (r.change ≡ Change.Same) × (r.kept.items ≡ [])) }
+    ensures one { IfOk result (λ r. (x : Kept M) → kept.items ≡ x ∷ [] → ((l : ℕ) → IsHead heads.items l → x.way ≢ Way.Goto l)
+        → (r.change ≡ Change.Same) × (r.kept.items ≡ x ∷ [])) }
 {
     let mut done = Vec::new(alloc);
     let mut change = Change::Same;
@@ -112,6 +120,7 @@ fn both(first: Change, second: Change) -> Change
     ensures new { result ≡ Change.New → (first ≡ Change.New) ⊎ (second ≡ Change.New) }
     ensures wider { result ≡ Change.Wider → ((first ≡ Change.Wider) × ((second ≡ Change.Wider) ⊎ (second ≡ Change.Same)))
         ⊎ ((first ≡ Change.Same) × (second ≡ Change.Wider)) }
+    ensures still { first ≡ Change.Same → second ≡ Change.Same → result ≡ Change.Same }
 {
     match first {
         Change::New => Change::New,
@@ -140,6 +149,9 @@ fn step_head<M: MemDomain, U: Fn(i128) -> Option<i128>, S: Steps>(
         → InSome M.stands state s) }
     ensures left { OnOk result ((w : Ways) (s : State) → KeepsState M.stands kept.old.items w s
         → KeepsState M.stands kept.new.items w s ⊎ ((l : ℕ) × (w ≡ Way.Goto l) × (mark ≡ Mark.Label l))) }
+    ensures none { IfOk result (λ r. kept.old.items ≡ [] → (r.change ≡ Change.Same) × (kept.new.items ≡ [])) }
+    ensures one { IfOk result (λ r. (x : Kept M) → kept.old.items ≡ x ∷ [] → ((l : ℕ) → mark ≡ Mark.Label l → x.way ≢ Way.Goto l)
+        → (r.change ≡ Change.Same) × (kept.new.items ≡ x ∷ [])) }
 {
     match mark {
         Mark::Label(label) => {
@@ -165,6 +177,7 @@ fn widen_by<M: MemDomain, U: Fn(i128) -> Option<i128>, S: Steps>(
     ensures old { IfOk result (λ r. (s : State) → InSome M.stands state s → InSome M.stands r.state s) }
     ensures weight { IfOk result (λ r. IsStep (M.weight S.list) state r.state r.change) }
     ensures closed { IfOk result (λ r. r.change ≡ Change.Same → (s : State) → InSome M.stands taken s → InSome M.stands state s) }
+    ensures none { IfOk result (λ r. taken ≡ None → r.change ≡ Change.Same) }
 {
     let Some(next) = taken else {
         return Ok(Widened {

@@ -14,3 +14,11 @@ pub mod Marked
 pub mod Walks
 pub mod Acting
 pub mod Typing
+pub mod Exactly
+pub mod Turning
+pub mod Alone
+pub mod Scoping
+pub mod ExactActs
+pub mod Arriving
+pub mod Jumping
+pub mod Going

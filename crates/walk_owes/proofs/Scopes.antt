@@ -24,7 +24,7 @@ into_leaves : (d : Option ℕ) (v : Value) (xs : List ℕ) (s : State) → leave
 into_leaves None v xs s = refl
 into_leaves (Some d) v xs s = refl
 
-returned_leaves : (to : Target) (v : Option Value) (xs : List ℕ) (s : State) → leave xs (returned to v s) ≡ returned to v (leave xs s)
+pub returned_leaves : (to : Target) (v : Option Value) (xs : List ℕ) (s : State) → leave xs (returned to v s) ≡ returned to v (leave xs s)
 returned_leaves to None xs s = into_leaves to.flag _ xs s
 returned_leaves to (Some v) xs s = into_leaves to.flag _ xs (put_into to.value v s) ∙ ap (put_into to.flag _) (into_leaves to.value v xs s)
 
@@ -48,7 +48,7 @@ same_goto : (all : CsStmtTrees) (l k : ℕ) → ways.Goto l ≡ ways.Goto k → 
 same_goto all l k e h = let f : l ≡ k = cc in rw f h
 
 -- a mark does nothing
-mark_passes : (over : ℕ → Bool) (q : CsProgramTree) (later : Later) (mark : meaning.Mark) (item : CsStmtTree) (s : State) → is_mark mark item ≡ true
+pub mark_passes : (over : ℕ → Bool) (q : CsProgramTree) (later : Later) (mark : meaning.Mark) (item : CsStmtTree) (s : State) → is_mark mark item ≡ true
     → level over q later Anew item s ≡ Normal s
 mark_passes over q later (AtLabel l) trees.Nothing s h = absurd (false_true h)
 mark_passes over q later (AtLabel l) (trees.Set d e) s h = absurd (false_true h)

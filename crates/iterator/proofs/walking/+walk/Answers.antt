@@ -124,14 +124,14 @@ walk_loop-returns-clause-sound g t c = λ at.
     c.loop-turns.out.items c.walk_rest.new.out.items (c.loop-turns.invariant.unrolled at) (c.in_ok-walk_rest.ensures.sound at) c.in_ok-walk_rest.ensures.grows
 
 pub walk_rest-returns-clause-kept_for : goal.walk_rest-returns-clause-kept_for
-walk_rest-returns-clause-kept_for g t c = c.in_ok-keep_all.ensures.kept_for (csprogram_tree c.args.program.now) c.in_ok-pass.ensures.kept_for c.requires.kept_for
+walk_rest-returns-clause-kept_for g t c = c.in_ok-keep_all.ensures.is_for (csprogram_tree c.args.program.now) c.in_ok-pass.ensures.kept_for c.requires.kept_for
 
 pub walk_rest-returns-clause-sound : goal.walk_rest-returns-clause-sound
 walk_rest-returns-clause-sound g t c = λ at.
     let q = csprogram_tree c.args.program.now in
     loop_into (HasTyped g.M.MemDomain.stands q) q c.args.to at (csstmt_tree c.args.body.now) c.args.entry c.in_ok-pass.pass.kept.items c.keep_all.new.kept.items
     c.in_ok-pass.pass.out.items c.add_alarms.new.out.items (c.in_ok-pass.ensures.sound at)
-    (grows_with g.M.MemDomain.stands q c.args.to _ _ _ _ c.in_ok-keep_all.ensures.all (c.in_ok-add_alarms.ensures.new q))
+    (grows_with g.M.MemDomain.stands q c.args.to _ _ _ _ c.in_ok-keep_all.ensures.new (c.in_ok-add_alarms.ensures.new q))
 
 pub walk_rest-returns-clause-grows : goal.walk_rest-returns-clause-grows
 walk_rest-returns-clause-grows g t c =

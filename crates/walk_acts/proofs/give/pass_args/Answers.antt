@@ -10,6 +10,7 @@ loop-arg-init g c = record {
   ready = λ q h k. (h, k);
   is_for = λ q h. h;
   stands = λ s t h p. (s, h, p);
+  sharp = λ s t h p. (s, h, p);
 }
 
 pub set-requires : goal.set-requires
@@ -36,6 +37,19 @@ loop-arg-preserved g c = record {
       ready.1 e in (
         put i.0 c.in-Some-split_first.param.now f.value,
         c.in_ok-set.ensures.stands i.0 (put i.0 c.in-Some-split_first.param.now f.value) i.1
+            (ap (option_map (put i.0 c.in-Some-split_first.param.now)) f.has),
+        f.rest,
+      );
+  sharp = λ s t h p.
+      let q = c.requires.ready.0 in
+      let k = c.loop-arg.invariant.ready q c.requires.ready.1 c.requires.ready.2 in
+      let ready = rw (c.in-Some.ensures.cases.0, c.in-Some-split_first.ensures.cases.0) at k.1 in
+      let i = c.loop-arg.invariant.sharp s t h p in
+      let e = rw (c.in-Some.ensures.cases.0, c.in-Some-split_first.ensures.cases.0) at i.2 in
+      let f = put_first (csexpr_tree c.in-Some.arg.now) (map csexpr_tree c.in-Some.more.now) c.in-Some-split_first.param.now c.in-Some-split_first.last.now i.0 t
+      ready.1 e in (
+        put i.0 c.in-Some-split_first.param.now f.value,
+        c.in_ok-set.ensures.sharp i.0 (put i.0 c.in-Some-split_first.param.now f.value) i.1
             (ap (option_map (put i.0 c.in-Some-split_first.param.now)) f.has),
         f.rest,
       );

@@ -12,6 +12,8 @@ invariant-loop-arg g l = record {
   is_for : (q : CsProgramTree) → g.M.MemDomain.is_for l.fn.state q → g.M.MemDomain.is_for l.state q;
   stands : (s t : State) → g.M.MemDomain.stands l.fn.state s → pass (map csexpr_tree l.args) l.params s ≡ Some t
       → (u : State) × g.M.MemDomain.stands l.state u × (pass (map csexpr_tree l.rest) l.others u ≡ Some t);
+  sharp : (s t : State) → g.M.MemDomain.sharp l.fn.state s → pass (map csexpr_tree l.args) l.params s ≡ Some t
+      → (u : State) × g.M.MemDomain.sharp l.state u × (pass (map csexpr_tree l.rest) l.others u ≡ Some t);
 }
 
 abbrev pub decreases-loop-arg : goal.decreases-loop-arg

@@ -1,3 +1,4 @@
+use Rattle.std.proofs.Common.{◌++◌, ap, ◌∙◌}
 use Rattle.walk_owes.proofs.Admits.{gains_append}
 use Rattle.walk_owes.proofs.Lists.{listed_front, listed_back}
 use Rattle.walk_alarms.proofs.alarms.add_alarms.Goals as goal
@@ -10,3 +11,6 @@ returns-clause-new c = λ q calls at k x m h. rw c.in_ok-append.ensures.items (l
 
 pub returns-clause-gains : goal.returns-clause-gains
 returns-clause-gains c = λ q a h. rw c.in_ok-append.ensures.items (gains_append q a c.args.out.now.items c.args.found.items h)
+
+pub returns-clause-alone : goal.returns-clause-alone
+returns-clause-alone c = λ e. c.in_ok-append.ensures.items ∙ ap (λ l. l ++ c.args.found.items) e

@@ -1,5 +1,7 @@
 use Rattle.std.specs.Prelude.{◌≡◌, All, Some, slice_get}
-use Rattle.std.proofs.Common.{List, ◌∷◌, ◌⊎◌, vec_len}
+use Rattle.std.proofs.Common.{List, [], ◌∷◌, ◌⊎◌, vec_len}
+use Rattle.c_syntax.specs.declared.alarm.Alarm.{Alarm}
+use Rattle.walk_owes.specs.Owes.{IsMoved}
 use Rattle.c_syntax_written.specs.declared.place.Pos.{Pos}
 use Rattle.c_syntax.specs.declared.alarm.WrongKind.{WrongKind}
 use Rattle.c_syntax.specs.Operand.{Operand}
@@ -18,6 +20,9 @@ invariant-loop-alarm l = record {
   inner_only : (q : CsProgramTree) (a : CsStmtTree) → All (IsAdmittedIn q a) l.fn.inner.items → All (IsAdmittedIn q a) l.inner.items;
   gains : (q : CsProgramTree) (c : CsCallTree) (f : CsFunctionTree) → c.pos ≡ l.at → slice_get q.functions c.function ≡ Some f
       → All (IsAdmittedIn q f.body) l.fn.inner.items → Gains q (Call c) l.fn.out.items l.out.items;
+  none : l.fn.inner.items ≡ [] → (l.inner.items ≡ []) × (l.out.items ≡ l.fn.out.items);
+  one : (x : Alarm) → l.fn.inner.items ≡ x ∷ [] → l.fn.out.items ≡ []
+      → ((l.inner.items ≡ x ∷ []) × (l.out.items ≡ [])) ⊎ ((l.inner.items ≡ []) × (y : Alarm) × (l.out.items ≡ y ∷ []) × IsMoved l.at x y);
 }
 
 abbrev pub decreases-loop-alarm : goal.decreases-loop-alarm

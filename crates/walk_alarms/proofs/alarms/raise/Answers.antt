@@ -5,6 +5,7 @@ use Rattle.mem_api.specs.FactsOf.{HoldsIn, NamesFactObjects}
 use Rattle.csharp.specs.Trees as code
 use Rattle.csharp.specs.Trees.{cscheck_tree}
 use Rattle.walk_owes.proofs.Admits.{gains_push}
+use Rattle.walk_owes.proofs.Alone.{push_alone}
 use Rattle.walk_owes.proofs.Lists.{added, listed_front, listed_back}
 use Rattle.walk_alarms.proofs.alarms.raise.Goals as goal
 
@@ -39,3 +40,16 @@ returns-clause-gains g c =
       facts = added (NamesFactObjects (length q.objects)) (λ fact. (u : State) → g.M.MemDomain.stands c.args.state.now u → HoldsIn q u.memory fact)
           (NamesFactObjects (length q.objects)) _ _ c.new-facts.ensures (c.in_ok-facts.ensures.told q c.requires.is_for) (λ f n y. n);
     }))
+
+pub returns-clause-alone : goal.returns-clause-alone
+returns-clause-alone g c = λ s x h i e. (
+  _,
+  push_alone _ _ _ c.in_ok-push.ensures.items e,
+  record {
+    chain = c.new.ensures;
+    place = refl;
+    kind = refl;
+    shown = i;
+    facts = c.in_ok-facts.ensures.sharp (csprogram_tree c.args.program.now) s c.requires.is_for h;
+  },
+)

@@ -1,4 +1,4 @@
-use Rattle.std.proofs.Common.{refl, inl, inr, [], ◌∷◌, ◌++◌, ⊎_elim, sym, subst}
+use Rattle.std.proofs.Common.{refl, inl, inr, [], ◌∷◌, ◌++◌, ⊎_elim, sym, subst, ap, ◌∙◌}
 use Rattle.walk_owes.specs.Owes.{KeepsState}
 use Rattle.walk_owes.proofs.Lists.{all_for_push, keeps_front, keeps_back}
 use Rattle.walk_owes.proofs.Heads.{way_last}
@@ -31,3 +31,9 @@ returns-clause-new g c = λ s h. rw c.in_ok-push.ensures.items (keeps_back g.M.M
 pub returns-clause-only : goal.returns-clause-only
 returns-clause-only g c = λ w h.
     ⊎_elim (λ r. inl (c.in_ok-before.ensures.only w r)) (λ e. inr e) (way_last _ _ w (rw c.in_ok-push.ensures.items at h))
+
+pub returns-clause-alone : goal.returns-clause-alone
+returns-clause-alone g c = λ e.
+    let n = c.in_ok-before.ensures.none e in
+    c.in_ok-push.ensures.items ∙ ap (λ l. l ++ record { way = c.args.way; state = c.in_ok-both.both } ∷ []) n.1
+    ∙ ap (λ m. record { way = c.args.way; state = m } ∷ []) (c.in_ok-both.ensures.alone n.0)

@@ -1,3 +1,6 @@
+use Rattle.std.proofs.Common.{inr, ⊎_elim, subst}
+use Rattle.walk_owes.specs.Exactly.{OutOf}
+use Rattle.walk_owes.proofs.Alone.{never_last, only_last}
 use Rattle.walk_owes.proofs.Lists.{all_for_front, all_for_last, leave_step}
 use Rattle.walk_kept.proofs.kept.leave.Goals as goal
 
@@ -27,6 +30,11 @@ loop-way-preserved g c =
       exits = λ w s h. let i = c.loop-way.invariant.exits w s h in
           leave_step g.M.MemDomain.stands c.pop.new.self.items c.in-Some.field-0 c.loop-way.kept.items c.leave_one.new.kept.items c.loop-way.all
           c.in_ok-all.all c.in_ok-all.ensures.old c.in_ok-all.ensures.after c.in_ok-all.ensures.exits w s (rw c.in-Some.ensures.items at i);
+      none = λ e. absurd (never_last c.pop.new.self.items _ c.in-Some.field-0 c.in-Some.ensures.items (c.loop-way.invariant.none e).0);
+      one = λ x e f k. ⊎_elim
+          (λ a. let o = only_last c.pop.new.self.items _ c.in-Some.field-0 x c.in-Some.ensures.items a.0 in
+          inr (o.0, subst (λ z. OutOf z.way z.state c.leave_one.new.kept.items c.in_ok-all.all) o.1 (c.in_ok-all.ensures.one a.1 a.2)))
+          (λ b. absurd (never_last c.pop.new.self.items _ c.in-Some.field-0 c.in-Some.ensures.items b.0)) (c.loop-way.invariant.one x e f k);
     }
 
 pub returns-clause-is_for : goal.returns-clause-is_for

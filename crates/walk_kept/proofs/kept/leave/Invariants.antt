@@ -1,8 +1,10 @@
-use Rattle.std.proofs.Common.{◌⊎◌, vec_len}
+use Rattle.std.proofs.Common.{◌≡◌, ◌⊎◌, [], ◌∷◌, None, vec_len}
 use Rattle.csharp.specs.Trees.{CsProgramTree}
 use Rattle.csharp.specs.States.{State}
 use Rattle.walk_owes.specs.declared.way.Way.{Way}
+use Rattle.walk_owes.specs.declared.way.Kept.{Kept}
 use Rattle.walk_owes.specs.Owes.{AllFor, GoesOut, InSome, KeepsState, SomeFor}
+use Rattle.walk_owes.specs.Exactly.{OutOf}
 use Rattle.walk_kept.proofs.kept.leave.Given as goal
 
 abbrev pub invariant-loop-way : goal.invariant-loop-way
@@ -15,6 +17,9 @@ invariant-loop-way g l = record {
   after : (s : State) → InSome g.M.MemDomain.stands l.fn.after s → InSome g.M.MemDomain.stands l.all s;
   exits : (w : Way) (s : State) → KeepsState g.M.MemDomain.stands l.fn.inner.items w s
       → KeepsState g.M.MemDomain.stands l.inner.items w s ⊎ GoesOut g.M.MemDomain.stands l.kept.items l.all w s;
+  none : l.fn.inner.items ≡ [] → (l.inner.items ≡ []) × (l.all ≡ l.fn.after) × (l.kept.items ≡ l.fn.kept.items);
+  one : (x : Kept _) → l.fn.inner.items ≡ x ∷ [] → l.fn.after ≡ None → l.fn.kept.items ≡ []
+      → ((l.inner.items ≡ x ∷ []) × (l.all ≡ None) × (l.kept.items ≡ [])) ⊎ ((l.inner.items ≡ []) × OutOf x.way x.state l.kept.items l.all);
 }
 
 abbrev pub decreases-loop-way : goal.decreases-loop-way

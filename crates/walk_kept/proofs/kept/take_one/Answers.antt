@@ -1,4 +1,4 @@
-use Rattle.std.proofs.Common.{◌≡◌, [], ◌∷◌, refl, inl, inr, rules}
+use Rattle.std.proofs.Common.{◌≡◌, [], ◌∷◌, ◌++◌, refl, inl, inr, ap, ◌∙◌, rules}
 use Rattle.walk_owes.proofs.Lists.{all_for_push, keeps_front, keeps_back}
 use Rattle.walk_owes.proofs.Heads.{no_way, way_last}
 use Rattle.walk_kept.proofs.kept.take_one.Goals as goal
@@ -21,3 +21,12 @@ returns-in_ok-push-clause-gone g c = λ h k.
 
 pub returns-in_ok-push-clause-only : goal.returns-in_ok-push-clause-only
 returns-in_ok-push-clause-only g c = λ w k. way_last c.args.rest.now.items _ w (rw c.in_ok-push.ensures.items at k)
+
+pub returns-in_ok-push-clause-hit : goal.returns-in_ok-push-clause-hit
+returns-in_ok-push-clause-hit g c = λ e f.
+    let other : c.args.own ≡ c.args.way → ⊥ = search rules in
+    absurd (other e)
+
+pub returns-in_ok-push-clause-miss : goal.returns-in_ok-push-clause-miss
+returns-in_ok-push-clause-miss g c = λ n e.
+    (refl, c.in_ok-push.ensures.items ∙ ap (λ l. l ++ record { way = c.args.own; state = c.args.state } ∷ []) e)

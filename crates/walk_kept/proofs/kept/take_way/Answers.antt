@@ -1,5 +1,6 @@
-use Rattle.std.proofs.Common.{⊎_elim}
+use Rattle.std.proofs.Common.{[], ◌∷◌, ⊎_elim, inl, inr, sym, ap, ◌∙◌, Some}
 use Rattle.walk_owes.proofs.Lists.{all_for_front, all_for_last}
+use Rattle.walk_owes.proofs.Alone.{never_last, only_last}
 use Rattle.walk_owes.proofs.Heads.{take_step, way_back, way_front}
 use Rattle.walk_kept.proofs.kept.take_way.Goals as goal
 
@@ -28,6 +29,17 @@ loop-own-preserved g c =
       rest_only = λ w h. ⊎_elim (λ r. c.loop-own.invariant.rest_only w r)
           (λ e. c.loop-own.invariant.kept_only w (rw c.in-Some.ensures.items (way_back c.pop.new.self.items c.in-Some.field-0 w e)))
           (c.in_ok-found.ensures.only w h);
+      none = λ e. absurd (never_last c.pop.new.self.items _ c.in-Some.field-0 c.in-Some.ensures.items (c.loop-own.invariant.none e).0);
+      hit = λ x e f. ⊎_elim
+          (λ a. let o = only_last c.pop.new.self.items _ c.in-Some.field-0 x c.in-Some.ensures.items a.0 in
+          let r = c.in_ok-found.ensures.hit (ap (λ z. z.way) o.1 ∙ f) a.1 in
+          inr (o.0, r.0 ∙ ap (λ z. Some z.state) o.1, r.1 ∙ a.2))
+          (λ b. absurd (never_last c.pop.new.self.items _ c.in-Some.field-0 c.in-Some.ensures.items b.0)) (c.loop-own.invariant.hit x e f);
+      miss = λ x e f. ⊎_elim
+          (λ a. let o = only_last c.pop.new.self.items _ c.in-Some.field-0 x c.in-Some.ensures.items a.0 in
+          let r = c.in_ok-found.ensures.miss (λ d. f (sym (ap (λ z. z.way) o.1) ∙ d)) a.2 in
+          inr (o.0, r.0 ∙ a.1, r.1 ∙ ap (λ z. z ∷ []) o.1))
+          (λ b. absurd (never_last c.pop.new.self.items _ c.in-Some.field-0 c.in-Some.ensures.items b.0)) (c.loop-own.invariant.miss x e f);
     }
 
 pub returns-clause-is_for : goal.returns-clause-is_for

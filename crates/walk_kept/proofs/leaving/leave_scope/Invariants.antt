@@ -1,9 +1,11 @@
-use Rattle.std.proofs.Common.{◌⊎◌, vec_len}
+use Rattle.std.proofs.Common.{◌≡◌, ◌⊎◌, [], ◌∷◌, vec_len}
 use Rattle.csharp.specs.Trees.{CsProgramTree}
 use Rattle.csharp.specs.States.{State}
 use Rattle.csharp.specs.Actions.{leave}
 use Rattle.walk_owes.specs.declared.way.Way.{Way}
+use Rattle.walk_owes.specs.declared.way.Kept.{Kept}
 use Rattle.walk_owes.specs.Owes.{AllFor, KeepsState}
+use Rattle.walk_owes.specs.Exactly.{KeptAlone}
 use Rattle.walk_kept.proofs.leaving.leave_scope.Given as goal
 
 abbrev pub invariant-loop-way : goal.invariant-loop-way
@@ -14,6 +16,9 @@ invariant-loop-way g l = record {
   old : (w : Way) (s : State) → KeepsState g.M.MemDomain.stands l.fn.kept.items w s → KeepsState g.M.MemDomain.stands l.kept.items w s;
   left : (w : Way) (s : State) → KeepsState g.M.MemDomain.stands l.fn.inner.items w s
       → KeepsState g.M.MemDomain.stands l.inner.items w s ⊎ KeepsState g.M.MemDomain.stands l.kept.items w (leave l.names s);
+  none : l.fn.inner.items ≡ [] → (l.inner.items ≡ []) × (l.kept.items ≡ l.fn.kept.items);
+  one : (x : Kept _) (s : State) → l.fn.inner.items ≡ x ∷ [] → l.fn.kept.items ≡ [] → g.M.MemDomain.sharp x.state s
+      → ((l.inner.items ≡ x ∷ []) × (l.kept.items ≡ [])) ⊎ ((l.inner.items ≡ []) × KeptAlone g.M.MemDomain.sharp l.kept.items x.way (leave l.names s));
 }
 
 abbrev pub decreases-loop-way : goal.decreases-loop-way

@@ -1,8 +1,9 @@
-use Rattle.std.proofs.Common.{sym, ap, inl, inr, ⊎_elim}
+use Rattle.std.proofs.Common.{refl, sym, ap, inl, inr, ⊎_elim}
 use Rattle.std.proofs.lemmas.Bool.{eq-eqb}
 use Rattle.csharp.proofs.CodeTrees.{csstmt_label}
 use Rattle.walk_owes.specs.declared.marks.Mark.TheVariants as marks
 use Rattle.walk_owes.proofs.Heads.{heads_for_push, head_front, is_head_back, is_head_front, is_head_last, label_same}
+use Rattle.walk_owes.proofs.Alone.{bare_push, head_alone_push}
 use Rattle.walk_owes.proofs.Entering.{label_is}
 use Rattle.walk_owes.proofs.Entering.{no_label_here}
 use Rattle.walk_kept.proofs.passes.add_label.Goals as goal
@@ -37,4 +38,14 @@ returns-in_default g c = record {
   there = λ l h. h;
   only = λ l h. inl h;
   label = λ l e. absurd (no_label_here c.args.item.now l c.in_default.not-Label e);
+  bare = λ mark b. b;
+  alone = λ mark s a. a;
 }
+
+pub returns-in_ok-push-in-Label-clause-bare : goal.returns-in_ok-push-in-Label-clause-bare
+returns-in_ok-push-in-Label-clause-bare g c = λ mark b.
+    rw c.in_ok-push-in-Label.ensures.items (bare_push c.args.heads.now.items _ mark b refl)
+
+pub returns-in_ok-push-in-Label-clause-alone : goal.returns-in_ok-push-in-Label-clause-alone
+returns-in_ok-push-in-Label-clause-alone g c = λ mark s a.
+    rw c.in_ok-push-in-Label.ensures.items (head_alone_push g.M.MemDomain.sharp c.args.heads.now.items _ mark s a refl)

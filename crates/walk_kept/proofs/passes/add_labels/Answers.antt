@@ -18,6 +18,8 @@ loop-item-preserved g c = record {
       let among = rw (c.in-Some.ensures.cases.0, csstmts_cons c.in-Some.item.now c.in-Some.more.now) at c.loop-item.invariant.among k in
       ⊎_elim (λ a. c.loop-item.invariant.only k a)
       (λ e. inr (among (has_first (AtLabel k) (csstmt_tree c.in-Some.item.now) (csstmts_from c.in-Some.more.now) e))) (c.in_ok-add_label.ensures.only k h);
+  bare = λ mark b. c.in_ok-add_label.ensures.bare mark (c.loop-item.invariant.bare mark b);
+  alone = λ mark s a. c.in_ok-add_label.ensures.alone mark s (c.loop-item.invariant.alone mark s a);
   among = λ k h.
       let among = rw (c.in-Some.ensures.cases.0, csstmts_cons c.in-Some.item.now c.in-Some.more.now) at c.loop-item.invariant.among k in
       among (has_second (AtLabel k) (csstmt_tree c.in-Some.item.now) (csstmts_from c.in-Some.more.now) h);

@@ -5,6 +5,7 @@ use Rattle.csharp.specs.Meaning.{AtLabel, has}
 use Rattle.walk_owes.specs.declared.marks.Mark.{Mark}
 use Rattle.walk_owes.specs.Heads.{IsHead}
 use Rattle.walk_owes.specs.Items.{HasHead, HeadsFor}
+use Rattle.walk_owes.specs.Exactly.{HeadAlone, IsBare}
 use Rattle.walk_kept.proofs.passes.add_labels.Given as goal
 
 abbrev pub invariant-loop-item : goal.invariant-loop-item
@@ -13,6 +14,8 @@ invariant-loop-item g l = record {
   old : (mark : Mark) (s : State) → HasHead g.M.MemDomain.stands l.fn.heads.items mark s → HasHead g.M.MemDomain.stands l.heads.items mark s;
   labels : (k : ℕ) → has (AtLabel k) (csstmts_from l.items) ≡ true → IsHead l.heads.items k ⊎ (has (AtLabel k) (csstmts_from l.rest) ≡ true);
   only : (k : ℕ) → IsHead l.heads.items k → IsHead l.fn.heads.items k ⊎ (has (AtLabel k) (csstmts_from l.items) ≡ true);
+  bare : (mark : Mark) → IsBare l.fn.heads.items mark → IsBare l.heads.items mark;
+  alone : (mark : Mark) (s : State) → HeadAlone g.M.MemDomain.sharp l.fn.heads.items mark s → HeadAlone g.M.MemDomain.sharp l.heads.items mark s;
   among : (k : ℕ) → has (AtLabel k) (csstmts_from l.rest) ≡ true → has (AtLabel k) (csstmts_from l.items) ≡ true;
 }
 

@@ -16,3 +16,13 @@ returns-in_ok-step-in-Label-clause-closed g c = λ e l s m k.
     let i = subst (λ n. KeepsState g.M.MemDomain.stands c.args.kept.now.items (ways.Goto n) s) (sym same) k in
     ⊎_elim (λ t. c.in_ok-step-in-Label.ensures.closed e s t.1) (λ r. absurd (c.in_ok-taken-in-Label.ensures.gone (keeps_way g.M.MemDomain.stands _ (ways.Goto c.in-Label.label) s r)))
     (c.in_ok-taken-in-Label.ensures.taken (ways.Goto c.in-Label.label) s i)
+
+pub returns-in_ok-step-in-Label-clause-none : goal.returns-in_ok-step-in-Label-clause-none
+returns-in_ok-step-in-Label-clause-none g c = λ e.
+    let t = c.in_ok-taken-in-Label.ensures.none e in
+    (c.in_ok-step-in-Label.ensures.none t.0, t.1)
+
+pub returns-in_ok-step-in-Label-clause-one : goal.returns-in_ok-step-in-Label-clause-one
+returns-in_ok-step-in-Label-clause-one g c = λ x e n.
+    let t = c.in_ok-taken-in-Label.ensures.miss x e (n c.in-Label.label c.in-Label.is) in
+    (c.in_ok-step-in-Label.ensures.none t.0, t.1)

@@ -1,6 +1,6 @@
 use Rattle.std.proofs.Common.{[], ◌∷◌, refl}
 use Rattle.walk_owes.specs.declared.marks.Head.{Head}
-use Rattle.walk_owes.proofs.Heads.{closed_step, fewer_step, head_front, head_step, heads_for_front, heads_for_last, heads_for_push, is_head_front, is_head_only}
+use Rattle.walk_owes.proofs.Heads.{closed_step, fewer_step, head_front, head_step, heads_for_front, heads_for_last, heads_for_push, is_head_back, is_head_front, is_head_only}
 use Rattle.walk_owes.proofs.Heads.{is_head_step, left_step, new_step, same_step, wider_step}
 use Rattle.walk_kept.proofs.passes.step_heads.Goals as goal
 
@@ -54,6 +54,14 @@ loop-mark-preserved g c =
       left = λ w s k.
           left_step g.M.MemDomain.stands c.args.heads.items xs x c.loop-mark.kept.items c.step_head.new.kept.items
           (rw c.in-Some.ensures.items at i.heads_only) step.left w s (i.left w s k);
+      none = λ e.
+          let v = i.none e in
+          let t = step.none v.1 in
+          (c.both-change.ensures.still t.0 v.0, t.1);
+      one = λ z e n.
+          let v = i.one z e n in
+          let t = step.one z v.1 (λ l m. n l (i.heads_only l (rw c.in-Some.ensures.items (is_head_back xs x l m)))) in
+          (c.both-change.ensures.still t.0 v.0, t.1);
     }
 
 pub returns-clause-heads_for : goal.returns-clause-heads_for

@@ -1,10 +1,12 @@
-use Rattle.std.proofs.Common.{◌≡◌, ◌⊎◌, ◌+◌, ◌<◌, ◌≤◌, ℕ, vec_len}
+use Rattle.std.proofs.Common.{◌≡◌, ◌⊎◌, ◌+◌, ◌<◌, ◌≤◌, ℕ, [], ◌∷◌, vec_len}
+use Rattle.std.specs.Prelude.{◌≢◌}
 use Rattle.csharp.specs.Trees.{CsProgramTree}
 use Rattle.csharp.specs.States.{State}
 use Rattle.walk_owes.specs.declared.marks.Change.TheVariants as changes
 use Rattle.walk_owes.specs.declared.marks.Mark.{Mark}
 use Rattle.walk_owes.specs.declared.marks.Mark.TheVariants as marks
 use Rattle.walk_owes.specs.declared.way.Way.{Way}
+use Rattle.walk_owes.specs.declared.way.Kept.{Kept}
 use Rattle.walk_owes.specs.declared.way.Way.TheVariants as ways
 use Rattle.walk_owes.specs.Owes.{AllFor, KeepsState}
 use Rattle.walk_owes.specs.Heads.{IsHead, missing, weigh}
@@ -33,6 +35,8 @@ invariant-loop-mark g l = record {
       ⊎ HasHead g.M.MemDomain.stands l.fn.heads.items (marks.Label k) s;
   left : (w : Way) (s : State) → KeepsState g.M.MemDomain.stands l.fn.kept.items w s
       → KeepsState g.M.MemDomain.stands l.kept.items w s ⊎ ((k : ℕ) × (w ≡ ways.Goto k) × IsHead l.fn.heads.items k);
+  none : l.fn.kept.items ≡ [] → (l.change ≡ changes.Same) × (l.kept.items ≡ []);
+  one : (x : Kept _) → l.fn.kept.items ≡ x ∷ [] → ((k : ℕ) → IsHead l.fn.heads.items k → x.way ≢ ways.Goto k) → (l.change ≡ changes.Same) × (l.kept.items ≡ x ∷ []);
 }
 
 abbrev pub decreases-loop-mark : goal.decreases-loop-mark
