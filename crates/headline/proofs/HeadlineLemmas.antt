@@ -1,6 +1,6 @@
--- One name, and the report of alarms.
-use Rattle.std.proofs.Common.{◌≡◌, ◌⊎◌, inl, inr, List, ℕ, Option, Some, None}
-use Rattle.std.specs.Prelude.{false, IfSome, IsSomeAnd}
+-- One command, and the report of alarms.
+use Rattle.std.proofs.Common.{◌≡◌, ◌⊎◌, ◌∙◌, inl, inr, sym, List, ℕ, Option, Some, None}
+use Rattle.std.specs.Prelude.{IfSome, IsSomeAnd}
 use Rattle.c_syntax.specs.declared.alarm.Alarm.{Alarm}
 use Rattle.c_syntax.specs.Program.{TProgramTree}
 use Rattle.c_syntax.specs.declared.program.Plan.{Plan}
@@ -8,7 +8,7 @@ use Rattle.alarm_carried_laws.specs.AlarmsOf.{AreAlarmsOf}
 use Rattle.program_alarms.specs.Ready.{IsReady}
 use Rattle.report_alarms.specs.ReportText.{text_of}
 use Rattle.report_alarms.specs.Told.{told_of}
-use Rattle.headline.specs.Command.{IsCommand}
+use Rattle.headline_words.specs.Command.{Asked, command_of}
 use Rattle.headline.specs.Read.{IsOneProgram}
 use Rattle.report.specs.Refusal.{RefusalTree}
 use Rattle.report.specs.RefusalText.{line_of}
@@ -17,9 +17,9 @@ use Rattle.headline.specs.declared.status.Status.{Status}
 use Rattle.headline.specs.declared.status.Status.TheVariants as statuses
 use Rattle.headline.specs.Headline.{IsReport, OnWhole}
 
--- the words name one file
-pub same_name : (words : List (List ℕ)) (a b : List ℕ) → IsCommand words a → IsCommand words b → a ≡ b
-same_name words a b one two = let (p, e) = one.words_are in let (q, f) = two.words_are in cc
+-- the words ask for one thing
+pub same_asked : (words : List (List ℕ)) (a b : Asked) → command_of words ≡ Some a → command_of words ≡ Some b → a ≡ b
+same_asked words a b one two = let e : Some a ≡ Some b = sym one ∙ two in cc
 
 -- an answer that is this status or a write fault comes with a text only where it is this status
 pub on_whole : (status result : Status) (P : Type 0) → (result ≡ status) ⊎ (result ≡ statuses.WriteFault) → (result ≡ status → P) → OnWhole result P
@@ -41,9 +41,9 @@ refused name bytes text None is line = absurd is
 refused name bytes text (Some r) is line = (r, is, line)
 
 -- the report of alarms of a program that is ready
-pub report : (name bytes : List ℕ) (program : TProgramTree) (plan : Plan) (alarms : List Alarm) (text : List ℕ) → IsReady program plan → IsOneProgram bytes program
-    → AreAlarmsOf program alarms → text ≡ text_of name (told_of program plan.main) false alarms → IsReport name bytes alarms text
-report name bytes program plan alarms text ready one alarms_are text_is = record {
+pub report : (asked : Asked) (bytes : List ℕ) (program : TProgramTree) (plan : Plan) (alarms : List Alarm) (text : List ℕ) → IsReady program plan → IsOneProgram bytes program
+    → AreAlarmsOf program alarms → text ≡ text_of asked.file (told_of program plan.main) asked.state alarms → IsReport asked bytes alarms text
+report asked bytes program plan alarms text ready one alarms_are text_is = record {
   program = program;
   main = plan.main;
   read = one.is;

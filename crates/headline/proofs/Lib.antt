@@ -1,4 +1,3 @@
-pub mod CommandLemmas
 pub mod VerdictLemmas
 pub mod HeadlineLemmas
 pub mod ReadLemmas

@@ -1,5 +1,5 @@
 -- What a run may answer: every execution that goes wrong is listed, and what is listed is admitted and shown.
-use Rattle.std.specs.Prelude.{◌≡◌, ◌≢◌, ℕ, Some, false, List, []}
+use Rattle.std.specs.Prelude.{◌≡◌, ◌≢◌, ℕ, Some, List, []}
 use Rattle.c_syntax.specs.declared.alarm.Alarm.{Alarm}
 use Rattle.headline.specs.declared.status.Status.{Status}
 use Rattle.headline.specs.declared.status.Status.TheVariants.{NoAlarm, Alarms, Refused, Usage, ReadFault, NoMemory}
@@ -11,10 +11,11 @@ use Rattle.report_alarms.specs.ReportText.{text_of}
 use Rattle.report_alarms.specs.Told.{told_of}
 use Rattle.report.specs.Refusal.{RefusalTree}
 use Rattle.report.specs.RefusalText.{line_of}
+use Rattle.headline_words.specs.Command.{Asked}
 use Rattle.headline.specs.Verdict.{IsRefusedFor}
 
 -- the text is the report of these alarms on the one program of the bytes, which are not refused
-pub record IsReport (name bytes : List ℕ) (alarms : List Alarm) (text : List ℕ) : Type 0 where
+pub record IsReport (asked : Asked) (bytes : List ℕ) (alarms : List Alarm) (text : List ℕ) : Type 0 where
   pub program : TProgramTree
   pub main : ℕ
   pub read : IsAdmittedAs bytes program
@@ -22,14 +23,14 @@ pub record IsReport (name bytes : List ℕ) (alarms : List Alarm) (text : List �
   pub accepted : (r : RefusalTree) → IsRefusedFor bytes r → ⊥
   pub main_is : main_of program ≡ Some main
   pub alarms_are : AreAlarmsOf program alarms
-  pub text_is : text ≡ text_of name (told_of program main) false alarms
+  pub text_is : text ≡ text_of asked.file (told_of program main) asked.state alarms
 
--- the answer and its text, for a file of this name with these bytes
-abbrev pub IsAnswer : List ℕ → List ℕ → Status → List ℕ → Type 0
-IsAnswer name bytes NoAlarm text = IsReport name bytes [] text
-IsAnswer name bytes Alarms text = (alarms : List Alarm) × (alarms ≢ []) × IsReport name bytes alarms text
-IsAnswer name bytes Refused text = (r : RefusalTree) × IsRefusedFor bytes r × (text ≡ line_of name r)
-IsAnswer name bytes status text = ⊥
+-- the answer and its text, where the file that is asked for has these bytes
+abbrev pub IsAnswer : Asked → List ℕ → Status → List ℕ → Type 0
+IsAnswer asked bytes NoAlarm text = IsReport asked bytes [] text
+IsAnswer asked bytes Alarms text = (alarms : List Alarm) × (alarms ≢ []) × IsReport asked bytes alarms text
+IsAnswer asked bytes Refused text = (r : RefusalTree) × IsRefusedFor bytes r × (text ≡ line_of asked.file r)
+IsAnswer asked bytes status text = ⊥
 
 -- the answer comes with a text, and of that this holds
 abbrev pub OnWhole : Status → Type 0 → Type 0
@@ -56,3 +57,9 @@ OnNothing Usage p = p
 OnNothing ReadFault p = p
 OnNothing NoMemory p = p
 OnNothing status p = Unit {0}
+
+-- the answer comes where the words are a command, or is out of memory, and of that this holds
+abbrev pub OnCommanded : Status → Type 0 → Type 0
+OnCommanded Usage p = Unit {0}
+OnCommanded NoMemory p = Unit {0}
+OnCommanded status p = p

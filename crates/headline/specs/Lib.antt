@@ -1,5 +1,4 @@
 pub mod Program
-pub mod Command
 pub mod Verdict
 pub mod Headline
 pub mod Status

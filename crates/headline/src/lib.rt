@@ -7,11 +7,10 @@
 //! | What | Stated in `specs/` | Promised by |
 //! |---|---|---|
 //! | what an answer is | `Headline` | `run` |
-//! | which words are a command | `Command` | `command` |
 //! | which program bytes are, and for what they are refused | `Program`, `Verdict` | `program_of`, `one_program`, `one_verdict`, `program_nor_refused` |
 //! | exit statuses | `Status` | `code` |
 //!
-//! The text of a report is that of `report_alarms`, the line of a refusal that of `report`, and what is promised of the alarms is
+//! Which words are a command, and what it asks for, is that of `headline_words`. The text of a report is that of `report_alarms`, the line of a refusal that of `report`, and what is promised of the alarms is
 //! stated in `alarm_carried_laws`.
 #![tactic(auto)]
 
@@ -19,10 +18,8 @@ mod program;
 mod runs;
 mod status;
 mod verdict;
-mod words;
 
 pub use program::{Read, program_of};
 pub use runs::run;
 pub use status::Status;
 pub use verdict::{one_program, one_verdict, program_nor_refused};
-pub use words::command;

@@ -19,12 +19,6 @@ use mem_intervals::IntervalStates;
 use num_api::{Powers, Ramp, power_step};
 use std::alloc::{AllocError as NoMemory, Global};
 
-/// So many turns of a loop are walked one by one, before it is widened, where a user does not ask for another number.
-pub const UNROLLED_TURNS: u32 = 3;
-
-/// So many steps of narrowing follow, where a user does not ask for another number.
-pub const NARROWING_STEPS: u32 = 2;
-
 /// The alarms of a program, in order, by ranges of its integers. `unroll` turns of each loop are walked one by one before it is
 /// widened, and at most `narrow` steps of narrowing follow. The only error is want of memory.
 pub fn alarms_of(

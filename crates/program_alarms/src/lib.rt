@@ -15,4 +15,4 @@
 
 mod alarms;
 
-pub use alarms::{NARROWING_STEPS, UNROLLED_TURNS, alarms_of};
+pub use alarms::alarms_of;

@@ -8,7 +8,8 @@ mod words;
 use crate::files::{MOST, with_lines};
 use c_syntax::{Plan, TProgram};
 use headline::{Read, program_of};
-use program_alarms::{NARROWING_STEPS, UNROLLED_TURNS, alarms_of};
+use headline_words::{NARROWED, UNROLLED};
+use program_alarms::alarms_of;
 use report::{Refusal, refusal_line};
 use std::alloc::{AllocError, Global};
 
@@ -24,8 +25,8 @@ struct Turns {
 /// What may go wrong in a file, or the line that it is refused with.
 pub fn line(alloc: Global, text: &str) -> Result<String, AllocError> {
     let turns = Turns {
-        unroll: UNROLLED_TURNS,
-        narrow: NARROWING_STEPS,
+        unroll: UNROLLED,
+        narrow: NARROWED,
     };
     answer(alloc, turns, text)
 }

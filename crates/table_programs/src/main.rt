@@ -11,6 +11,7 @@
 //! | `run 7 -3: `, and a file | what its run on these inputs comes to |
 //! | `timed 7 -3: `, and a file | the same, with many more steps |
 //! | `whole room=9: `, and a file | the exit status of `verac analyze a.c`, and what it wrote (below) |
+//! | `words analyze --state a.c` | what the words behind `verac` ask for, or `usage` |
 //! | `type @c u-` | the type of what the words come to (below) |
 //! | `ask size S` | what is asked of one type or two (below) |
 //! | `text`, and a text of C | what it says at last (below) |
@@ -32,7 +33,7 @@
 //!
 //! The files and the sink of a whole run are in memory. `room` is how many bytes the sink takes, where that is not 1,000;
 //! `read` and `write` are the call of the files and of the sink that fails, counted from 1; `name` is the name of the file, for
-//! which the command asks; `spaces` is how many spaces stand behind its text; `runs` is how many runs are made over the same
+//! which the command asks, and `words` are the words before it, with commas between them; `spaces` is how many spaces stand behind its text; `runs` is how many runs are made over the same
 //! files and sink, each of which has its status.
 //!
 //! The rows of typing are operators on types in a short notation. The words of a row are read one by one, operands before
@@ -80,6 +81,7 @@ mod files;
 mod runs;
 mod typing;
 mod whole_runs;
+mod words;
 
 use std::alloc::{AllocError, Global};
 use std::io::{self, Read};
@@ -111,6 +113,7 @@ fn line(alloc: Global, row: &str) -> Result<String, AllocError> {
         "run" => runs::line(alloc, STEPS, rest),
         "timed" => runs::line(alloc, MANY, rest),
         "whole" => whole_runs::line(alloc, rest),
+        "words" => words::line(alloc, rest),
         "alarms" => alarms::line(alloc, rest),
         "walked" => alarms::walked_line(alloc, rest),
         _ => files::line(alloc, word, rest),

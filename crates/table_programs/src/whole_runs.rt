@@ -13,6 +13,8 @@ const ROOM: u64 = 1000;
 struct Setting<'a> {
     /// The name of the file, for which the command asks.
     name: &'a str,
+    /// The words before that name, with commas between them.
+    words: &'a str,
     /// How many spaces stand behind the text of the file.
     spaces: u64,
     /// The call of the files that fails.
@@ -42,6 +44,7 @@ pub fn line(alloc: Global, row: &str) -> Result<String, AllocError> {
 fn settings(words: &str) -> Option<Setting<'_>> {
     let mut setting = Setting {
         name: "a.c",
+        words: "",
         spaces: 0,
         read: 0,
         write: 0,
@@ -56,19 +59,27 @@ fn settings(words: &str) -> Option<Setting<'_>> {
 
 fn with_word<'a>(setting: Setting<'a>, word: &'a str) -> Option<Setting<'a>> {
     let (key, told) = word.split_once('=')?;
-    if key == "name" {
-        return Some(Setting {
+    match key {
+        "name" => Some(Setting {
             name: told,
             ..setting
-        });
+        }),
+        "words" => Some(Setting {
+            words: told,
+            ..setting
+        }),
+        _ => with_number(setting, key, told),
     }
+}
+
+fn with_number<'a>(setting: Setting<'a>, key: &str, told: &str) -> Option<Setting<'a>> {
     let Ok(number) = told.parse::<u64>() else {
         return None;
     };
-    with_number(setting, key, number)
+    with_count(setting, key, number)
 }
 
-fn with_number<'a>(mut setting: Setting<'a>, key: &str, number: u64) -> Option<Setting<'a>> {
+fn with_count<'a>(mut setting: Setting<'a>, key: &str, number: u64) -> Option<Setting<'a>> {
     match key {
         "spaces" => setting.spaces = number,
         "read" => setting.read = number,
@@ -110,24 +121,28 @@ fn told(
 ) -> Result<String, AllocError> {
     let mut line = String::new(alloc);
     for _ in 0..setting.runs {
-        let status = status(alloc, setting.name, files, out)?;
+        let status = status(alloc, setting, files, out)?;
         line.push_str(format!(in alloc; "{status} ")?.as_str())?;
     }
     push_written(&mut line, out.bytes())?;
     Ok(line)
 }
 
-// The exit status of `verac analyze` of the file.
+// The exit status of `verac analyze` of the file, with the words before its name.
 fn status(
     alloc: Global,
-    name: &str,
+    setting: &Setting,
     files: &mut MemFiles,
     out: &mut MemSink,
 ) -> Result<u8, AllocError> {
     let mut words = Vec::new(alloc);
-    for word in ["verac", "analyze", name] {
+    for word in ["verac", "analyze"] {
         words.push(String::from_str(alloc, word)?)?;
     }
+    for word in setting.words.split(',').filter(|word| !word.is_empty()) {
+        words.push(String::from_str(alloc, word)?)?;
+    }
+    words.push(String::from_str(alloc, setting.name)?)?;
     Ok(run(alloc, &words, files, out).code())
 }
 

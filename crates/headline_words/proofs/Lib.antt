@@ -1,0 +1,10 @@
+pub mod WordLemmas
+pub mod RowLemmas
+pub mod StepLemmas
+pub mod FaultLemmas
+pub mod FitLemmas
+pub mod TurnLemmas
+pub mod ParseLemmas
+pub mod FoundLemmas
+pub mod NumberLemmas
+pub mod CommandLemmas

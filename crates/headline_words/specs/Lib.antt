@@ -1,0 +1,3 @@
+pub mod Command
+pub mod Parser
+pub mod Told
