@@ -5,6 +5,7 @@ ghost use Rattle.num_api.specs.Ranges.{InRange, IsPoint, NoWider};
 ghost use Rattle.num_api.specs.declared.message.Range.{Range};
 ghost use Rattle.num_api.specs.Residues.{IsResidue};
 ghost use Rattle.residues.specs.Classes.{Meets};
+ghost use Rattle.channels.specs.Links.{IsOfSides, MeetsSome, NoWiderThanSome};
 
 use ext_int::{max, min};
 use num_api::{NExpr, Oracle, Range, Residue, ValueDomain, Var};
@@ -58,11 +59,11 @@ impl<P: Oracle, Q: Oracle> Oracle for Both<'_, P, Q> {
 
     ghost known_some = { λ s x e. refl };
 
-    ghost may_range = { λ s e r. Unit {0} };
+    ghost may_range = { λ s e r. NoWiderThanSome (P.may_range s.left.now e) r × NoWiderThanSome (Q.may_range s.right.now e) r };
 
-    ghost may_residue = { λ s e r. Unit {0} };
+    ghost may_residue = { λ s e r. MeetsSome (P.may_residue s.left.now e) (Q.may_residue s.right.now e) r };
 
-    ghost may_be_same = { λ s x e. Unit {0} };
+    ghost may_be_same = { λ s x e. IsOfSides (P.may_be_same s.left.now x) (Q.may_be_same s.right.now x) e };
 
     fn range(&self, e: &NExpr) -> Range {
         in_both(self.left.range(e), self.right.range(e))
