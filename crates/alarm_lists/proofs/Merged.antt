@@ -1,5 +1,5 @@
 -- How a list in order is made, alarm by alarm.
-use Rattle.std.proofs.Common.{◌≡◌, ◌≢◌, ◌<◌, ◌+◌, ◌⊎◌, ⊎_elim, inl, inr, ℕ, Bool, false, List, [], ◌∷◌, ◌++◌, length, refl, sym, ap, subst, ◌∙◌, arith, get_or}
+use Rattle.std.proofs.Common.{◌≡◌, ◌≢◌, ◌<◌, ◌+◌, ◌⊎◌, ⊎_elim, inl, inr, ℕ, zero, suc, Bool, false, List, [], ◌∷◌, ◌++◌, length, refl, sym, ap, subst, ◌∙◌, arith, get_or}
 use Rattle.std.specs.Prelude.{All, AllPairs, Contains}
 use Rattle.std.specs.Ordering.{is_lt, nat_cmp, ordering_reverse}
 use Rattle.std.specs.Cmp.Lexicographic.{slice_cmp}
@@ -11,7 +11,7 @@ use Rattle.std.proofs.lemmas.Cmp.{nat_list_cmp_total}
 use Rattle.std.proofs.lemmas.List.{get_or_append_left, get_or_push, length-append}
 use Rattle.std.proofs.lemmas.List.Elements.{All-contains, All-contains_itself, All-weaker, Contains-append_left, Contains-push, Contains-push_cases}
 use Rattle.std.proofs.lemmas.List.Quantifiers.{all_pairs_push}
-use Rattle.std.proofs.lemmas.List.Sorted.{Contains-permutation, IsPermutation-sym, IsStrictWeakOrder-flip, ranks_by, sorted_far}
+use Rattle.std.proofs.lemmas.List.Sorted.{Contains-permutation, IsPermutation-sym, length_permutation, IsStrictWeakOrder-flip, ranks_by, sorted_far}
 use Rattle.c_syntax.specs.declared.alarm.Alarm.{Alarm}
 use Rattle.c_syntax.specs.Admission.{IsProper}
 use Rattle.c_steps.specs.Order.{IsBefore, Precedes, order_key}
@@ -19,6 +19,8 @@ use Rattle.csharp.specs.Trees.{CsProgramTree}
 use Rattle.mem_shown.specs.Hulls.{AreOfOneForm}
 use Rattle.alarm_claims.specs.Admitted.{Holds}
 use Rattle.alarm_claims.specs.Wider.{Serves}
+use Rattle.walk_owes.proofs.Alone.{never_last, only_last}
+use Rattle.walk_owes.proofs.Entering.{nil_of}
 use Rattle.walk_owes.proofs.Admits.{holds_both, holds_same}
 use Rattle.alarm_lists.specs.Lists.{AreAlike, HaveOneForm, IsAdded, IsInOrderOf, IsMerge, NamesOwn, order_of}
 use Rattle.alarm_lists.proofs.Forms.{form_both, hull_form}
@@ -249,3 +251,47 @@ merging_steps alarms front x done now one proper m h =
     (λ a. subst (Merging alarms front) (sym a.5)
     (merging_merged alarms front x a.0 a.1 a.2 (subst (Merging alarms (front ++ (x ∷ []))) a.3 m) a.4.0 a.4.1))
     h
+
+-- ---- lists of none and of one
+
+-- what is left and what is done, of no alarm and of one
+pub record Short (alarms rest done : List Alarm) : Type 0 where
+  pub none : alarms ≡ [] → (rest ≡ []) × (done ≡ [])
+  pub one : (x : Alarm) → alarms ≡ x ∷ [] → ((rest ≡ x ∷ []) × (done ≡ [])) ⊎ ((rest ≡ []) × (done ≡ x ∷ []))
+
+one_in : (x y : Alarm) → Contains (x ∷ []) y → x ≡ y
+one_in x y (zero, l, e) = e
+one_in x y (suc n, l, e) = absurd (omega (l, arith))
+
+only_of : (x : Alarm) (ys : List Alarm) → length ys ≡ 1 → ((y : Alarm) → Contains ys y → Contains (x ∷ []) y) → ys ≡ x ∷ []
+only_of x [] e f = absurd (omega (e, arith))
+only_of x (y ∷ []) e f = ap (λ z. z ∷ []) (sym (one_in x y (f y (0, omega arith, refl))))
+only_of x (y ∷ z ∷ ys) e f = absurd (omega (e, arith))
+
+added_alone : (done : List Alarm) (x : Alarm) (now : List Alarm) → IsAdded done x now → done ≡ [] → now ≡ x ∷ []
+added_alone done x now a e = ⊎_elim (λ l. l.1 ∙ ap (λ d. d ++ (x ∷ [])) e) (λ r. absurd (never_last r.0 done r.1 r.3 e)) a
+
+pub short_begins : (alarms rest : List Alarm) → IsPermutation alarms rest → Short alarms rest []
+short_begins alarms rest p = record {
+  none = λ e. (nil_of rest (length_permutation alarms rest p ∙ ap length e), refl);
+  one = λ x e. inl (
+    only_of x rest (length_permutation alarms rest p ∙ ap length e)
+        (λ y c. subst (λ z. Contains z y) e (Contains-permutation rest alarms y (IsPermutation-sym alarms rest p) c)),
+    refl,
+  );
+}
+
+pub short_steps : (alarms front : List Alarm) (x : Alarm) (done now : List Alarm) → Short alarms (front ++ (x ∷ [])) done → IsAdded done x now → Short alarms front now
+short_steps alarms front x done now s a = record {
+  none = λ e. absurd (never_last front (front ++ (x ∷ [])) x refl (s.none e).0);
+  one = λ y e. ⊎_elim
+      (λ l. let o = only_last front (front ++ (x ∷ [])) x y refl l.0 in inr (o.0, added_alone done x now a l.1 ∙ ap (λ z. z ∷ []) o.1))
+      (λ r. absurd (never_last front (front ++ (x ∷ [])) x refl r.0))
+      (s.one y e);
+}
+
+pub short_none : (alarms rest done : List Alarm) → Short alarms rest done → alarms ≡ [] → done ≡ []
+short_none alarms rest done s e = (s.none e).1
+
+pub short_one : (alarms rest done : List Alarm) → length rest ≡ 0 → Short alarms rest done → (x : Alarm) → alarms ≡ x ∷ [] → done ≡ x ∷ []
+short_one alarms rest done l s x e = ⊎_elim (λ a. absurd (omega (ap length a.0, l, arith))) (λ b. b.1) (s.one x e)

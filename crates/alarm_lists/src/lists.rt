@@ -1,7 +1,7 @@
 // Lists in order.
 #![tactic(auto)]
 
-ghost use Rattle.std.specs.Prelude.{All, Contains, IfOk, OnOk};
+ghost use Rattle.std.specs.Prelude.{◌≡◌, [], ◌∷◌, All, Contains, IfOk, OnOk};
 ghost use Rattle.c_syntax.specs.Admission.{IsProper};
 ghost use Rattle.c_syntax.specs.declared.alarm.Alarm.{Alarm as AlarmValue};
 ghost use Rattle.mem_shown.specs.Hulls.{AreOfOneForm};
@@ -17,7 +17,9 @@ use std::cmp::Ordering;
 pub fn in_order(alloc: Global, alarms: Vec<Alarm>) -> Result<Alarms, NoMemory>
     requires form { HaveOneForm alarms.items }
     requires proper { All (λ x. IsProper x.shown) alarms.items }
-    ensures { IfOk result (IsInOrderOf alarms.items) }
+    ensures order { IfOk result (IsInOrderOf alarms.items) }
+    ensures none { IfOk result (λ sorted. alarms.items ≡ [] → sorted ≡ []) }
+    ensures one { IfOk result (λ sorted. (x : AlarmValue) → alarms.items ≡ x ∷ [] → sorted ≡ x ∷ []) }
 {
     let mut rest = alarms;
     rest.sort_by(|a, b| alarm_order(b, a))?;

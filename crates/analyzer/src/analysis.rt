@@ -1,12 +1,15 @@
 // The analysis.
 #![tactic(auto, using(csharp::proofs::CodeTrees::the_code_trees))]
 
-ghost use Rattle.std.specs.Prelude.{IfOk};
+ghost use Rattle.std.specs.Prelude.{IfOk, IsTrue};
 ghost use Rattle.num_api.specs.Told.{Keeps};
 ghost use Rattle.csharp.specs.Trees.{csprogram_tree};
 ghost use Rattle.csharp.specs.Formed.{IsFormed};
+ghost use Rattle.csharp_laws.specs.Enough.{IsForwardOnly};
 ghost use Rattle.alarm_claims.specs.Analyzed.{Analyzed};
+ghost use Rattle.alarm_claims.specs.ExactFor.{IsExactFor};
 ghost use Rattle.alarm_lists.specs.Sites.{SitesAgree};
+ghost use Rattle.analyzer.specs.Straight.{AreDefaultsOnce};
 
 use crate::bits::initials_have_eight_bits;
 use alarm_lists::in_order;
@@ -30,7 +33,9 @@ pub fn analyze<M: MemDomain, U: Fn(i128) -> Option<i128>, S: Steps>(
     requires ramp { Keeps U.pre U.post ramp.now S.list }
     requires formed { IsFormed (csprogram_tree program.now) }
     requires sites { SitesAgree (csprogram_tree program.now) }
-    ensures { IfOk result (Analyzed (csprogram_tree program.now)) }
+    ensures whole { IfOk result (Analyzed (csprogram_tree program.now)) }
+    ensures exact { IfOk result (λ alarms. IsTrue (M.exact (csprogram_tree program.now)) → IsForwardOnly (csprogram_tree program.now)
+        → AreDefaultsOnce (csprogram_tree program.now) → IsExactFor (csprogram_tree program.now) unroll alarms) }
 {
     first_states_are_typed();
     initials_have_eight_bits(program.initial.as_slice());

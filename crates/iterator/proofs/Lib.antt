@@ -1,3 +1,6 @@
+mod Begun
 mod Cases
+mod Lifting
+mod Parting
 mod Settling
 mod Turns

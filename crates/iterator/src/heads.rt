@@ -1,7 +1,7 @@
 // The sets from which turns of a loop are walked.
 #![tactic(auto)]
 
-ghost use Rattle.std.specs.Prelude.{◌≡◌, ◌<◌, false, IfOk, IsTrue, OnOk};
+ghost use Rattle.std.specs.Prelude.{◌≡◌, ◌<◌, false, IfOk, IsTrue, OnOk, None};
 ghost use Rattle.num_api.specs.Told.{Keeps};
 ghost use Rattle.csharp.specs.Trees.{CsProgramTree};
 ghost use Rattle.csharp.specs.States.{State};
@@ -24,6 +24,7 @@ pub fn widen_by<M: MemDomain, U: Fn(i128) -> Option<i128>, S: Steps>(
     ensures right { OnOk result ((s : State) → InSome M.stands next.now s → M.stands head.new s) }
     ensures fell { IfOk result (λ falls. IsTrue falls → M.weight S.list head.new < M.weight S.list head.old) }
     ensures same { IfOk result (λ falls. falls ≡ false → head.new ≡ head.old) }
+    ensures none { IfOk result (λ falls. next.now ≡ None → falls ≡ false) }
 {
     match next {
         None => Ok(false),
@@ -40,10 +41,17 @@ pub fn next_head<M: MemDomain>(entry: &M, next: &Option<M>) -> Result<M, NoMemor
     ensures is_for { IfOk result (λ m. (q : CsProgramTree) → M.is_for entry.now q → SomeFor M.is_for q next.now → M.is_for m q) }
     ensures entry { IfOk result (λ m. (s : State) → M.stands entry.now s → M.stands m s) }
     ensures next { IfOk result (λ m. (s : State) → InSome M.stands next.now s → M.stands m s) }
+    ensures alone { IfOk result (λ m. next.now ≡ None → m ≡ entry.now) }
 {
-    let mut first = entry.copy()?;
-    if let Some(state) = next {
-        first.join(state)?;
+    match next {
+        None => {
+            let first = entry.copy()?;
+            Ok(first)
+        }
+        Some(state) => {
+            let mut first = entry.copy()?;
+            first.join(state)?;
+            Ok(first)
+        }
     }
-    Ok(first)
 }

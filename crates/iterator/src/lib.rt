@@ -10,11 +10,14 @@
 //!
 //! What is promised is in the words of `walk_owes` and `alarm_claims`: each outcome of the meaning from each typed state of the
 //! set is covered (`Sound`), nothing that was kept or listed is lost (`Grows`), and each alarm that is gained is admitted
-//! (`Gains`). The walk ends for every program whose calls lead down, and it has no fuel.
+//! (`Gains`). From a set that has one state alone, with nothing kept and nothing listed before, what the walk leaves is the one
+//! outcome of the run, where no loop of it comes back more often than turns are walked one by one (`Exact`). The walk ends for every program whose calls lead down, and it has no fuel.
 #![tactic(auto)]
 
 mod heads;
+mod passes;
 mod switches;
 mod walking;
 
-pub use walking::{Pass, Settings, walk};
+pub use passes::Pass;
+pub use walking::{Settings, walk};

@@ -1,7 +1,7 @@
 // Sets that enter a switch.
 #![tactic(auto, using(csharp::proofs::CodeTrees::the_code_trees))]
 
-ghost use Rattle.std.specs.Prelude.{◌≡◌, ℕ, ℤ, true, false, slice_get, IfOk, OnOk, Option, Some, None};
+ghost use Rattle.std.specs.Prelude.{◌≡◌, ◌⊎◌, ℕ, ℤ, true, false, slice_get, IfOk, OnOk, Option, Some, None};
 ghost use Rattle.std.specs.Ordering.{int_eq};
 ghost use Rattle.c_syntax_written.specs.declared.int_type.IntType.{IntType as Integer};
 ghost use Rattle.block_mem.specs.declared.types.Value.TheVariants as values;
@@ -14,6 +14,7 @@ ghost use Rattle.csharp.specs.Meaning as meaning;
 ghost use Rattle.mem_api.specs.Given.{IsOf};
 ghost use Rattle.c_values.specs.Typed as c_values_typed;
 ghost use Rattle.walk_owes.specs.Owes.{HasTruth, InSome, SomeFor};
+ghost use Rattle.walk_owes.specs.Exactly.{HeadAlone, IsBare, PartedAlone};
 ghost use Rattle.walk_owes.specs.Items.{HasHead, HeadsFor, Parted};
 ghost use Rattle.walk_owes.specs.Heads.{IsHead};
 ghost use Rattle.walk_owes.specs.Walkable.{equals};
@@ -95,6 +96,7 @@ pub fn part_cases<M: MemDomain>(
     ensures left_for { IfOk result (λ p. SomeFor M.is_for (csprogram_tree program.now) p.left) }
     ensures no_labels { IfOk result (λ p. (l : ℕ) → IsHead p.heads.items l → ⊥) }
     ensures parted { IfOk result (λ p. Parted M.stands (csprogram_tree program.now) (csexpr_tree value.now) names.now (csstmts_from items.now) none state p.heads.items p.left) }
+    ensures alone { IfOk result (λ p. PartedAlone M.sharp (csprogram_tree program.now) (csexpr_tree value.now) names.now (csstmts_from items.now) none state p.heads.items p.left) }
 {
     let mut heads = Vec::new(alloc);
     let mut left = Some(state);
@@ -128,6 +130,9 @@ fn part_item<M: MemDomain>(
     ensures parted { IfOk result (λ m. (all rest : CsStmtTrees) (before : _)
         → Parted M.stands (csprogram_tree program.now) (csexpr_tree value.now) names.now all (more (csstmt_tree item.now) rest) before heads.old.items left
         → Parted M.stands (csprogram_tree program.now) (csexpr_tree value.now) names.now all rest before heads.new.items m) }
+    ensures alone { IfOk result (λ m. (all rest : CsStmtTrees) (before : _)
+        → PartedAlone M.sharp (csprogram_tree program.now) (csexpr_tree value.now) names.now all (more (csstmt_tree item.now) rest) before heads.old.items left
+        → PartedAlone M.sharp (csprogram_tree program.now) (csexpr_tree value.now) names.now all rest before heads.new.items m) }
 {
     match item {
         CsStmt::Case { value: number } => {
@@ -166,6 +171,13 @@ fn part_case<M: MemDomain>(
         → HasHead M.stands heads.new.items (Mark.Case number) (acts.enter (csprogram_tree program.now).objects names.now s)) }
     ensures miss { IfOk result (λ m. (s : State) (t : Integer) (k : ℤ) → InSome M.stands left s → value_of (csexpr_tree value.now) s ≡ Some (values.Int t k)
         → int_eq k number ≡ false → InSome M.stands m s) }
+    ensures gone { IfOk result (λ m. left ≡ None → (m ≡ None) × (heads.new.items ≡ heads.old.items)) }
+    ensures hit_alone { IfOk result (λ m. (s : State) (t : Integer) (k : ℤ) → InSome M.sharp left s → value_of (csexpr_tree value.now) s ≡ Some (values.Int t k)
+        → int_eq k number ≡ true → ((at : Marks) → IsBare heads.old.items at)
+        → (m ≡ None) × (acts.are_free names.now s ≡ true → HeadAlone M.sharp heads.new.items (Mark.Case number) (acts.enter (csprogram_tree program.now).objects names.now s))
+        × ((other : Marks) → IsBare heads.new.items other ⊎ (other ≡ Mark.Case number))) }
+    ensures miss_alone { IfOk result (λ m. (s : State) (t : Integer) (k : ℤ) → InSome M.sharp left s → value_of (csexpr_tree value.now) s ≡ Some (values.Int t k)
+        → int_eq k number ≡ false → InSome M.sharp m s × (heads.new.items ≡ heads.old.items)) }
 {
     let Some(mut state) = left else {
         return Ok(None);
@@ -212,6 +224,10 @@ fn enter_case<M: MemDomain>(
     ensures old { OnOk result ((at : Marks) (s : State) → HasHead M.stands heads.old.items at s → HasHead M.stands heads.new.items at s) }
     ensures hit { OnOk result ((s : State) → M.stands state s → HasTruth (csexpr_tree test.now) true s → acts.are_free names.now s ≡ true
         → HasHead M.stands heads.new.items mark (acts.enter (csprogram_tree program.now).objects names.now s)) }
+    ensures hit_alone { OnOk result ((s : State) → M.sharp state s → HasTruth (csexpr_tree test.now) true s → ((at : Marks) → IsBare heads.old.items at)
+        → (acts.are_free names.now s ≡ true → HeadAlone M.sharp heads.new.items mark (acts.enter (csprogram_tree program.now).objects names.now s))
+        × ((other : Marks) → IsBare heads.new.items other ⊎ (other ≡ mark))) }
+    ensures miss_alone { OnOk result ((s : State) → M.sharp state s → HasTruth (csexpr_tree test.now) false s → heads.new.items ≡ heads.old.items) }
 {
     match state.assume(test, true)? {
         Live::Live => {
@@ -240,6 +256,9 @@ fn enter_at<M: MemDomain>(
     ensures old { OnOk result ((at : Marks) (s : State) → HasHead M.stands heads.old.items at s → HasHead M.stands heads.new.items at s) }
     ensures entered { OnOk result ((s : State) → M.stands state s → acts.are_free names.now s ≡ true
         → HasHead M.stands heads.new.items mark (acts.enter (csprogram_tree program.now).objects names.now s)) }
+    ensures alone { OnOk result ((s : State) → M.sharp state s → ((at : Marks) → IsBare heads.old.items at)
+        → (acts.are_free names.now s ≡ true → HeadAlone M.sharp heads.new.items mark (acts.enter (csprogram_tree program.now).objects names.now s))
+        × ((other : Marks) → IsBare heads.new.items other ⊎ (other ≡ mark))) }
 {
     state.enter(names)?;
     heads.push(Head {
@@ -268,6 +287,12 @@ pub fn enter_default<M: MemDomain>(
         → acts.are_free names.now s ≡ true → HasHead M.stands p.heads.items Mark.Default (acts.enter (csprogram_tree program.now).objects names.now s)) }
     ensures behind { IfOk result (λ p. meaning.has meaning.AtDefault (csstmts_from items.now) ≡ false → (s : State) → InSome M.stands parts.left s
         → InSome M.stands p.left s) }
+    ensures alone { IfOk result (λ p. meaning.has meaning.AtDefault (csstmts_from items.now) ≡ true → (s : State) → InSome M.sharp parts.left s
+        → ((at : Marks) → IsBare parts.heads.items at) → (p.left ≡ None)
+        × (acts.are_free names.now s ≡ true → HeadAlone M.sharp p.heads.items Mark.Default (acts.enter (csprogram_tree program.now).objects names.now s))
+        × ((other : Marks) → IsBare p.heads.items other ⊎ (other ≡ Mark.Default))) }
+    ensures stays { IfOk result (λ p. meaning.has meaning.AtDefault (csstmts_from items.now) ≡ false → (p.heads.items ≡ parts.heads.items) × (p.left ≡ parts.left)) }
+    ensures gone { IfOk result (λ p. parts.left ≡ None → (p.heads.items ≡ parts.heads.items) × (p.left ≡ None)) }
 {
     if !has_default(items) {
         return Ok(parts);

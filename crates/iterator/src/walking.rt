@@ -7,15 +7,19 @@ ghost use Rattle.num_api.specs.Told.{Keeps};
 ghost use Rattle.csharp.specs.Trees.{cscall_tree, csexpr_tree, csprogram_tree, csstmt_tree, csstmts_from, csstmts_tree};
 ghost use Rattle.csharp.specs.Trees as code;
 ghost use Rattle.csharp.specs.States.{State};
+ghost use Rattle.csharp.specs.Meaning.{beyond};
 ghost use Rattle.mem_api.specs.Given.{IsOf};
 ghost use Rattle.alarm_claims.specs.Admitted.{Gains};
 ghost use Rattle.walk_owes.specs.Owes.{AllFor, Grows, HasTyped, SomeFor, Sound, SoundIf};
 ghost use Rattle.walk_owes.specs.Loops.{Reaches, SoundLoop};
 ghost use Rattle.walk_owes.specs.Items.{Begins, CoveredAll, HeadsFor, SoundItems};
 ghost use Rattle.walk_owes.specs.Heads.{HeadsAmong, IsHead, IsMore, LabelsHave};
+ghost use Rattle.walk_owes.specs.Exactly.{Exact, ExactAll, ExactIf, ExactLoop, GoesOn, LastPass, StaysDead};
 ghost use Rattle.walk_owes.specs.Walkable.{AreWalkable, IsTarget, IsWalkable};
+ghost use Rattle.iterator.specs.Begun.{BeginsOn};
 
 use crate::heads::{next_head, widen_by};
+use crate::passes::{Pass, Settled, Turned};
 use crate::switches::{Parts, enter_default, part_cases, value_type};
 use block_mem::Scalar;
 use c_syntax::{Alarm, Numbers};
@@ -45,28 +49,6 @@ pub struct Settings<'r, U> {
     pub ramp: &'r Ramp<U>,
 }
 
-/// What items come to: the set behind them, what leaves them, and the alarms in them.
-#[derive(Drop)]
-pub struct Pass<M> {
-    pub after: Option<M>,
-    pub kept: Vec<Kept<M>>,
-    pub out: Vec<Alarm>,
-}
-
-// A set from which a turn was walked, and what the turn came to.
-#[derive(Drop)]
-struct Turned<M> {
-    head: M,
-    pass: Pass<M>,
-}
-
-/// Passes end with one that is closed, or where a label got its first head.
-#[derive(Drop)]
-enum Settled<M> {
-    Closed(Pass<M>),
-    More(Vec<Head<M>>),
-}
-
 /// The walk of a statement: the set behind it, where it may end.
 #[cycle(walk)]
 pub fn walk<M: MemDomain, U: Fn(i128) -> Option<i128>, S: Steps>(
@@ -89,6 +71,7 @@ pub fn walk<M: MemDomain, U: Fn(i128) -> Option<i128>, S: Steps>(
     ensures sound { IfOk result (λ after. Sound (HasTyped M.stands (csprogram_tree program.now)) (csprogram_tree program.now) to (csstmt_tree a.now) (Some state) after kept.new.items out.new.items) }
     ensures grows { OnOk result (Grows (HasTyped M.stands (csprogram_tree program.now)) (csprogram_tree program.now) kept.old.items out.old.items kept.new.items out.new.items) }
     ensures gains { OnOk result (Gains (csprogram_tree program.now) (csstmt_tree a.now) out.old.items out.new.items) }
+    ensures exact { IfOk result (λ after. Exact (HasTyped M.sharp (csprogram_tree program.now)) (beyond set.now.unroll) (csprogram_tree program.now) to (csstmt_tree a.now) (Some state) after kept.old.items out.old.items kept.new.items out.new.items) }
 {
     match a {
         CsStmt::Nothing | CsStmt::Default => Ok(Some(state)),
@@ -211,6 +194,7 @@ fn walk_sequence<M: MemDomain, U: Fn(i128) -> Option<i128>, S: Steps>(
     ensures sound { IfOk result (λ after. Sound (HasTyped M.stands (csprogram_tree program.now)) (csprogram_tree program.now) to (code.Sequence (csstmt_tree first.now) (csstmt_tree second.now)) (Some state) after kept.new.items out.new.items) }
     ensures grows { OnOk result (Grows (HasTyped M.stands (csprogram_tree program.now)) (csprogram_tree program.now) kept.old.items out.old.items kept.new.items out.new.items) }
     ensures gains { OnOk result (Gains (csprogram_tree program.now) (code.Sequence (csstmt_tree first.now) (csstmt_tree second.now)) out.old.items out.new.items) }
+    ensures exact { IfOk result (λ after. Exact (HasTyped M.sharp (csprogram_tree program.now)) (beyond set.now.unroll) (csprogram_tree program.now) to (code.Sequence (csstmt_tree first.now) (csstmt_tree second.now)) (Some state) after kept.old.items out.old.items kept.new.items out.new.items) }
 {
     let mid = walk::<M, U, S>(set, program, depth, to, first, state, kept, out)?;
     let after = walk_live::<M, U, S>(set, program, depth, to, second, mid, kept, out)?;
@@ -241,6 +225,7 @@ fn walk_if<M: MemDomain, U: Fn(i128) -> Option<i128>, S: Steps>(
     ensures sound { IfOk result (λ after. Sound (HasTyped M.stands (csprogram_tree program.now)) (csprogram_tree program.now) to (code.If (csexpr_tree condition.now) (csstmt_tree then.now) (csstmt_tree otherwise.now)) (Some state) after kept.new.items out.new.items) }
     ensures grows { OnOk result (Grows (HasTyped M.stands (csprogram_tree program.now)) (csprogram_tree program.now) kept.old.items out.old.items kept.new.items out.new.items) }
     ensures gains { OnOk result (Gains (csprogram_tree program.now) (code.If (csexpr_tree condition.now) (csstmt_tree then.now) (csstmt_tree otherwise.now)) out.old.items out.new.items) }
+    ensures exact { IfOk result (λ after. Exact (HasTyped M.sharp (csprogram_tree program.now)) (beyond set.now.unroll) (csprogram_tree program.now) to (code.If (csexpr_tree condition.now) (csstmt_tree then.now) (csstmt_tree otherwise.now)) (Some state) after kept.old.items out.old.items kept.new.items out.new.items) }
 {
     let other = state.copy()?;
     let first = walk_side::<M, U, S>(
@@ -275,6 +260,7 @@ fn walk_block<M: MemDomain, U: Fn(i128) -> Option<i128>, S: Steps>(
     ensures sound { IfOk result (λ after. Sound (HasTyped M.stands (csprogram_tree program.now)) (csprogram_tree program.now) to (code.Block (csstmt_tree body.now)) (Some state) after kept.new.items out.new.items) }
     ensures grows { OnOk result (Grows (HasTyped M.stands (csprogram_tree program.now)) (csprogram_tree program.now) kept.old.items out.old.items kept.new.items out.new.items) }
     ensures gains { OnOk result (Gains (csprogram_tree program.now) (code.Block (csstmt_tree body.now)) out.old.items out.new.items) }
+    ensures exact { IfOk result (λ after. Exact (HasTyped M.sharp (csprogram_tree program.now)) (beyond set.now.unroll) (csprogram_tree program.now) to (code.Block (csstmt_tree body.now)) (Some state) after kept.old.items out.old.items kept.new.items out.new.items) }
 {
     let mut inner = Vec::new(set.alloc);
     let mid = walk::<M, U, S>(set, program, depth, to, body, state, &mut inner, out)?;
@@ -304,6 +290,8 @@ fn walk_live<M: MemDomain, U: Fn(i128) -> Option<i128>, S: Steps>(
     ensures sound { IfOk result (λ after. Sound (HasTyped M.stands (csprogram_tree program.now)) (csprogram_tree program.now) to (csstmt_tree a.now) flow after kept.new.items out.new.items) }
     ensures grows { OnOk result (Grows (HasTyped M.stands (csprogram_tree program.now)) (csprogram_tree program.now) kept.old.items out.old.items kept.new.items out.new.items) }
     ensures gains { OnOk result (Gains (csprogram_tree program.now) (csstmt_tree a.now) out.old.items out.new.items) }
+    ensures exact { IfOk result (λ after. Exact (HasTyped M.sharp (csprogram_tree program.now)) (beyond set.now.unroll) (csprogram_tree program.now) to (csstmt_tree a.now) flow after kept.old.items out.old.items kept.new.items out.new.items) }
+    ensures stays { IfOk result (λ after. StaysDead flow after kept.old.items out.old.items kept.new.items out.new.items) }
 {
     match flow {
         None => Ok(None),
@@ -339,6 +327,7 @@ fn walk_side<M: MemDomain, U: Fn(i128) -> Option<i128>, S: Steps>(
     ensures sound { IfOk result (λ after. SoundIf (HasTyped M.stands (csprogram_tree program.now)) (csprogram_tree program.now) to (csexpr_tree condition.now) truth (csstmt_tree a.now) state after kept.new.items out.new.items) }
     ensures grows { OnOk result (Grows (HasTyped M.stands (csprogram_tree program.now)) (csprogram_tree program.now) kept.old.items out.old.items kept.new.items out.new.items) }
     ensures gains { OnOk result (Gains (csprogram_tree program.now) (csstmt_tree a.now) out.old.items out.new.items) }
+    ensures exact { IfOk result (λ after. ExactIf (HasTyped M.sharp (csprogram_tree program.now)) (beyond set.now.unroll) (csprogram_tree program.now) to (csexpr_tree condition.now) truth (csstmt_tree a.now) state after kept.old.items out.old.items kept.new.items out.new.items) }
 {
     match state.assume(condition, truth)? {
         Live::Live => {
@@ -370,6 +359,7 @@ fn walk_loop<M: MemDomain, U: Fn(i128) -> Option<i128>, S: Steps>(
     ensures sound { OnOk result ((at : Place) → SoundLoop (HasTyped M.stands (csprogram_tree program.now)) (csprogram_tree program.now) to at (csstmt_tree body.now) state kept.new.items out.new.items) }
     ensures grows { OnOk result (Grows (HasTyped M.stands (csprogram_tree program.now)) (csprogram_tree program.now) kept.old.items out.old.items kept.new.items out.new.items) }
     ensures gains { OnOk result (Gains (csprogram_tree program.now) (csstmt_tree body.now) out.old.items out.new.items) }
+    ensures exact { OnOk result ((at : Place) → ExactLoop (HasTyped M.sharp (csprogram_tree program.now)) (beyond set.now.unroll) (csprogram_tree program.now) to at (csstmt_tree body.now) 0 state kept.old.items out.old.items kept.new.items out.new.items) }
 {
     let mut head = state;
     let unroll = set.unroll;
@@ -406,6 +396,7 @@ fn walk_rest<M: MemDomain, U: Fn(i128) -> Option<i128>, S: Steps>(
     ensures sound { OnOk result ((at : Place) → SoundLoop (HasTyped M.stands (csprogram_tree program.now)) (csprogram_tree program.now) to at (csstmt_tree body.now) entry kept.new.items out.new.items) }
     ensures grows { OnOk result (Grows (HasTyped M.stands (csprogram_tree program.now)) (csprogram_tree program.now) kept.old.items out.old.items kept.new.items out.new.items) }
     ensures gains { OnOk result (Gains (csprogram_tree program.now) (csstmt_tree body.now) out.old.items out.new.items) }
+    ensures exact { OnOk result ((at : Place) → ExactLoop (HasTyped M.sharp (csprogram_tree program.now)) (beyond set.now.unroll) (csprogram_tree program.now) to at (csstmt_tree body.now) set.now.unroll entry kept.old.items out.old.items kept.new.items out.new.items) }
 {
     let start = entry.copy()?;
     let turned = settle::<M, U, S>(set, program, depth, to, body, start)?;
@@ -439,6 +430,7 @@ fn settle<M: MemDomain, U: Fn(i128) -> Option<i128>, S: Steps>(
     ensures reaches { IfOk result (λ t. Reaches (HasTyped M.stands (csprogram_tree program.now)) (csprogram_tree program.now) (csstmt_tree body.now) head t.head) }
     ensures sound { IfOk result (λ t. Sound (HasTyped M.stands (csprogram_tree program.now)) (csprogram_tree program.now) to (csstmt_tree body.now) (Some t.head) t.pass.after t.pass.kept.items t.pass.out.items) }
     ensures gains { IfOk result (λ t. Gains (csprogram_tree program.now) (csstmt_tree body.now) [] t.pass.out.items) }
+    ensures last { IfOk result (λ t. LastPass (HasTyped M.sharp (csprogram_tree program.now)) (beyond set.now.unroll) (csprogram_tree program.now) to (csstmt_tree body.now) head t.pass.after t.pass.kept.items t.pass.out.items) }
 {
     loop {
         let pass = turn_from::<M, U, S>(set, program, depth, to, body, &head)?;
@@ -465,6 +457,7 @@ fn turn_from<M: MemDomain, U: Fn(i128) -> Option<i128>, S: Steps>(
     ensures pass_for { IfOk result (λ p. SomeFor M.is_for (csprogram_tree program.now) p.after × AllFor M.is_for (csprogram_tree program.now) p.kept.items) }
     ensures sound { IfOk result (λ p. Sound (HasTyped M.stands (csprogram_tree program.now)) (csprogram_tree program.now) to (csstmt_tree body.now) (Some head.now) p.after p.kept.items p.out.items) }
     ensures gains { IfOk result (λ p. Gains (csprogram_tree program.now) (csstmt_tree body.now) [] p.out.items) }
+    ensures exact { IfOk result (λ p. Exact (HasTyped M.sharp (csprogram_tree program.now)) (beyond set.now.unroll) (csprogram_tree program.now) to (csstmt_tree body.now) (Some head.now) p.after [] [] p.kept.items p.out.items) }
 {
     let mut kept = Vec::new(set.alloc);
     let mut out = Vec::new(set.alloc);
@@ -493,9 +486,11 @@ fn narrow<M: MemDomain, U: Fn(i128) -> Option<i128>, S: Steps>(
     requires reaches { Reaches (HasTyped M.stands (csprogram_tree program.now)) (csprogram_tree program.now) (csstmt_tree body.now) entry.now turned.head }
     requires sound { Sound (HasTyped M.stands (csprogram_tree program.now)) (csprogram_tree program.now) to (csstmt_tree body.now) (Some turned.head) turned.pass.after turned.pass.kept.items turned.pass.out.items }
     requires gains { Gains (csprogram_tree program.now) (csstmt_tree body.now) [] turned.pass.out.items }
+    requires last { LastPass (HasTyped M.sharp (csprogram_tree program.now)) (beyond set.now.unroll) (csprogram_tree program.now) to (csstmt_tree body.now) entry.now turned.pass.after turned.pass.kept.items turned.pass.out.items }
     ensures kept_for { IfOk result (λ p. AllFor M.is_for (csprogram_tree program.now) p.kept.items) }
     ensures sound { IfOk result (λ p. (at : Place) → SoundLoop (HasTyped M.stands (csprogram_tree program.now)) (csprogram_tree program.now) to at (csstmt_tree body.now) entry.now p.kept.items p.out.items) }
     ensures gains { IfOk result (λ p. Gains (csprogram_tree program.now) (csstmt_tree body.now) [] p.out.items) }
+    ensures last { IfOk result (λ p. LastPass (HasTyped M.sharp (csprogram_tree program.now)) (beyond set.now.unroll) (csprogram_tree program.now) to (csstmt_tree body.now) entry.now p.after p.kept.items p.out.items) }
 {
     let Turned { mut head, mut pass } = turned;
     let most = set.narrow;
@@ -535,6 +530,7 @@ fn walk_scope<M: MemDomain, U: Fn(i128) -> Option<i128>, S: Steps>(
     ensures sound { IfOk result (λ after. Sound (HasTyped M.stands (csprogram_tree program.now)) (csprogram_tree program.now) to (code.Scope objects.now (csstmts_tree items.now)) (Some state) after kept.new.items out.new.items) }
     ensures grows { OnOk result (Grows (HasTyped M.stands (csprogram_tree program.now)) (csprogram_tree program.now) kept.old.items out.old.items kept.new.items out.new.items) }
     ensures gains { OnOk result (Gains (csprogram_tree program.now) (code.Scope objects.now (csstmts_tree items.now)) out.old.items out.new.items) }
+    ensures exact { IfOk result (λ after. Exact (HasTyped M.sharp (csprogram_tree program.now)) (beyond set.now.unroll) (csprogram_tree program.now) to (code.Scope objects.now (csstmts_tree items.now)) (Some state) after kept.old.items out.old.items kept.new.items out.new.items) }
 {
     actions_keep_states_typed();
     let names = objects.as_slice();
@@ -584,6 +580,7 @@ fn walk_switch<M: MemDomain, U: Fn(i128) -> Option<i128>, S: Steps>(
     ensures sound { IfOk result (λ after. Sound (HasTyped M.stands (csprogram_tree program.now)) (csprogram_tree program.now) to (code.Switch (csexpr_tree value.now) objects.now (csstmts_tree items.now)) (Some state) after kept.new.items out.new.items) }
     ensures grows { OnOk result (Grows (HasTyped M.stands (csprogram_tree program.now)) (csprogram_tree program.now) kept.old.items out.old.items kept.new.items out.new.items) }
     ensures gains { OnOk result (Gains (csprogram_tree program.now) (code.Switch (csexpr_tree value.now) objects.now (csstmts_tree items.now)) out.old.items out.new.items) }
+    ensures exact { IfOk result (λ after. Exact (HasTyped M.sharp (csprogram_tree program.now)) (beyond set.now.unroll) (csprogram_tree program.now) to (code.Switch (csexpr_tree value.now) objects.now (csstmts_tree items.now)) (Some state) after kept.old.items out.old.items kept.new.items out.new.items) }
 {
     actions_keep_states_typed();
     values_are_typed();
@@ -637,6 +634,7 @@ fn walk_all<M: MemDomain, U: Fn(i128) -> Option<i128>, S: Steps>(
     ensures is_for { IfOk result (λ p. SomeFor M.is_for (csprogram_tree program.now) p.after × AllFor M.is_for (csprogram_tree program.now) p.kept.items) }
     ensures sound { IfOk result (λ p. CoveredAll (HasTyped M.stands (csprogram_tree program.now)) (csprogram_tree program.now) to (csstmts_from items.now) (Begins (HasTyped M.stands (csprogram_tree program.now)) (csstmts_from items.now) heads.items flow) p.after p.kept.items p.out.items) }
     ensures gains { IfOk result (λ p. Gains (csprogram_tree program.now) (code.Scope [] (csstmts_from items.now)) [] p.out.items) }
+    ensures exact { IfOk result (λ p. ExactAll (HasTyped M.sharp (csprogram_tree program.now)) (beyond set.now.unroll) (csprogram_tree program.now) to (csstmts_from items.now) heads.items flow p.after p.kept.items p.out.items) }
 {
     if !has_label(items) {
         let pass = one_pass::<M, U, S>(set, program, depth, to, items, heads.as_slice(), flow)?;
@@ -675,6 +673,10 @@ fn settle_heads<M: MemDomain, U: Fn(i128) -> Option<i128>, S: Steps>(
         (Begins (HasTyped M.stands (csprogram_tree program.now)) (csstmts_from items.now) heads.items flow.now) p.after p.kept.items p.out.items) }
     ensures gains { IfOk result (λ r. (p : _) → r ≡ Settled.Closed p → Gains (csprogram_tree program.now) (code.Scope [] (csstmts_from items.now)) [] p.out.items) }
     ensures more { IfOk result (λ r. (h : _) → r ≡ Settled.More h → IsMore M.is_for M.stands (csprogram_tree program.now) (csstmts_from items.now) heads.items h.items) }
+    ensures exact { IfOk result (λ r. (p : _) → r ≡ Settled.Closed p
+        → ExactAll (HasTyped M.sharp (csprogram_tree program.now)) (beyond set.now.unroll) (csprogram_tree program.now) to (csstmts_from items.now) heads.items flow.now p.after p.kept.items p.out.items) }
+    ensures begins { IfOk result (λ r. (h : _) → r ≡ Settled.More h
+        → BeginsOn (HasTyped M.sharp (csprogram_tree program.now)) (beyond set.now.unroll) (csprogram_tree program.now) (csstmts_from items.now) heads.items flow.now h.items) }
 {
     loop {
         let start = copy_flow(flow)?;
@@ -718,6 +720,7 @@ fn one_pass<M: MemDomain, U: Fn(i128) -> Option<i128>, S: Steps>(
     ensures is_for { IfOk result (λ p. SomeFor M.is_for (csprogram_tree program.now) p.after × AllFor M.is_for (csprogram_tree program.now) p.kept.items) }
     ensures sound { IfOk result (λ p. (gone : _) × SoundItems (HasTyped M.stands (csprogram_tree program.now)) (csprogram_tree program.now) to (csstmts_from items.now) heads.now flow [] p.after gone p.kept.items p.out.items) }
     ensures gains { IfOk result (λ p. Gains (csprogram_tree program.now) (code.Scope [] (csstmts_from items.now)) [] p.out.items) }
+    ensures goes { IfOk result (λ p. GoesOn (HasTyped M.sharp (csprogram_tree program.now)) (beyond set.now.unroll) (csprogram_tree program.now) to (csstmts_from items.now) code.none heads.now flow p.after p.kept.items p.out.items) }
 {
     let mut gone = Vec::new(set.alloc);
     let mut kept = Vec::new(set.alloc);
@@ -754,6 +757,7 @@ fn walk_call<M: MemDomain, U: Fn(i128) -> Option<i128>, S: Steps>(
     ensures sound { IfOk result (λ after. Sound (HasTyped M.stands (csprogram_tree program.now)) (csprogram_tree program.now) to (code.Call (cscall_tree call.now)) (Some state) after kept.new.items out.new.items) }
     ensures grows { OnOk result (Grows (HasTyped M.stands (csprogram_tree program.now)) (csprogram_tree program.now) kept.old.items out.old.items kept.new.items out.new.items) }
     ensures gains { OnOk result (Gains (csprogram_tree program.now) (code.Call (cscall_tree call.now)) out.old.items out.new.items) }
+    ensures exact { IfOk result (λ after. Exact (HasTyped M.sharp (csprogram_tree program.now)) (beyond set.now.unroll) (csprogram_tree program.now) to (code.Call (cscall_tree call.now)) (Some state) after kept.old.items out.old.items kept.new.items out.new.items) }
 {
     let Some(function) = program.functions.as_slice().get(call.function as usize) else {
         return Ok(None);

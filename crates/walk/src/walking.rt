@@ -5,7 +5,9 @@ ghost use Rattle.std.specs.Prelude.{◌≡◌, ◌<◌, [], length, IfOk, OnOk, 
 ghost use Rattle.num_api.specs.Told.{Keeps};
 ghost use Rattle.csharp.specs.Trees.{CsFunctionTree, csprogram_tree, csstmt_tree};
 ghost use Rattle.csharp.specs.Formed.{IsFormed};
+ghost use Rattle.csharp.specs.Meaning.{beyond};
 ghost use Rattle.alarm_claims.specs.Admitted.{Gains};
+ghost use Rattle.walk_owes.specs.Exactly.{Exact};
 ghost use Rattle.walk_owes.specs.Owes.{AllFor, Grows, HasTyped, Sound};
 ghost use Rattle.walk_owes.specs.Walkable.{IsStatementOf, nowhere};
 ghost use Rattle.walk.specs.Behind.{set_behind};
@@ -97,6 +99,9 @@ impl<'r, M: MemDomain, U: Fn(i128) -> Option<i128>, S: Steps> Walk<'r, M, U, S> 
             (Some self.old.state) (set_behind live self.new.state) self.new.kept.items out.new) }
         ensures grows { OnOk result (Grows (HasTyped M.stands (csprogram_tree program.now)) (csprogram_tree program.now) self.old.kept.items out.old self.new.kept.items out.new) }
         ensures gains { OnOk result (Gains (csprogram_tree program.now) (csstmt_tree s.now) out.old out.new) }
+        ensures unroll { self.new.unroll ≡ self.old.unroll }
+        ensures exact { IfOk result (λ live. Exact (HasTyped M.sharp (csprogram_tree program.now)) (beyond self.old.unroll) (csprogram_tree program.now) nowhere (csstmt_tree s.now)
+            (Some self.old.state) (set_behind live self.new.state) self.old.kept.items out.old self.new.kept.items out.new) }
     {
         formed_ranks_are_small();
         let set = Settings {
@@ -154,6 +159,10 @@ impl<'r, M: MemDomain, U: Fn(i128) -> Option<i128>, S: Steps> Walk<'r, M, U, S> 
         ensures grows { OnOk result (Grows (HasTyped M.stands (csprogram_tree program.now)) (csprogram_tree program.now) self.old.kept.items out.old self.new.kept.items out.new) }
         ensures gains { OnOk result ((function : CsFunctionTree) → slice_get (csprogram_tree program.now).functions f ≡ Some function
             → Gains (csprogram_tree program.now) function.body out.old out.new) }
+        ensures unroll { self.new.unroll ≡ self.old.unroll }
+        ensures exact { IfOk result (λ live. (function : CsFunctionTree) → slice_get (csprogram_tree program.now).functions f ≡ Some function
+            → Exact (HasTyped M.sharp (csprogram_tree program.now)) (beyond self.old.unroll) (csprogram_tree program.now) nowhere function.body
+            (Some self.old.state) (set_behind live self.new.state) self.old.kept.items out.old self.new.kept.items out.new) }
     {
         let function = &program.functions.as_slice()[f as usize];
         let live = self.statement(program, &function.body, out)?;

@@ -1,9 +1,12 @@
 use Rattle.std.proofs.Common.{vec_len}
-use Rattle.alarm_lists.proofs.Merged.{Merging}
+use Rattle.alarm_lists.proofs.Merged.{Merging, Short}
 use Rattle.alarm_lists.proofs.lists.in_order.Given as goal
 
 abbrev pub invariant-loop-alarm : goal.invariant-loop-alarm
-invariant-loop-alarm l = Merging l.fn.alarms.items l.rest.items l.done.items
+invariant-loop-alarm l = record {
+  merging : Merging l.fn.alarms.items l.rest.items l.done.items;
+  short : Short l.fn.alarms.items l.rest.items l.done.items;
+}
 
 abbrev pub decreases-loop-alarm : goal.decreases-loop-alarm
 decreases-loop-alarm l = vec_len l.rest

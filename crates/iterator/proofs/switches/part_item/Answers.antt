@@ -5,6 +5,7 @@ use Rattle.csharp.specs.Trees.{csexpr_tree, csprogram_tree, csstmt_tree}
 use Rattle.walk_owes.proofs.Switches.{parted_case, parted_other}
 use Rattle.walk_owes.proofs.Variants.{no_case}
 use Rattle.iterator.proofs.Cases.{own_case}
+use Rattle.iterator.proofs.Parting.{alone_case, alone_other}
 use Rattle.iterator.proofs.switches.part_item.Goals as goal
 
 pub part_case-requires-clause-given : goal.part_case-requires-clause-given
@@ -28,4 +29,15 @@ returns-in_default g c = record {
   parted = λ all rest before p.
       parted_other g.M.MemDomain.stands (csprogram_tree c.args.program.now) (csexpr_tree c.args.value.now) c.args.names.now all before
       (csstmt_tree c.args.item.now) rest _ _ (λ k. no_case c.args.item.now k c.in_default.not-Case) p;
+  alone = λ all rest before p.
+      alone_other g.M.MemDomain.sharp (csprogram_tree c.args.program.now) (csexpr_tree c.args.value.now) c.args.names.now all before
+      (csstmt_tree c.args.item.now) rest _ _ (λ k. no_case c.args.item.now k c.in_default.not-Case) p;
 }
+
+pub returns-in_ok-less-in-Case-clause-alone : goal.returns-in_ok-less-in-Case-clause-alone
+returns-in_ok-less-in-Case-clause-alone g c = λ all rest before p.
+    let q = csprogram_tree c.args.program.now in
+    let same : to_z w128 (of_z w128 c.in-Case.number) ≡ c.in-Case.number = search rules in
+    alone_case g.M.MemDomain.sharp q (csexpr_tree c.args.value.now) c.args.names.now all before c.in-Case.number rest _ _ _ _
+    c.in_ok-less-in-Case.ensures.gone (rw same at c.in_ok-less-in-Case.ensures.hit_alone) (rw same at c.in_ok-less-in-Case.ensures.miss_alone)
+    (rw (c.in-Case.is, csstmt_case c.in-Case.number) at p)

@@ -6,11 +6,14 @@ use Rattle.csharp.specs.Sizes.{csstmt_size, csstmts_size}
 use Rattle.csharp.specs.States.{State}
 use Rattle.alarm_claims.specs.Admitted.{Gains, IsAdmittedIn}
 use Rattle.walk_owes.specs.declared.marks.Mark.{Mark}
+use Rattle.csharp.specs.Meaning.{beyond}
+use Rattle.walk_owes.specs.Exactly.{Behind, GoesOn, LastPass, Rests, Rolled}
 use Rattle.walk_owes.specs.Owes.{AllFor, Grows, HasTyped, SomeFor, Sound}
 use Rattle.walk_owes.specs.Loops.{Reaches, Unrolled}
 use Rattle.walk_owes.specs.Items.{HasHead, HeadsFor, PassesOn}
 use Rattle.walk_owes.specs.Heads.{HeadsAmong, LabelsHave, missing, weigh}
 use Rattle.walk_owes.specs.Walkable.{AreWalkable, worth}
+use Rattle.iterator.specs.Begun.{BeginsOn}
 use Rattle.iterator.proofs.walking.+walk.Given as goal
 
 abbrev pub decreases-walk : goal.decreases-walk
@@ -53,6 +56,7 @@ abbrev pub invariant-settle-loop-head : goal.invariant-settle-loop-head
 invariant-settle-loop-head g l = record {
   is_for : g.M.MemDomain.is_for l.head (csprogram_tree l.program);
   entry : (s : State) → g.M.MemDomain.stands l.initial.head s → g.M.MemDomain.stands l.head s;
+  rests : Rests (HasTyped g.M.MemDomain.sharp (csprogram_tree l.program)) (beyond l.set.unroll) (csprogram_tree l.program) (csstmt_tree l.body) l.initial.head l.head;
 }
 
 abbrev pub decreases-settle-loop-head : goal.decreases-settle-loop-head
@@ -65,6 +69,8 @@ invariant-walk_loop-loop-turns g l = record {
   unrolled : (at : Pos) → Unrolled (HasTyped g.M.MemDomain.stands (csprogram_tree l.program)) (csprogram_tree l.program) l.to at (csstmt_tree l.body) l.fn.state l.head l.kept.items l.out.items;
   grows : Grows (HasTyped g.M.MemDomain.stands (csprogram_tree l.program)) (csprogram_tree l.program) l.fn.kept.items l.fn.out.items l.kept.items l.out.items;
   gains : Gains (csprogram_tree l.program) (csstmt_tree l.body) l.fn.out.items l.out.items;
+  rolled : (at : Pos) → Rolled (HasTyped g.M.MemDomain.sharp (csprogram_tree l.program)) (beyond l.set.unroll) (csprogram_tree l.program) at (csstmt_tree l.body) l.fn.state l.turns l.head l.fn.kept.items l.fn.out.items l.kept.items l.out.items;
+  within : l.turns ≤ l.set.unroll;
 }
 
 abbrev pub invariant-narrow-loop-steps : goal.invariant-narrow-loop-steps
@@ -74,6 +80,7 @@ invariant-narrow-loop-steps g l = record {
   reaches : Reaches (HasTyped g.M.MemDomain.stands (csprogram_tree l.program)) (csprogram_tree l.program) (csstmt_tree l.body) l.entry l.head;
   sound : Sound (HasTyped g.M.MemDomain.stands (csprogram_tree l.program)) (csprogram_tree l.program) l.to (csstmt_tree l.body) (Some l.head) l.pass.after l.pass.kept.items l.pass.out.items;
   gains : Gains (csprogram_tree l.program) (csstmt_tree l.body) [] l.pass.out.items;
+  last : LastPass (HasTyped g.M.MemDomain.sharp (csprogram_tree l.program)) (beyond l.set.unroll) (csprogram_tree l.program) l.to (csstmt_tree l.body) l.entry l.pass.after l.pass.kept.items l.pass.out.items;
 }
 
 abbrev pub decreases-walk_loop-loop-turns : goal.decreases-walk_loop-loop-turns
@@ -108,6 +115,8 @@ invariant-one_pass-loop-item g l = record {
   gains : Gains (csprogram_tree l.program) (Scope [] (csstmts_from l.items)) [] l.out.items;
   among : (x : Alarm) → IsAdmittedIn (csprogram_tree l.program) (Scope [] (csstmts_from l.rest)) x
       → IsAdmittedIn (csprogram_tree l.program) (Scope [] (csstmts_from l.items)) x;
+  behind : Behind (beyond l.set.unroll) (csprogram_tree l.program) (csstmts_from l.items) (csstmts_from l.rest);
+  goes : GoesOn (HasTyped g.M.MemDomain.sharp (csprogram_tree l.program)) (beyond l.set.unroll) (csprogram_tree l.program) l.to (csstmts_from l.items) (csstmts_from l.rest) l.heads l.fn.flow l.after l.kept.items l.out.items;
 }
 
 abbrev pub decreases-one_pass-loop-item : goal.decreases-one_pass-loop-item
@@ -120,6 +129,7 @@ invariant-walk_all-loop-flow g l = record {
   among : HeadsAmong (csstmts_from l.items) l.heads.items;
   old : (mark : Mark) (s : State) → HasHead g.M.MemDomain.stands l.fn.heads.items mark s → HasHead g.M.MemDomain.stands l.heads.items mark s;
   same_flow : l.flow ≡ l.fn.flow;
+  begins : BeginsOn (HasTyped g.M.MemDomain.sharp (csprogram_tree l.program)) (beyond l.set.unroll) (csprogram_tree l.program) (csstmts_from l.items) l.fn.heads.items l.fn.flow l.heads.items;
 }
 
 abbrev pub decreases-walk_all-loop-flow : goal.decreases-walk_all-loop-flow
@@ -132,6 +142,7 @@ invariant-settle_heads-loop-heads g l = record {
   among : HeadsAmong (csstmts_from l.items) l.heads.items;
   old : (mark : Mark) (s : State) → HasHead g.M.MemDomain.stands l.fn.heads.items mark s → HasHead g.M.MemDomain.stands l.heads.items mark s;
   fewer : missing l.heads.items ≤ missing l.fn.heads.items;
+  begins : BeginsOn (HasTyped g.M.MemDomain.sharp (csprogram_tree l.program)) (beyond l.set.unroll) (csprogram_tree l.program) (csstmts_from l.items) l.fn.heads.items l.flow l.heads.items;
 }
 
 abbrev pub decreases-settle_heads-loop-heads : goal.decreases-settle_heads-loop-heads

@@ -27,4 +27,4 @@ returns c =
     let p : TProgramTree = tprogram_tree c.args.program.now in
     let bits : AreEightBits p.initial = subst AreEightBits c.as_slice.ensures c.initials_have_eight_bits.ensures in
     carried c.lowering_is_right.ensures c.analyses_carry_over.ensures p c.args.plan.now (csprogram_tree c.in_ok-lowered.lowered) c.in_ok-alarms.alarms
-    c.requires bits c.in_ok-lowered.ensures.tree c.in_ok-alarms.ensures
+    c.requires bits c.in_ok-lowered.ensures.tree c.in_ok-alarms.ensures.whole

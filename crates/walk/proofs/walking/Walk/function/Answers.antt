@@ -3,6 +3,8 @@ use Rattle.std.specs.Prelude.{slice_get}
 use Rattle.std.proofs.lemmas.List.{length-map}
 use Rattle.csharp.specs.Trees.{CsFunctionTree, csfunction_tree, csprogram_tree, csstmt_tree}
 use Rattle.alarm_claims.specs.Admitted.{Gains}
+use Rattle.csharp.specs.Meaning.{beyond}
+use Rattle.walk_owes.specs.Exactly.{Exact}
 use Rattle.walk_owes.specs.Owes.{HasTyped, Sound}
 use Rattle.walk_owes.specs.Walkable.{nowhere}
 use Rattle.walk_owes.proofs.Fuel.{function_there}
@@ -36,3 +38,14 @@ returns-clause-gains g c = λ function e.
     (omega (c.requires.function, length-map c.args.program.now.functions csfunction_tree, ap length c.as_slice.ensures, arith)) c.index-as_slice-f.is in
     let same : csfunction_tree c.index-as_slice-f.result ≡ function = cc in
     subst (λ (h : CsFunctionTree). Gains q h.body c.args.out.now c.statement.new.out) same c.in_ok-live.ensures.gains
+
+pub returns-clause-exact : goal.returns-clause-exact
+returns-clause-exact g c = λ function e.
+    let q = csprogram_tree c.args.program.now in
+    let there : slice_get q.functions c.args.f ≡ Some (csfunction_tree c.index-as_slice-f.result) =
+    function_there c.as_slice.result.now c.args.program.now.functions c.args.f c.index-as_slice-f.result c.as_slice.ensures
+    (omega (c.requires.function, length-map c.args.program.now.functions csfunction_tree, ap length c.as_slice.ensures, arith)) c.index-as_slice-f.is in
+    let same : csfunction_tree c.index-as_slice-f.result ≡ function = cc in
+    subst (λ (h : CsFunctionTree). Exact (HasTyped g.M.MemDomain.sharp q) (beyond c.args.self.now.unroll) q nowhere h.body (Some c.args.self.now.state)
+    (set_behind c.in_ok-live.live c.statement.new.self.state) c.args.self.now.kept.items c.args.out.now c.statement.new.self.kept.items c.statement.new.out) same
+    c.in_ok-live.ensures.exact
