@@ -1,0 +1,9 @@
+pub mod Changed
+pub mod Kept
+pub mod Reached
+pub mod Told
+pub mod Blocks
+pub mod Behind
+pub mod Copied
+pub mod Weaker
+pub mod Chosen

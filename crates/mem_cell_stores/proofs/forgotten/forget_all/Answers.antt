@@ -1,0 +1,12 @@
+use Rattle.std.proofs.Common.{refl}
+use Rattle.machine_nums.specs.Machines.{Admits}
+use Rattle.mem_cell_stores.proofs.Behind.{cleared-behind}
+use Rattle.mem_cell_stores.proofs.forgotten.forget_all.Goals as goal
+
+pub returns : goal.returns
+returns g c =
+    let admits = g.D.Oracle.admits in let known = c.args.known.now in
+    record {
+      types = refl;
+      stands = λ ty e f. cleared-behind admits known ty e f (Admits admits known.nums) c.in_ok-known.field-0 c.in_ok-known.ensures (λ v a. a);
+    }
