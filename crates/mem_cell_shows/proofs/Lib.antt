@@ -1,0 +1,17 @@
+pub mod Pointing
+pub mod Points
+pub mod Looks
+pub mod Results
+pub mod Spots
+pub mod Truthful
+pub mod ByKind
+pub mod Keeping
+pub mod Cutting
+pub mod Comparing
+pub mod Assuming
+pub mod Between
+pub mod Passing
+pub mod Reaching
+pub mod Marking
+pub mod Within
+pub mod Widening

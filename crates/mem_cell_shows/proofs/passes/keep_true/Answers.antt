@@ -1,0 +1,17 @@
+use Rattle.std.proofs.Common.{◌∙◌, ap, map, subst, sym, true}
+use Rattle.std.proofs.lemmas.Result.{IfOk-weaker}
+use Rattle.csharp.specs.Trees.{csexpr_tree}
+use Rattle.mem_cell_shows.specs.Changes.{HasTruth}
+use Rattle.mem_cell_shows.proofs.Keeping.{all-kept}
+use Rattle.mem_cell_shows.proofs.Looks.{first-same}
+use Rattle.mem_cell_shows.proofs.passes.keep_true.Goals as goal
+
+pub returns-in-Some-clause-stands : goal.returns-in-Some-clause-stands
+returns-in-Some-clause-stands g c =
+    let e = csexpr_tree c.in-Some.e.now in
+    IfOk-weaker c.keep_condition.result _ _
+    (λ live stands objects s st h.
+    stands objects s st (subst (λ x. HasTruth x true s) (sym (first-same e h.0 (sym (ap (map csexpr_tree) c.in-Some.ensures) ∙ h.1))) h.2)) c.keep_condition.ensures.stands
+
+pub returns-in-None-clause-stands : goal.returns-in-None-clause-stands
+returns-in-None-clause-stands g c = λ objects s st h. all-kept g.D.Oracle.admits objects c.args.known.now s st

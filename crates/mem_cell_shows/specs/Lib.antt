@@ -1,0 +1,10 @@
+pub mod Ends
+pub mod Exacts
+pub mod Addresses
+pub mod Shows
+pub mod Checks
+pub mod Changes
+pub mod Compares
+pub mod Reaches
+pub mod Marked
+pub mod Insides
