@@ -108,6 +108,18 @@ def nested(piece):
     return lambda size: (filled("int main(void){return ", piece, "1;}", size), NO_ALARM)
 
 
+def tests(functions, depth):
+    """So many functions, each of which calls the one before inside so many tests, one in the other."""
+    opened, closed = "if(x){" * depth, "}" * depth
+
+    def text(number):
+        inside = f"y=f{number - 1}(x);" if number else "y=1;"
+        return f"static int f{number}(int x){{int y=0;{opened}{inside}{closed}return y;}}\n"
+
+    text_of_all = "".join(map(text, range(functions)))
+    return lambda size: (f"{text_of_all}int main(void){{return f{functions - 1}(__any_int());}}\n", NO_ALARM)
+
+
 def ordered(size):
     """Many nodes that keep the order rule, and at their end one that does not."""
     back = "x=x++ +1;}"
@@ -147,8 +159,10 @@ FAMILIES = (
     ("circle", 256, SIZE, circle),
     ("ordered", 256, SIZE // 2, ordered),
     ("nodes", 8192, SIZE // 16, nodes),
-    ("signs", 32768, 25 + 199 * 2, nested("- ")),
-    ("sums", 32768, 25 + 199 * 2, nested("1+")),
+    ("signs", 8192, 25 + 199 * 2, nested("- ")),
+    ("sums", 8192, 25 + 199 * 2, nested("1+")),
+    ("tests", 8192, SIZE, tests(1, 90)),
+    ("called", 32768, SIZE, tests(10, 90)),
 )
 
 

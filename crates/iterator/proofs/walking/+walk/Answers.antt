@@ -37,14 +37,12 @@ use Rattle.iterator.proofs.walking.+walk.Goals as goal
 pub walk-returns-in_ok-walk_loop-in-Loop-clause-sound : goal.walk-returns-in_ok-walk_loop-in-Loop-clause-sound
 walk-returns-in_ok-walk_loop-in-Loop-clause-sound g t c =
     let x = rw c.deref-in-Loop.ensures at c.in_ok-walk_loop-in-Loop.ensures.sound in
-    rw (c.in-Loop.is, csstmt_loop c.in-Loop.pos c.in-Loop.body)
-    (whole_loop (HasTyped g.M.MemDomain.stands (csprogram_tree c.args.program.now)) _ _ c.in-Loop.pos (csstmt_tree c.in-Loop.body.value) c.args.state _ _ (x c.in-Loop.pos))
+    rw (c.in-Loop.is, csstmt_loop c.in-Loop.pos c.in-Loop.body) (whole_loop (HasTyped g.M.MemDomain.stands (csprogram_tree c.args.program.now)) _ _ c.in-Loop.pos (csstmt_tree c.in-Loop.body.value) c.args.state _ _ (x c.in-Loop.pos))
 
 pub walk_sequence-returns-clause-sound : goal.walk_sequence-returns-clause-sound
 walk_sequence-returns-clause-sound g t c =
     sequence_sound (HasTyped g.M.MemDomain.stands (csprogram_tree c.args.program.now)) _ _ (csstmt_tree c.args.first.now) (csstmt_tree c.args.second.now) (Some c.args.state) c.in_ok-mid.mid
-    c.in_ok-after.after c.walk.new.kept.items c.walk_live.new.kept.items c.walk.new.out.items c.walk_live.new.out.items c.in_ok-mid.ensures.sound
-    c.in_ok-after.ensures.grows c.in_ok-after.ensures.sound
+    c.in_ok-after.after c.walk.new.kept.items c.walk_live.new.kept.items c.walk.new.out.items c.walk_live.new.out.items c.in_ok-mid.ensures.sound c.in_ok-after.ensures.grows c.in_ok-after.ensures.sound
 
 pub walk_if-returns-clause-is_for : goal.walk_if-returns-clause-is_for
 walk_if-returns-clause-is_for g t c =
@@ -54,8 +52,7 @@ pub walk_if-returns-clause-sound : goal.walk_if-returns-clause-sound
 walk_if-returns-clause-sound g t c =
     let y = c.in_ok-second.ensures.sound in
     if_sound (HasTyped g.M.MemDomain.stands (csprogram_tree c.args.program.now)) _ _ (csexpr_tree c.args.condition.now) (csstmt_tree c.args.then.now) (csstmt_tree c.args.otherwise.now) c.args.state
-    c.in_ok-first.first c.in_ok-second.second c.in_ok-after.after _ _ _ _ c.in_ok-first.ensures.sound c.in_ok-second.ensures.grows
-    (rw c.in_ok-other.ensures at y) (some_on g.M.MemDomain.stands (csprogram_tree c.args.program.now) _ _ c.in_ok-after.ensures.first)
+    c.in_ok-first.first c.in_ok-second.second c.in_ok-after.after _ _ _ _ c.in_ok-first.ensures.sound c.in_ok-second.ensures.grows (rw c.in_ok-other.ensures at y) (some_on g.M.MemDomain.stands (csprogram_tree c.args.program.now) _ _ c.in_ok-after.ensures.first)
     (some_on g.M.MemDomain.stands (csprogram_tree c.args.program.now) _ _ c.in_ok-after.ensures.second)
 
 pub walk_block-returns-clause-is_for : goal.walk_block-returns-clause-is_for
@@ -69,8 +66,7 @@ walk_block-returns-clause-kept_for g t c =
 pub walk_block-returns-clause-sound : goal.walk_block-returns-clause-sound
 walk_block-returns-clause-sound g t c =
     block_sound (HasTyped g.M.MemDomain.stands (csprogram_tree c.args.program.now)) _ _ (csstmt_tree c.args.body.now) (Some c.args.state) c.in_ok-mid.mid c.in_ok-after.after _ _ _ c.in_ok-mid.ensures.sound
-    (some_on g.M.MemDomain.stands (csprogram_tree c.args.program.now) _ _ c.in_ok-after.ensures.after)
-    (leaves_with g.M.MemDomain.stands (csprogram_tree c.args.program.now) _ _ _ c.in_ok-after.ensures.exits)
+    (some_on g.M.MemDomain.stands (csprogram_tree c.args.program.now) _ _ c.in_ok-after.ensures.after) (leaves_with g.M.MemDomain.stands (csprogram_tree c.args.program.now) _ _ _ c.in_ok-after.ensures.exits)
 
 pub settle-returns-then-not-branch-clause-reaches : goal.settle-returns-then-not-branch-clause-reaches
 settle-returns-then-not-branch-clause-reaches g t c =
@@ -79,15 +75,13 @@ settle-returns-then-not-branch-clause-reaches g t c =
     let b : c.in_ok-widen_by.field-0 ≡ false = search rules in
     let e = c.in_ok-widen_by.ensures.same b in
     rw e (reached (HasTyped g.M.MemDomain.stands q) q c.args.to a c.args.head c.loop-head.head (λ s i. (c.loop-head.invariant.entry s i.0, i.1))
-    (turn_stays (HasTyped g.M.MemDomain.stands q) q c.args.to a c.loop-head.head c.in_ok-pass.pass.after c.in_ok-pass.pass.kept.items c.in_ok-pass.pass.out.items
-    c.in_ok-pass.ensures.sound
+    (turn_stays (HasTyped g.M.MemDomain.stands q) q c.args.to a c.loop-head.head c.in_ok-pass.pass.after c.in_ok-pass.pass.kept.items c.in_ok-pass.pass.out.items c.in_ok-pass.ensures.sound
     (λ s h. let y = some_of g.M.MemDomain.stands q c.in_ok-pass.pass.after s h in (rw e at (c.in_ok-widen_by.ensures.right s y.0), y.1))))
 
 pub narrow-returns-then-branch-clause-sound : goal.narrow-returns-then-branch-clause-sound
 narrow-returns-then-branch-clause-sound g t c = λ at.
     let q = csprogram_tree c.args.program.now in
-    loop_sound (HasTyped g.M.MemDomain.stands q) q c.args.to at (csstmt_tree c.args.body.now) c.args.entry.now c.loop-steps.head c.loop-steps.pass.after
-    c.loop-steps.pass.kept.items c.loop-steps.pass.out.items c.loop-steps.invariant.reaches c.loop-steps.invariant.sound
+    loop_sound (HasTyped g.M.MemDomain.stands q) q c.args.to at (csstmt_tree c.args.body.now) c.args.entry.now c.loop-steps.head c.loop-steps.pass.after c.loop-steps.pass.kept.items c.loop-steps.pass.out.items c.loop-steps.invariant.reaches c.loop-steps.invariant.sound
 
 pub narrow-loop-steps-preserved : goal.narrow-loop-steps-preserved
 narrow-loop-steps-preserved g t c =
@@ -96,21 +90,18 @@ narrow-loop-steps-preserved g t c =
       is_for = c.in_ok-next.ensures.is_for q c.requires.entry_for c.loop-steps.invariant.pass_for.0;
       pass_for = c.in_ok-pass.ensures.pass_for;
       reaches = turn_descends (HasTyped g.M.MemDomain.stands q) q c.args.to (csstmt_tree c.args.body.now) c.args.entry.now c.loop-steps.head c.loop-steps.pass.after
-          c.loop-steps.pass.kept.items c.loop-steps.pass.out.items c.in_ok-next.next c.loop-steps.invariant.reaches c.loop-steps.invariant.sound
-          (λ s h. (c.in_ok-next.ensures.entry s h.0, h.1))
+          c.loop-steps.pass.kept.items c.loop-steps.pass.out.items c.in_ok-next.next c.loop-steps.invariant.reaches c.loop-steps.invariant.sound (λ s h. (c.in_ok-next.ensures.entry s h.0, h.1))
           (λ s h. let y = some_of g.M.MemDomain.stands q c.loop-steps.pass.after s h in (c.in_ok-next.ensures.next s y.0, y.1));
       sound = c.in_ok-pass.ensures.sound;
       gains = c.in_ok-pass.ensures.gains;
       last = turns_again (HasTyped g.M.MemDomain.sharp q) (beyond c.args.set.now.unroll) q c.args.to (csstmt_tree c.args.body.now) c.args.entry.now c.in_ok-next.next c.loop-steps.pass.after c.in_ok-pass.pass.after
-          c.loop-steps.pass.kept.items c.in_ok-pass.pass.kept.items c.loop-steps.pass.out.items c.in_ok-pass.pass.out.items c.loop-steps.invariant.last
-          c.in_ok-next.ensures.alone c.in_ok-pass.ensures.exact;
+          c.loop-steps.pass.kept.items c.in_ok-pass.pass.kept.items c.loop-steps.pass.out.items c.in_ok-pass.pass.out.items c.loop-steps.invariant.last c.in_ok-next.ensures.alone c.in_ok-pass.ensures.exact;
     }
 
 pub narrow-returns-clause-sound : goal.narrow-returns-clause-sound
 narrow-returns-clause-sound g t c = λ at.
     let q = csprogram_tree c.args.program.now in
-    loop_sound (HasTyped g.M.MemDomain.stands q) q c.args.to at (csstmt_tree c.args.body.now) c.args.entry.now c.loop-steps.head c.loop-steps.pass.after
-    c.loop-steps.pass.kept.items c.loop-steps.pass.out.items c.loop-steps.invariant.reaches c.loop-steps.invariant.sound
+    loop_sound (HasTyped g.M.MemDomain.stands q) q c.args.to at (csstmt_tree c.args.body.now) c.args.entry.now c.loop-steps.head c.loop-steps.pass.after c.loop-steps.pass.kept.items c.loop-steps.pass.out.items c.loop-steps.invariant.reaches c.loop-steps.invariant.sound
 
 pub walk_loop-returns-in-None-clause-sound : goal.walk_loop-returns-in-None-clause-sound
 walk_loop-returns-in-None-clause-sound g t c = λ at.
@@ -147,8 +138,7 @@ walk_rest-returns-clause-kept_for g t c = c.in_ok-keep_all.ensures.is_for (cspro
 pub walk_rest-returns-clause-sound : goal.walk_rest-returns-clause-sound
 walk_rest-returns-clause-sound g t c = λ at.
     let q = csprogram_tree c.args.program.now in
-    loop_into (HasTyped g.M.MemDomain.stands q) q c.args.to at (csstmt_tree c.args.body.now) c.args.entry c.in_ok-pass.pass.kept.items c.keep_all.new.kept.items
-    c.in_ok-pass.pass.out.items c.add_alarms.new.out.items (c.in_ok-pass.ensures.sound at)
+    loop_into (HasTyped g.M.MemDomain.stands q) q c.args.to at (csstmt_tree c.args.body.now) c.args.entry c.in_ok-pass.pass.kept.items c.keep_all.new.kept.items c.in_ok-pass.pass.out.items c.add_alarms.new.out.items (c.in_ok-pass.ensures.sound at)
     (grows_with g.M.MemDomain.stands q c.args.to _ _ _ _ c.in_ok-keep_all.ensures.new (c.in_ok-add_alarms.ensures.new q))
 
 pub walk_rest-returns-clause-grows : goal.walk_rest-returns-clause-grows
@@ -167,33 +157,14 @@ walk_call-walk-requires g t c =
     let q = csprogram_tree c.args.program.now in
     let looked = c.in-Some.ensures.lookup in
     let there : slice_get q.functions c.args.call.now.function ≡ Some (csfunction_tree c.in-Some.function.now) =
-    function_there c.as_slice.result.now c.args.program.now.functions c.args.call.now.function c.in-Some.function.now c.as_slice.ensures looked.3.0
-    (looked.3.1 c.in-Some.function.now) in
+    function_there c.as_slice.result.now c.args.program.now.functions c.args.call.now.function c.in-Some.function.now c.as_slice.ensures looked.3.0 (looked.3.1 c.in-Some.function.now) in
     let less : c.args.depth ≡ suc (c.args.depth - 1) = omega (arith, c.if-depth-eq0.false) in
     let callee = callable q c.args.depth (c.args.depth - 1) c.args.to (cscall_tree c.args.call.now) less c.requires.walkable in
     let same = callee_is q (c.args.depth - 1) (cscall_tree c.args.call.now) (csfunction_tree c.in-Some.function.now) there callee in
     let more : suc (c.args.depth - 1) ≡ c.args.depth = omega (arith, c.if-depth-eq0.false) in
     let falls = call_falls q (c.args.depth - 1) c.args.call.now.function (csfunction_tree c.in-Some.function.now) there in
     let worths = ap (worth q) more in
-    λ κs le. (
-      omega (arith, falls, worths, c.decreases),
-      (
-        le.0,
-        (
-          le.1.0,
-          (
-            le.1.1,
-            (
-              c.requires.ramp,
-              (
-                subst (λ f. IsWalkable q (c.args.depth - 1) (target_of (cscall_tree c.args.call.now)) f.body) same callee.body,
-                (callee.target, (c.in_ok-pass_args.ensures.is_for q c.requires.is_for, rw c.new-inner.ensures.items tt)),
-              ),
-            ),
-          ),
-        ),
-      ),
-    )
+    λ κs le. (omega (arith, falls, worths, c.decreases), (le.0, (le.1.0, (le.1.1, (c.requires.ramp, (subst (λ f. IsWalkable q (c.args.depth - 1) (target_of (cscall_tree c.args.call.now)) f.body) same callee.body, (callee.target, (c.in_ok-pass_args.ensures.is_for q c.requires.is_for, rw c.new-inner.ensures.items tt))))))))
 
 pub walk_call-give_none-requires : goal.walk_call-give_none-requires
 walk_call-give_none-requires g t c =
@@ -220,8 +191,7 @@ walk_call-returns-clause-sound g t c =
     let q = csprogram_tree c.args.program.now in
     let looked = c.in-Some.ensures.lookup in
     let there : slice_get q.functions c.args.call.now.function ≡ Some (csfunction_tree c.in-Some.function.now) =
-    function_there c.as_slice.result.now c.args.program.now.functions c.args.call.now.function c.in-Some.function.now c.as_slice.ensures looked.3.0
-    (looked.3.1 c.in-Some.function.now) in
+    function_there c.as_slice.result.now c.args.program.now.functions c.args.call.now.function c.in-Some.function.now c.as_slice.ensures looked.3.0 (looked.3.1 c.in-Some.function.now) in
     let less : c.args.depth ≡ suc (c.args.depth - 1) = omega (arith, c.if-depth-eq0.false) in
     let callee = callable q c.args.depth (c.args.depth - 1) c.args.to (cscall_tree c.args.call.now) less c.requires.walkable in
     let same = callee_is q (c.args.depth - 1) (cscall_tree c.args.call.now) (csfunction_tree c.in-Some.function.now) there callee in
@@ -229,19 +199,16 @@ walk_call-returns-clause-sound g t c =
     let passed = rw (c.as_slice-2.ensures, c.as_slice-3.ensures) at c.in_ok-pass_args.ensures.stands in
     call_typed g.M.MemDomain.stands q c.args.to c.actions_keep_states_typed.ensures.set (cscall_tree c.args.call.now) (csfunction_tree c.in-Some.function.now)
     c.args.state c.pass_args.new.state c.in_ok-mid.mid c.in_ok-fallen.fallen c.in_ok-given.given c.in_ok-after.after c.walk.new.kept.items _ c.walk.new.out.items _
-    there ready callee.target passed c.in_ok-mid.ensures.sound c.in_ok-fallen.ensures.none c.in_ok-given.ensures.taken c.in_ok-after.ensures.first
-    c.in_ok-after.ensures.second (c.in_ok-prefix.ensures.new q)
+    there ready callee.target passed c.in_ok-mid.ensures.sound c.in_ok-fallen.ensures.none c.in_ok-given.ensures.taken c.in_ok-after.ensures.first c.in_ok-after.ensures.second (c.in_ok-prefix.ensures.new q)
 
 pub walk_call-returns-clause-gains : goal.walk_call-returns-clause-gains
 walk_call-returns-clause-gains g t c =
     let q = csprogram_tree c.args.program.now in
     let looked = c.in-Some.ensures.lookup in
     let there : slice_get q.functions c.args.call.now.function ≡ Some (csfunction_tree c.in-Some.function.now) =
-    function_there c.as_slice.result.now c.args.program.now.functions c.args.call.now.function c.in-Some.function.now c.as_slice.ensures looked.3.0
-    (looked.3.1 c.in-Some.function.now) in
+    function_there c.as_slice.result.now c.args.program.now.functions c.args.call.now.function c.in-Some.function.now c.as_slice.ensures looked.3.0 (looked.3.1 c.in-Some.function.now) in
     let found = rw c.new-found.ensures.items at c.in_ok-mid.ensures.gains in
-    c.in_ok-prefix.ensures.gains q (cscall_tree c.args.call.now) (csfunction_tree c.in-Some.function.now) refl there
-    (gained q (csstmt_tree c.in-Some.function.now.body) _ found)
+    c.in_ok-prefix.ensures.gains q (cscall_tree c.args.call.now) (csfunction_tree c.in-Some.function.now) refl there (gained q (csstmt_tree c.in-Some.function.now.body) _ found)
 
 -- ---- what alarms are gained
 
@@ -250,8 +217,7 @@ walk_sequence-returns-clause-gains g t c =
     let q = csprogram_tree c.args.program.now in
     let a = csstmt_tree c.args.first.now in
     let b = csstmt_tree c.args.second.now in
-    gains_both q (Sequence a b) _ _ _ (gains_into q a (Sequence a b) _ _ (first_admits q a b) c.in_ok-mid.ensures.gains)
-    (gains_into q b (Sequence a b) _ _ (second_admits q a b) c.in_ok-after.ensures.gains)
+    gains_both q (Sequence a b) _ _ _ (gains_into q a (Sequence a b) _ _ (first_admits q a b) c.in_ok-mid.ensures.gains) (gains_into q b (Sequence a b) _ _ (second_admits q a b) c.in_ok-after.ensures.gains)
 
 pub walk_if-returns-clause-gains : goal.walk_if-returns-clause-gains
 walk_if-returns-clause-gains g t c =
@@ -259,8 +225,7 @@ walk_if-returns-clause-gains g t c =
     let e = csexpr_tree c.args.condition.now in
     let a = csstmt_tree c.args.then.now in
     let b = csstmt_tree c.args.otherwise.now in
-    gains_both q (If e a b) _ _ _ (gains_into q a (If e a b) _ _ (then_admits q e a b) c.in_ok-first.ensures.gains)
-    (gains_into q b (If e a b) _ _ (else_admits q e a b) c.in_ok-second.ensures.gains)
+    gains_both q (If e a b) _ _ _ (gains_into q a (If e a b) _ _ (then_admits q e a b) c.in_ok-first.ensures.gains) (gains_into q b (If e a b) _ _ (else_admits q e a b) c.in_ok-second.ensures.gains)
 
 pub walk_block-returns-clause-gains : goal.walk_block-returns-clause-gains
 walk_block-returns-clause-gains g t c =
@@ -284,8 +249,7 @@ walk_side-returns-in_ok-after-in-Live-clause-sound g t c =
 
 pub walk_side-returns-in-Dead-clause-sound : goal.walk_side-returns-in-Dead-clause-sound
 walk_side-returns-in-Dead-clause-sound g t c =
-    side_dead g.M.MemDomain.stands (csprogram_tree c.args.program.now) c.args.to (csexpr_tree c.args.condition.now) c.args.truth (csstmt_tree c.args.a.now)
-    c.args.state None _ _
+    side_dead g.M.MemDomain.stands (csprogram_tree c.args.program.now) c.args.to (csexpr_tree c.args.condition.now) c.args.truth (csstmt_tree c.args.a.now) c.args.state None _ _
     (λ s v h i k. let z = (c.in_ok-assume.ensures.stands s v h i k).0 in let y : false ≡ true = rw c.in-Dead.is at z in absurd (cc))
 
 pub walk_loop-returns-in-None-clause-gains : goal.walk_loop-returns-in-None-clause-gains
@@ -299,8 +263,7 @@ walk_loop-returns-clause-gains g t c =
 pub walk-returns-in_ok-walk_loop-in-Loop-clause-gains : goal.walk-returns-in_ok-walk_loop-in-Loop-clause-gains
 walk-returns-in_ok-walk_loop-in-Loop-clause-gains g t c =
     let x = rw c.deref-in-Loop.ensures at c.in_ok-walk_loop-in-Loop.ensures.gains in
-    rw (c.in-Loop.is, csstmt_loop c.in-Loop.pos c.in-Loop.body)
-    (gains_into (csprogram_tree c.args.program.now) (csstmt_tree c.in-Loop.body.value) (Loop c.in-Loop.pos (csstmt_tree c.in-Loop.body.value)) _ _
+    rw (c.in-Loop.is, csstmt_loop c.in-Loop.pos c.in-Loop.body) (gains_into (csprogram_tree c.args.program.now) (csstmt_tree c.in-Loop.body.value) (Loop c.in-Loop.pos (csstmt_tree c.in-Loop.body.value)) _ _
     (loop_admits (csprogram_tree c.args.program.now) c.in-Loop.pos (csstmt_tree c.in-Loop.body.value)) x)
 
 -- ---- scopes and switches
@@ -321,21 +284,18 @@ walk_scope-returns-clause-sound g t c =
     let behind = rw c.as_slice-names.ensures at c.in_ok-after.ensures.after in
     let left = rw c.as_slice-names.ensures at c.in_ok-leave_scope.ensures.left in
     scope_typed g.M.MemDomain.stands q c.args.to c.actions_keep_states_typed.ensures.enter c.actions_keep_states_typed.ensures.leave c.args.objects.now all []
-    c.args.state c.enter.new.self c.in_ok-pass.pass.after c.in_ok-after.after _ _ _ _ c.requires.walkable.0.numbers.2 (λ s i h. enters q s c.requires.is_for i h)
-    pass (c.in_ok-add_alarms.ensures.new q) behind left
+    c.args.state c.enter.new.self c.in_ok-pass.pass.after c.in_ok-after.after _ _ _ _ c.requires.walkable.0.numbers.2 (λ s i h. enters q s c.requires.is_for i h) pass (c.in_ok-add_alarms.ensures.new q) behind left
 
 pub walk_scope-returns-clause-grows : goal.walk_scope-returns-clause-grows
 walk_scope-returns-clause-grows g t c =
-    grows_with g.M.MemDomain.stands (csprogram_tree c.args.program.now) c.args.to _ _ _ _ c.in_ok-leave_scope.ensures.old
-    (c.in_ok-add_alarms.ensures.old (csprogram_tree c.args.program.now))
+    grows_with g.M.MemDomain.stands (csprogram_tree c.args.program.now) c.args.to _ _ _ _ c.in_ok-leave_scope.ensures.old (c.in_ok-add_alarms.ensures.old (csprogram_tree c.args.program.now))
 
 pub walk_scope-returns-clause-gains : goal.walk_scope-returns-clause-gains
 walk_scope-returns-clause-gains g t c =
     let q = csprogram_tree c.args.program.now in
     let all = csstmts_tree c.args.items.now in
     let found = rw c.as_slice.ensures at c.in_ok-pass.ensures.gains in
-    c.in_ok-add_alarms.ensures.gains q (Scope c.args.objects.now all)
-    (all_into q (Scope [] all) (Scope c.args.objects.now all) _ (scope_admits q c.args.objects.now all) (gained q (Scope [] all) _ found))
+    c.in_ok-add_alarms.ensures.gains q (Scope c.args.objects.now all) (all_into q (Scope [] all) (Scope c.args.objects.now all) _ (scope_admits q c.args.objects.now all) (gained q (Scope [] all) _ found))
 
 pub walk_switch-returns-clause-gains : goal.walk_switch-returns-clause-gains
 walk_switch-returns-clause-gains g t c =
@@ -343,13 +303,11 @@ walk_switch-returns-clause-gains g t c =
     let all = csstmts_tree c.args.items.now in
     let e = csexpr_tree c.args.value.now in
     let found = rw c.as_slice-3.ensures at c.in_ok-pass.ensures.gains in
-    c.in_ok-add_alarms.ensures.gains q (Switch e c.args.objects.now all)
-    (all_into q (Scope [] all) (Switch e c.args.objects.now all) _ (switch_admits q e c.args.objects.now all) (gained q (Scope [] all) _ found))
+    c.in_ok-add_alarms.ensures.gains q (Switch e c.args.objects.now all) (all_into q (Scope [] all) (Switch e c.args.objects.now all) _ (switch_admits q e c.args.objects.now all) (gained q (Scope [] all) _ found))
 
 pub walk_switch-returns-clause-grows : goal.walk_switch-returns-clause-grows
 walk_switch-returns-clause-grows g t c =
-    grows_with g.M.MemDomain.stands (csprogram_tree c.args.program.now) c.args.to _ _ _ _ c.in_ok-leave_scope.ensures.old
-    (c.in_ok-add_alarms.ensures.old (csprogram_tree c.args.program.now))
+    grows_with g.M.MemDomain.stands (csprogram_tree c.args.program.now) c.args.to _ _ _ _ c.in_ok-leave_scope.ensures.old (c.in_ok-add_alarms.ensures.old (csprogram_tree c.args.program.now))
 
 -- ---- passes
 
@@ -376,31 +334,7 @@ one_pass-walk_live-requires g t c =
     let own = rw (c.in-Some.ensures.cases.0, csstmts_cons c.in-Some.item.now c.in-Some.more.now) at c.loop-item.invariant.walkable in
     let size = ap csstmts_size (ap csstmts_from c.in-Some.ensures.cases.0 ∙ csstmts_cons c.in-Some.item.now c.in-Some.more.now) in
     let within = c.loop-item.invariant.size in
-    λ κs le. (
-      omega (arith, size, within, c.decreases),
-      (
-        le.0,
-        (
-          le.1.0,
-          (
-            le.1.1,
-            (
-              c.requires.ramp,
-              (
-                own.0,
-                (
-                  c.requires.target,
-                  (
-                    c.in_ok-begun.ensures.is_for q c.loop-item.invariant.after_for c.requires.heads_for c.loop-item.invariant.kept_for,
-                    c.in_ok-begun.ensures.kept_for q c.loop-item.invariant.kept_for,
-                  ),
-                ),
-              ),
-            ),
-          ),
-        ),
-      ),
-    )
+    λ κs le. (omega (arith, size, within, c.decreases), (le.0, (le.1.0, (le.1.1, (c.requires.ramp, (own.0, (c.requires.target, (c.in_ok-begun.ensures.is_for q c.loop-item.invariant.after_for c.requires.heads_for c.loop-item.invariant.kept_for, c.in_ok-begun.ensures.kept_for q c.loop-item.invariant.kept_for))))))))
 
 pub one_pass-loop-item-preserved : goal.one_pass-loop-item-preserved
 one_pass-loop-item-preserved g t c =
@@ -421,15 +355,13 @@ one_pass-loop-item-preserved g t c =
       after_for = c.in_ok-after.ensures.is_for;
       kept_for = c.in_ok-after.ensures.kept_for;
       passes = passes_typed g.M.MemDomain.stands q c.args.to all item more1 c.args.heads.now c.args.flow c.loop-item.after c.in_ok-begun.begun c.in_ok-after.after
-          [] _ _ _ _ _ _ _ passes own.1 c.in_ok-begun.ensures.flow c.in_ok-begun.ensures.heads c.in_ok-begun.ensures.came c.in_ok-begun.ensures.gone
-          c.in_ok-begun.ensures.stays c.in_ok-after.ensures.sound c.in_ok-after.ensures.grows;
+          [] _ _ _ _ _ _ _ passes own.1 c.in_ok-begun.ensures.flow c.in_ok-begun.ensures.heads c.in_ok-begun.ensures.came c.in_ok-begun.ensures.gone c.in_ok-begun.ensures.stays c.in_ok-after.ensures.sound c.in_ok-after.ensures.grows;
       gains = gains_both q (Scope [] all) [] _ _ c.loop-item.invariant.gains
           (gains_into q item (Scope [] all) _ _ (λ x d. among x (item_admits q item more1 x d)) c.in_ok-after.ensures.gains);
       among = λ x d. among x (rest_admits q item more1 x d);
       behind = behind_more (beyond c.args.set.now.unroll) q all item more1 behind;
       goes = goes_more_typed g.M.MemDomain.sharp (beyond c.args.set.now.unroll) q c.args.to all c.args.heads.now item more1 behind c.args.flow c.loop-item.after
-          c.in_ok-begun.begun c.in_ok-after.after _ _ _ _ _ c.in_ok-begun.ensures.flows c.in_ok-begun.ensures.enters c.in_ok-begun.ensures.jumps
-          c.in_ok-begun.ensures.passes c.in_ok-after.ensures.exact c.in_ok-after.ensures.stays goes;
+          c.in_ok-begun.begun c.in_ok-after.after _ _ _ _ _ c.in_ok-begun.ensures.flows c.in_ok-begun.ensures.enters c.in_ok-begun.ensures.jumps c.in_ok-begun.ensures.passes c.in_ok-after.ensures.exact c.in_ok-after.ensures.stays goes;
     }
 
 pub one_pass-returns-clause-sound : goal.one_pass-returns-clause-sound
@@ -524,21 +456,16 @@ walk_loop-loop-turns-init g t c =
 pub settle_heads-returns-in-Same-clause-is_for : goal.settle_heads-returns-in-Same-clause-is_for
 settle_heads-returns-in-Same-clause-is_for g t c = λ p e.
     let q = csprogram_tree c.args.program.now in
-    subst (λ r. SomeFor g.M.MemDomain.is_for q r.after × AllFor g.M.MemDomain.is_for q r.kept.items) (closed_is _ p e)
-    (c.in_ok-pass.ensures.is_for.0, c.in_ok-next.ensures.kept_for q c.in_ok-pass.ensures.is_for.1)
+    subst (λ r. SomeFor g.M.MemDomain.is_for q r.after × AllFor g.M.MemDomain.is_for q r.kept.items) (closed_is _ p e) (c.in_ok-pass.ensures.is_for.0, c.in_ok-next.ensures.kept_for q c.in_ok-pass.ensures.is_for.1)
 
 pub settle_heads-returns-in-Same-clause-sound : goal.settle_heads-returns-in-Same-clause-sound
 settle_heads-returns-in-Same-clause-sound g t c = λ p e.
     let q = csprogram_tree c.args.program.now in
     let all = csstmts_from c.args.items.now in
     let pass = rw (c.as_slice.ensures.value, c.in_ok-start.ensures) at c.in_ok-pass.ensures.sound in
-    subst
-    (λ r. CoveredAll (HasTyped g.M.MemDomain.stands q) q c.args.to all (Begins (HasTyped g.M.MemDomain.stands q) all c.args.heads.items c.args.flow.now) r.after
-    r.kept.items r.out.items)
-    (closed_is _ p e)
+    subst (λ r. CoveredAll (HasTyped g.M.MemDomain.stands q) q c.args.to all (Begins (HasTyped g.M.MemDomain.stands q) all c.args.heads.items c.args.flow.now) r.after r.kept.items r.out.items) (closed_is _ p e)
     (closed_typed g.M.MemDomain.stands q c.args.to all c.args.heads.items c.loop-heads.heads.items c.args.flow.now c.in_ok-pass.pass.after pass.0 _ _ _
-    c.loop-heads.invariant.labels c.loop-heads.invariant.among c.loop-heads.invariant.old pass.1 (c.in_ok-next.ensures.closed c.in-Same.is)
-    c.in_ok-next.ensures.left)
+    c.loop-heads.invariant.labels c.loop-heads.invariant.among c.loop-heads.invariant.old pass.1 (c.in_ok-next.ensures.closed c.in-Same.is) c.in_ok-next.ensures.left)
 
 pub settle_heads-returns-in-New-clause-more : goal.settle_heads-returns-in-New-clause-more
 settle_heads-returns-in-New-clause-more g t c = λ h e.
@@ -567,11 +494,8 @@ settle_heads-loop-heads-preserved-in-Wider g t c =
       old = λ mark s k. c.in_ok-next.ensures.old mark s (c.loop-heads.invariant.old mark s k);
       fewer = omega (arith, less, within);
       begins = begins_both (HasTyped g.M.MemDomain.sharp q) (beyond c.args.set.now.unroll) q c.args.to (csstmts_from c.args.items.now) c.args.heads.items c.loop-heads.heads.items _ c.args.flow.now
-          c.loop-heads.invariant.begins
-          (begins_wider (HasTyped g.M.MemDomain.sharp q) (beyond c.args.set.now.unroll) q c.args.to (csstmts_from c.args.items.now) c.loop-heads.heads.items _ c.args.flow.now c.in_ok-pass.pass.after
-          c.in_ok-pass.pass.kept.items c.in_ok-pass.pass.out.items
-          (λ e. not_wider (c.in_ok-next.ensures.none e).0 c.in-Wider.is)
-          (λ x e f. not_wider (c.in_ok-next.ensures.one x e (λ l j. f l (c.loop-heads.invariant.among l j))).0 c.in-Wider.is) goes);
+          c.loop-heads.invariant.begins (begins_wider (HasTyped g.M.MemDomain.sharp q) (beyond c.args.set.now.unroll) q c.args.to (csstmts_from c.args.items.now) c.loop-heads.heads.items _ c.args.flow.now c.in_ok-pass.pass.after
+          c.in_ok-pass.pass.kept.items c.in_ok-pass.pass.out.items (λ e. not_wider (c.in_ok-next.ensures.none e).0 c.in-Wider.is) (λ x e f. not_wider (c.in_ok-next.ensures.one x e (λ l j. f l (c.loop-heads.invariant.among l j))).0 c.in-Wider.is) goes);
     }
 
 pub settle_heads-loop-heads-preserved : goal.settle_heads-loop-heads-preserved
@@ -587,11 +511,8 @@ settle_heads-loop-heads-preserved g t c =
       old = λ mark s k. c.in_ok-next.ensures.old mark s (c.loop-heads.invariant.old mark s k);
       fewer = omega (arith, less, within);
       begins = begins_both (HasTyped g.M.MemDomain.sharp q) (beyond c.args.set.now.unroll) q c.args.to (csstmts_from c.args.items.now) c.args.heads.items c.loop-heads.heads.items _ c.args.flow.now
-          c.loop-heads.invariant.begins
-          (begins_wider (HasTyped g.M.MemDomain.sharp q) (beyond c.args.set.now.unroll) q c.args.to (csstmts_from c.args.items.now) c.loop-heads.heads.items _ c.args.flow.now c.in_ok-pass.pass.after
-          c.in_ok-pass.pass.kept.items c.in_ok-pass.pass.out.items
-          (λ e. not_wider (c.in_ok-next.ensures.none e).0 (search rules))
-          (λ x e f. not_wider (c.in_ok-next.ensures.one x e (λ l j. f l (c.loop-heads.invariant.among l j))).0 (search rules)) goes);
+          c.loop-heads.invariant.begins (begins_wider (HasTyped g.M.MemDomain.sharp q) (beyond c.args.set.now.unroll) q c.args.to (csstmts_from c.args.items.now) c.loop-heads.heads.items _ c.args.flow.now c.in_ok-pass.pass.after
+          c.in_ok-pass.pass.kept.items c.in_ok-pass.pass.out.items (λ e. not_wider (c.in_ok-next.ensures.none e).0 (search rules)) (λ x e f. not_wider (c.in_ok-next.ensures.one x e (λ l j. f l (c.loop-heads.invariant.among l j))).0 (search rules)) goes);
     }
 
 pub walk_all-returns-then-not-has_label-clause-sound : goal.walk_all-returns-then-not-has_label-clause-sound
@@ -599,8 +520,7 @@ walk_all-returns-then-not-has_label-clause-sound g t c =
     let q = csprogram_tree c.args.program.now in
     let pass = rw c.as_slice.ensures.value at c.in_ok-pass.ensures.sound in
     let none : c.has_label.result ≡ false = search rules in
-    plain_pass (HasTyped g.M.MemDomain.stands q) q c.args.to (csstmts_from c.args.items.now) c.args.heads.items c.args.flow c.in_ok-pass.pass.after pass.0 _ _
-    (c.has_label.ensures none) pass.1
+    plain_pass (HasTyped g.M.MemDomain.stands q) q c.args.to (csstmts_from c.args.items.now) c.args.heads.items c.args.flow c.in_ok-pass.pass.after pass.0 _ _ (c.has_label.ensures none) pass.1
 
 pub walk_all-loop-flow-init : goal.walk_all-loop-flow-init
 walk_all-loop-flow-init g t c = record {
@@ -617,39 +537,14 @@ walk_all-loop-flow-init g t c = record {
 }
 
 pub walk_all-settle_heads-requires : goal.walk_all-settle_heads-requires
-walk_all-settle_heads-requires g t c = λ κs le. (
-  omega (arith, c.decreases),
-  (
-    le.0,
-    (
-      le.1.0,
-      (
-        le.1.1,
-        (
-          c.requires.ramp,
-          (
-            c.requires.walkable,
-            (
-              c.requires.target,
-              (
-                rw c.loop-flow.invariant.same_flow c.requires.flow_for,
-                (c.loop-flow.invariant.heads_for, (c.loop-flow.invariant.labels, c.loop-flow.invariant.among)),
-              ),
-            ),
-          ),
-        ),
-      ),
-    ),
-  ),
-)
+walk_all-settle_heads-requires g t c = λ κs le. (omega (arith, c.decreases), (le.0, (le.1.0, (le.1.1, (c.requires.ramp, (c.requires.walkable, (c.requires.target, (rw c.loop-flow.invariant.same_flow c.requires.flow_for, (c.loop-flow.invariant.heads_for, (c.loop-flow.invariant.labels, c.loop-flow.invariant.among))))))))))
 
 pub walk_all-returns-in-Closed-clause-sound : goal.walk_all-returns-in-Closed-clause-sound
 walk_all-returns-in-Closed-clause-sound g t c = λ over n from s h.
     let q = csprogram_tree c.args.program.now in
     let all = csstmts_from c.args.items.now in
     let sound = rw c.loop-flow.invariant.same_flow at c.in_ok-pass-2.ensures.sound in
-    sound c.in-Closed.pass c.in-Closed.is over n from s
-    (begins_more (HasTyped g.M.MemDomain.stands q) all c.args.heads.items c.loop-flow.heads.items c.args.flow
+    sound c.in-Closed.pass c.in-Closed.is over n from s (begins_more (HasTyped g.M.MemDomain.stands q) all c.args.heads.items c.loop-flow.heads.items c.args.flow
     (head_on g.M.MemDomain.stands q c.args.heads.items c.loop-flow.heads.items c.loop-flow.invariant.old) from s h)
 
 pub walk_all-loop-flow-preserved : goal.walk_all-loop-flow-preserved
@@ -693,8 +588,7 @@ walk_switch-returns-clause-sound g t c =
     let left = rw c.as_slice-names.ensures at c.in_ok-leave_scope.ensures.left in
     switch_typed g.M.MemDomain.stands q c.args.to c.actions_keep_states_typed.ensures.enter c.actions_keep_states_typed.ensures.leave c.values_are_typed.ensures
     (csexpr_tree c.args.value.now) c.args.objects.now all c.args.state _ _ _ _ _ c.in_ok-ended.ended c.in_ok-after.after _ _ _ _ c.requires.walkable.1
-    c.requires.walkable.0.numbers.2 parted c.in_ok-heads.ensures.old entered past pass (c.in_ok-add_alarms.ensures.new q) behind left
-    c.in_ok-after.ensures.first c.in_ok-after.ensures.second
+    c.requires.walkable.0.numbers.2 parted c.in_ok-heads.ensures.old entered past pass (c.in_ok-add_alarms.ensures.new q) behind left c.in_ok-after.ensures.first c.in_ok-after.ensures.second
 
 -- ---- from sets of one state alone
 
@@ -702,21 +596,18 @@ pub walk-returns-in_ok-walk_loop-in-Loop-clause-exact : goal.walk-returns-in_ok-
 walk-returns-in_ok-walk_loop-in-Loop-clause-exact g t c =
     let q = csprogram_tree c.args.program.now in
     let x = rw c.deref-in-Loop.ensures at c.in_ok-walk_loop-in-Loop.ensures.exact in
-    rw (c.in-Loop.is, csstmt_loop c.in-Loop.pos c.in-Loop.body)
-    (whole_exact (HasTyped g.M.MemDomain.sharp q) (beyond c.args.set.now.unroll) q c.args.to c.in-Loop.pos (csstmt_tree c.in-Loop.body.value) c.args.state _ _ _ _ (x c.in-Loop.pos))
+    rw (c.in-Loop.is, csstmt_loop c.in-Loop.pos c.in-Loop.body) (whole_exact (HasTyped g.M.MemDomain.sharp q) (beyond c.args.set.now.unroll) q c.args.to c.in-Loop.pos (csstmt_tree c.in-Loop.body.value) c.args.state _ _ _ _ (x c.in-Loop.pos))
 
 pub walk-returns-in_ok-keep-in-Exit-clause-exact : goal.walk-returns-in_ok-keep-in-Exit-clause-exact
 walk-returns-in_ok-keep-in-Exit-clause-exact g t c =
     let q = csprogram_tree c.args.program.now in
-    rw (c.in-Exit.is, csstmt_exit c.in-Exit.level)
-    (leaves_exact (HasTyped g.M.MemDomain.sharp q) q c.args.to (beyond c.args.set.now.unroll) (Exit c.in-Exit.level) (ByExit c.in-Exit.level) c.args.state _ _ _ (λ n s. refl)
+    rw (c.in-Exit.is, csstmt_exit c.in-Exit.level) (leaves_exact (HasTyped g.M.MemDomain.sharp q) q c.args.to (beyond c.args.set.now.unroll) (Exit c.in-Exit.level) (ByExit c.in-Exit.level) c.args.state _ _ _ (λ n s. refl)
     (λ s h i. (record { way = ways.Exit c.in-Exit.level; state = c.args.state }, c.in_ok-keep-in-Exit.ensures.alone i, refl, h)))
 
 pub walk-returns-in_ok-keep-in-Goto-clause-exact : goal.walk-returns-in_ok-keep-in-Goto-clause-exact
 walk-returns-in_ok-keep-in-Goto-clause-exact g t c =
     let q = csprogram_tree c.args.program.now in
-    rw (c.in-Goto.is, csstmt_goto c.in-Goto.label)
-    (leaves_exact (HasTyped g.M.MemDomain.sharp q) q c.args.to (beyond c.args.set.now.unroll) (Goto c.in-Goto.label) (ByGoto c.in-Goto.label) c.args.state _ _ _ (λ n s. refl)
+    rw (c.in-Goto.is, csstmt_goto c.in-Goto.label) (leaves_exact (HasTyped g.M.MemDomain.sharp q) q c.args.to (beyond c.args.set.now.unroll) (Goto c.in-Goto.label) (ByGoto c.in-Goto.label) c.args.state _ _ _ (λ n s. refl)
     (λ s h i. (record { way = ways.Goto c.in-Goto.label; state = c.args.state }, c.in_ok-keep-in-Goto.ensures.alone i, refl, h)))
 
 pub walk_sequence-returns-clause-exact : goal.walk_sequence-returns-clause-exact
@@ -729,8 +620,7 @@ pub walk_if-returns-clause-exact : goal.walk_if-returns-clause-exact
 walk_if-returns-clause-exact g t c =
     let q = csprogram_tree c.args.program.now in
     if_exact (HasTyped g.M.MemDomain.sharp q) q c.args.to (beyond c.args.set.now.unroll) (csexpr_tree c.args.condition.now) (csstmt_tree c.args.then.now) (csstmt_tree c.args.otherwise.now) c.args.state c.in_ok-other.other c.in_ok-first.first
-    c.in_ok-second.second c.in_ok-after.after _ _ _ _ _ _ c.in_ok-other.ensures c.in_ok-first.ensures.exact c.in_ok-second.ensures.exact
-    c.in_ok-after.ensures.first_alone c.in_ok-after.ensures.second_alone
+    c.in_ok-second.second c.in_ok-after.after _ _ _ _ _ _ c.in_ok-other.ensures c.in_ok-first.ensures.exact c.in_ok-second.ensures.exact c.in_ok-after.ensures.first_alone c.in_ok-after.ensures.second_alone
 
 pub walk_block-returns-clause-exact : goal.walk_block-returns-clause-exact
 walk_block-returns-clause-exact g t c =
@@ -753,9 +643,7 @@ pub walk_side-returns-in_ok-after-in-Live-clause-exact : goal.walk_side-returns-
 walk_side-returns-in_ok-after-in-Live-clause-exact g t c =
     let q = csprogram_tree c.args.program.now in
     side_walked_typed g.M.MemDomain.sharp (beyond c.args.set.now.unroll) q c.args.to (csexpr_tree c.args.condition.now) c.args.truth (csstmt_tree c.args.a.now) c.args.state c.assume.new.self c.in_ok-after-in-Live.after _ _ _ _
-    (λ s v h i k. c.in_ok-assume.ensures.sharp s v h i k)
-    (λ s v h i k. let z = c.in_ok-assume.ensures.dead s v h i k in let y : true ≡ false = rw c.in-Live.is at z in absurd (cc))
-    c.in_ok-after-in-Live.ensures.exact
+    (λ s v h i k. c.in_ok-assume.ensures.sharp s v h i k) (λ s v h i k. let z = c.in_ok-assume.ensures.dead s v h i k in let y : true ≡ false = rw c.in-Live.is at z in absurd (cc)) c.in_ok-after-in-Live.ensures.exact
 
 pub walk_side-returns-in-Dead-clause-exact : goal.walk_side-returns-in-Dead-clause-exact
 walk_side-returns-in-Dead-clause-exact g t c =
@@ -800,8 +688,7 @@ settle-loop-head-preserved g t c =
       entry = λ s h. c.in_ok-widen_by.ensures.left s (c.loop-head.invariant.entry s h);
       rests = turns_on (HasTyped g.M.MemDomain.sharp q) (beyond c.args.set.now.unroll) q c.args.to (csstmt_tree c.args.body.now) c.args.head _ c.in_ok-pass.pass.after c.in_ok-pass.pass.kept.items c.in_ok-pass.pass.out.items
           (turns_last (HasTyped g.M.MemDomain.sharp q) (beyond c.args.set.now.unroll) q c.args.to (csstmt_tree c.args.body.now) c.args.head c.loop-head.head c.in_ok-pass.pass.after c.in_ok-pass.pass.kept.items c.in_ok-pass.pass.out.items
-          c.loop-head.invariant.rests c.in_ok-pass.ensures.exact)
-          (λ e. fell_not c.in_ok-widen_by.field-0 c.if-not-branch.false (c.in_ok-widen_by.ensures.none e));
+          c.loop-head.invariant.rests c.in_ok-pass.ensures.exact) (λ e. fell_not c.in_ok-widen_by.field-0 c.if-not-branch.false (c.in_ok-widen_by.ensures.none e));
     }
 
 pub settle-returns-then-not-branch-clause-last : goal.settle-returns-then-not-branch-clause-last
@@ -819,8 +706,7 @@ walk_scope-returns-clause-exact g t c =
     let behind = rw c.as_slice-names.ensures at c.in_ok-after.ensures.sharp in
     let left = rw c.as_slice-names.ensures at c.in_ok-leave_scope.ensures.one in
     scope_exact_typed g.M.MemDomain.sharp (beyond c.args.set.now.unroll) q c.args.to c.actions_keep_states_typed.ensures.enter c.actions_keep_states_typed.ensures.leave c.args.objects.now all c.args.state c.enter.new.self []
-    c.in_ok-pass.pass.after c.in_ok-after.after _ _ _ _ _ _ c.requires.walkable.0.numbers.2 (λ s i h. enters q s c.requires.is_for i h) (λ mark. tt)
-    pass behind c.in_ok-after.ensures.none c.in_ok-leave_scope.ensures.none left c.in_ok-add_alarms.ensures.alone
+    c.in_ok-pass.pass.after c.in_ok-after.after _ _ _ _ _ _ c.requires.walkable.0.numbers.2 (λ s i h. enters q s c.requires.is_for i h) (λ mark. tt) pass behind c.in_ok-after.ensures.none c.in_ok-leave_scope.ensures.none left c.in_ok-add_alarms.ensures.alone
 
 pub walk_switch-returns-clause-exact : goal.walk_switch-returns-clause-exact
 walk_switch-returns-clause-exact g t c =
@@ -834,8 +720,7 @@ walk_switch-returns-clause-exact g t c =
     let left = rw c.as_slice-names.ensures at c.in_ok-leave_scope.ensures.one in
     switch_exact_typed g.M.MemDomain.sharp (beyond c.args.set.now.unroll) q c.args.to c.actions_keep_states_typed.ensures.enter c.actions_keep_states_typed.ensures.leave c.values_are_typed.ensures
     (csexpr_tree c.args.value.now) c.args.objects.now all c.args.state _ _ _ _ _ c.in_ok-ended.ended c.in_ok-after.after _ _ _ _ _ _ c.requires.walkable.1
-    c.requires.walkable.0.numbers.2 parted entered stays c.in_ok-heads.ensures.gone pass behind c.in_ok-ended.ensures.none c.in_ok-leave_scope.ensures.none left
-    c.in_ok-add_alarms.ensures.alone c.in_ok-after.ensures.first_alone c.in_ok-after.ensures.second_alone
+    c.requires.walkable.0.numbers.2 parted entered stays c.in_ok-heads.ensures.gone pass behind c.in_ok-ended.ensures.none c.in_ok-leave_scope.ensures.none left c.in_ok-add_alarms.ensures.alone c.in_ok-after.ensures.first_alone c.in_ok-after.ensures.second_alone
 
 pub one_pass-returns-clause-goes : goal.one_pass-returns-clause-goes
 one_pass-returns-clause-goes g t c = rw (nil_of c.loop-item.rest.now c.in_default.ensures.cases, csstmts_nil) at c.loop-item.invariant.goes
@@ -869,9 +754,7 @@ settle_heads-returns-in-Same-clause-exact g t c = λ p e.
     let q = csprogram_tree c.args.program.now in
     let all = csstmts_from c.args.items.now in
     let goes = rw (c.as_slice.ensures.value, c.in_ok-start.ensures) at c.in_ok-pass.ensures.goes in
-    subst
-    (λ r. ExactAll (HasTyped g.M.MemDomain.sharp q) (beyond c.args.set.now.unroll) q c.args.to all c.args.heads.items c.args.flow.now r.after r.kept.items r.out.items)
-    (closed_is _ p e)
+    subst (λ r. ExactAll (HasTyped g.M.MemDomain.sharp q) (beyond c.args.set.now.unroll) q c.args.to all c.args.heads.items c.args.flow.now r.after r.kept.items r.out.items) (closed_is _ p e)
     (all_from (HasTyped g.M.MemDomain.sharp q) (beyond c.args.set.now.unroll) q c.args.to all c.args.heads.items c.loop-heads.heads.items c.args.flow.now c.in_ok-pass.pass.after _ _ c.loop-heads.invariant.begins
     (all_closed (HasTyped g.M.MemDomain.sharp q) (beyond c.args.set.now.unroll) q c.args.to all c.loop-heads.heads.items c.args.flow.now c.in_ok-pass.pass.after _ _ _ c.loop-heads.invariant.among goes
     (λ i. (c.in_ok-next.ensures.none i).1) (λ x i f. (c.in_ok-next.ensures.one x i f).1)))
@@ -883,25 +766,20 @@ settle_heads-returns-in-New-clause-begins g t c = λ h e.
     let goes = rw (c.as_slice.ensures.value, c.in_ok-start.ensures) at c.in_ok-pass.ensures.goes in
     subst (λ r. BeginsOn (HasTyped g.M.MemDomain.sharp q) (beyond c.args.set.now.unroll) q all c.args.heads.items c.args.flow.now r.items) (more_is _ h e)
     (begins_both (HasTyped g.M.MemDomain.sharp q) (beyond c.args.set.now.unroll) q c.args.to all c.args.heads.items c.loop-heads.heads.items _ c.args.flow.now c.loop-heads.invariant.begins
-    (begins_wider (HasTyped g.M.MemDomain.sharp q) (beyond c.args.set.now.unroll) q c.args.to all c.loop-heads.heads.items _ c.args.flow.now c.in_ok-pass.pass.after
-    c.in_ok-pass.pass.kept.items c.in_ok-pass.pass.out.items
-    (λ i. not_new (c.in_ok-next.ensures.none i).0 c.in-New.is)
-    (λ x i f. not_new (c.in_ok-next.ensures.one x i (λ l j. f l (c.loop-heads.invariant.among l j))).0 c.in-New.is) goes))
+    (begins_wider (HasTyped g.M.MemDomain.sharp q) (beyond c.args.set.now.unroll) q c.args.to all c.loop-heads.heads.items _ c.args.flow.now c.in_ok-pass.pass.after c.in_ok-pass.pass.kept.items c.in_ok-pass.pass.out.items
+    (λ i. not_new (c.in_ok-next.ensures.none i).0 c.in-New.is) (λ x i f. not_new (c.in_ok-next.ensures.one x i (λ l j. f l (c.loop-heads.invariant.among l j))).0 c.in-New.is) goes))
 
 pub walk_call-returns-clause-exact : goal.walk_call-returns-clause-exact
 walk_call-returns-clause-exact g t c =
     let q = csprogram_tree c.args.program.now in
     let looked = c.in-Some.ensures.lookup in
     let there : slice_get q.functions c.args.call.now.function ≡ Some (csfunction_tree c.in-Some.function.now) =
-    function_there c.as_slice.result.now c.args.program.now.functions c.args.call.now.function c.in-Some.function.now c.as_slice.ensures looked.3.0
-    (looked.3.1 c.in-Some.function.now) in
+    function_there c.as_slice.result.now c.args.program.now.functions c.args.call.now.function c.in-Some.function.now c.as_slice.ensures looked.3.0 (looked.3.1 c.in-Some.function.now) in
     let less : c.args.depth ≡ suc (c.args.depth - 1) = omega (arith, c.if-depth-eq0.false) in
     let callee = callable q c.args.depth (c.args.depth - 1) c.args.to (cscall_tree c.args.call.now) less c.requires.walkable in
     let same = callee_is q (c.args.depth - 1) (cscall_tree c.args.call.now) (csfunction_tree c.in-Some.function.now) there callee in
     let ready = subst (λ f. AreArgsReady q (cscall_tree c.args.call.now).args f.params) same callee.args in
     let passed = rw (c.as_slice-2.ensures, c.as_slice-3.ensures) at c.in_ok-pass_args.ensures.sharp in
     call_exact_typed g.M.MemDomain.sharp (beyond c.args.set.now.unroll) q c.args.to c.actions_keep_states_typed.ensures.set (cscall_tree c.args.call.now) (csfunction_tree c.in-Some.function.now)
-    c.args.state c.pass_args.new.state c.in_ok-mid.mid c.in_ok-fallen.fallen c.in_ok-given.given c.in_ok-after.after _ _ _ _ _ _ _
-    there ready callee.target passed c.new-inner.ensures.items c.new-found.ensures.items c.in_ok-mid.ensures.exact c.in_ok-prefix.ensures.none
-    c.in_ok-prefix.ensures.one c.in_ok-fallen.ensures.sharp_none c.in_ok-fallen.ensures.dead c.in_ok-given.ensures.none c.in_ok-given.ensures.one
-    c.in_ok-after.ensures.first_alone c.in_ok-after.ensures.second_alone
+    c.args.state c.pass_args.new.state c.in_ok-mid.mid c.in_ok-fallen.fallen c.in_ok-given.given c.in_ok-after.after _ _ _ _ _ _ _ there ready callee.target passed c.new-inner.ensures.items c.new-found.ensures.items c.in_ok-mid.ensures.exact c.in_ok-prefix.ensures.none
+    c.in_ok-prefix.ensures.one c.in_ok-fallen.ensures.sharp_none c.in_ok-fallen.ensures.dead c.in_ok-given.ensures.none c.in_ok-given.ensures.one c.in_ok-after.ensures.first_alone c.in_ok-after.ensures.second_alone
