@@ -53,6 +53,10 @@ class Completion(unittest.TestCase):
     def test_files(self):
         self.assertEqual(self.completed("_verac", "verac", "analyze", "a"), ["a b.i", "a folder", "a.c"])
         self.assertEqual(self.completed("_verac", "verac", "analyze", "a.c", ""), [])
+        self.assertEqual(self.completed("_verac", "verac", "analyze", "--st"), ["--state"])
+        self.assertEqual(self.completed("_verac", "verac", "analyze", "a.c", "--"), ["--narrow", "--state", "--unroll"])
+        self.assertEqual(self.completed("_verac", "verac", "analyze", "--unroll", ""), [])
+        self.assertIn("a.c", self.completed("_verac", "verac", "analyze", "--unroll", "3", ""))
 
     def test_pages(self):
         self.assertEqual(self.completed("_verac_html", "verac-html", "b"), ["b.c"])
