@@ -42,6 +42,7 @@ pub const NARROWED: u32 = 2;
 
 // The most that the words may ask for.
 const MOST_UNROLLED: u32 = 10_000;
+
 const MOST_NARROWED: u32 = 8;
 
 /// What the words ask for. Usage comes exactly where they are no command, memory aside.

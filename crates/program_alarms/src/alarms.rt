@@ -45,7 +45,8 @@ pub fn alarms_of(
         { power_step(n) },
     );
     // A set is one word in the frames of the walk.
-    let alarms =
-        analyze::<Boxed<IntervalStates>, _, Powers>(alloc, &lowered, unroll, narrow, &ramp)?;
+    let alarms = analyze::<Boxed<IntervalStates>, _, Powers>(
+        alloc, &lowered, unroll, narrow, &ramp,
+    )?;
     Ok(alarms)
 }

@@ -73,12 +73,7 @@ fn refused(alloc: Global, refusal: &Refusal) -> Result<String, AllocError> {
 }
 
 // What may go wrong in a program.
-fn found(
-    alloc: Global,
-    turns: Turns,
-    program: &TProgram,
-    plan: &Plan,
-) -> Result<String, AllocError>
+fn found(alloc: Global, turns: Turns, program: &TProgram, plan: &Plan) -> Result<String, AllocError>
     requires { IsReady (tprogram_tree program.now) plan.now }
 {
     let alarms = alarms_of(alloc, program, plan, turns.unroll, turns.narrow)?;
