@@ -36,14 +36,14 @@ pub fn walked_line(alloc: Global, row: &str) -> Result<String, AllocError> {
     let Some((words, text)) = row.split_once(": ") else {
         return String::from_str(alloc, "no file");
     };
-    let Some(turns) = turns(words) else {
+    let Some(turns) = turns_of(words) else {
         return String::from_str(alloc, "no numbers");
     };
     answer(alloc, turns, text)
 }
 
 // The two numbers of a row; none where there are others.
-fn turns(words: &str) -> Option<Turns> {
+fn turns_of(words: &str) -> Option<Turns> {
     let (unroll, narrow) = words.split_once(' ')?;
     let (Ok(unroll), Ok(narrow)) = (unroll.parse::<u32>(), narrow.parse::<u32>()) else {
         return None;
