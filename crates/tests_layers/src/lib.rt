@@ -25,6 +25,8 @@ mod one_state;
 #[cfg(test)]
 mod parse_steps;
 #[cfg(test)]
+mod ramps;
+#[cfg(test)]
 mod scalars;
 #[cfg(test)]
 mod shares;

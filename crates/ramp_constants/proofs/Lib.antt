@@ -1,0 +1,3 @@
+mod ConstantForms
+mod Around
+mod StepLists
