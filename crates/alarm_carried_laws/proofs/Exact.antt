@@ -26,7 +26,8 @@ use Rattle.lower_trees.specs.LowerProgram.{lower}
 use Rattle.csharp.specs.Meaning.{bounded_run}
 use Rattle.alarm_claims.specs.ExactFor.{AlarmsOf, IsExactFor}
 use Rattle.c_steps.specs.Sound.{MainGoesWrong, MainIsWrongAt, TellsOf}
-use Rattle.alarm_carried_laws.specs.Exact.{TellsAll, IsExactReport, BoundedRunsAreTold}
+use Rattle.alarm_carried_laws.specs.Exact.{BoundedRunsAreTold}
+use Rattle.alarm_carried_laws.specs.ExactReport.{TellsAll, IsExactReport}
 use Rattle.csharp_laws.specs.Inputs.{NeverWaits}
 use Rattle.alarm_carried_laws.proofs.Inputs.{reads_none}
 
@@ -55,7 +56,7 @@ module _ (never : RunsNeverStand) (same : BoundIsSame) (waits : NeverWaits) (p :
       let m : main ≡ plan.main = cc
       in let f = (lowers.keeps []).misses_none s chain at kind operand (subst (λ z. GoesWrong p z [] s chain at kind operand) m wrong)
       in let (a, is, r) = of_outcome f.fuel (Fails chain at kind operand s.memory) f.fails
-      in (a, is, (r.chain, r.place, r.kind), record { alone = r.shown; numbers = r.facts })
+      in (a, is, (r.chain, r.place, r.kind), record { shown = r.shown.there; alone = r.shown.only; numbers = r.facts })
 
   none_at : ((chain : List Pos) (at : Pos) (kind : WrongKind) → MainIsWrongAt p [] chain at kind → ⊥)
       → (n : ℕ) → IsLast p (after p plan.main [] n) → (next : Next) → step p (after p plan.main [] n) ≡ next → alarms ≡ []

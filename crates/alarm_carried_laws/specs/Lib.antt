@@ -1,3 +1,4 @@
 pub mod AlarmsOf
 pub mod Carried
 pub mod Exact
+pub mod ExactReport

@@ -5,6 +5,7 @@ use Rattle.c_syntax.specs.declared.alarm.Alarm.{Alarm}
 use Rattle.c_syntax.specs.Program.{TProgramTree}
 use Rattle.c_syntax.specs.declared.program.Plan.{Plan}
 use Rattle.alarm_carried_laws.specs.AlarmsOf.{AreAlarmsOf}
+use Rattle.alarm_carried_laws.specs.ExactReport.{IsExactWithin}
 use Rattle.program_alarms.specs.Ready.{IsReady}
 use Rattle.report_alarms.specs.ReportText.{text_of}
 use Rattle.report_alarms.specs.Told.{told_of}
@@ -16,6 +17,7 @@ use Rattle.headline.specs.Verdict.{IsRefusedFor}
 use Rattle.headline.specs.declared.status.Status.{Status}
 use Rattle.headline.specs.declared.status.Status.TheVariants as statuses
 use Rattle.headline.specs.Headline.{IsReport, OnWhole}
+use Rattle.headline.specs.Exact.{IsExactlyReported}
 
 -- the words ask for one thing
 pub same_asked : (words : List (List ℕ)) (a b : Asked) → command_of words ≡ Some a → command_of words ≡ Some b → a ≡ b
@@ -53,3 +55,9 @@ report asked bytes program plan alarms text ready one alarms_are text_is = recor
   alarms_are = alarms_are;
   text_is = text_is;
 }
+
+-- the same of alarms that are exact
+pub exact_report : (asked : Asked) (bytes : List ℕ) (program : TProgramTree) (plan : Plan) (alarms : List Alarm) (text : List ℕ) → IsReady program plan → IsOneProgram bytes program
+    → AreAlarmsOf program alarms → IsExactWithin asked.unroll program alarms → text ≡ text_of asked.file (told_of program plan.main) asked.state alarms
+    → IsExactlyReported asked bytes alarms text
+exact_report asked bytes program plan alarms text ready one alarms_are exact text_is = (report asked bytes program plan alarms text ready one alarms_are text_is, exact)

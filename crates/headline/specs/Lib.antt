@@ -3,3 +3,4 @@ pub mod Verdict
 pub mod Headline
 pub mod Status
 pub mod Read
+pub mod Exact

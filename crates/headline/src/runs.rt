@@ -6,6 +6,7 @@ ghost use Rattle.headline_words.specs.Told.{asked_for};
 ghost use Rattle.c_syntax.specs.Program.{tprogram_tree};
 ghost use Rattle.program_alarms.specs.Ready.{IsReady};
 ghost use Rattle.headline.specs.Headline.{IsAnswer, OnCommanded, OnWhole, OnNothing, IsWhole, Completes};
+ghost use Rattle.headline.specs.Exact.{IsExactAnswer};
 ghost use Rattle.headline.specs.Read.{IsOneProgram};
 
 use crate::program::{Read, program_of};
@@ -34,6 +35,10 @@ pub fn run<F: Files, K: Sink>(
     ensures answer { OnWhole result ((asked : Command) (bytes before : List ℕ) → command_of (texts words.now.items) ≡ Some asked
         → F.told files.old asked.file ≡ Some bytes → K.wrote out.old ≡ Some before
         → (text : List ℕ) × IsAnswer asked bytes result text × (K.wrote out.new ≡ Some (before ++ text))) }
+    // Exact: such a text of a program without inputs, gotos that lead back and more turns than asked for has no false alarm.
+    ensures exact { OnWhole result ((asked : Command) (bytes before : List ℕ) → command_of (texts words.now.items) ≡ Some asked
+        → F.told files.old asked.file ≡ Some bytes → K.wrote out.old ≡ Some before
+        → (text : List ℕ) × IsExactAnswer asked bytes result text × (K.wrote out.new ≡ Some (before ++ text))) }
     // Causes: of Usage, a read fault and a write fault.
     ensures commanded { OnCommanded result ((asked : Command) × (command_of (texts words.now.items) ≡ Some asked)) }
     ensures usage { result ≡ Status.Usage → command_of (texts words.now.items) ≡ None }
@@ -73,6 +78,7 @@ pub fn run<F: Files, K: Sink>(
 // The answer for a file that is too large.
 fn too_large(alloc: Global, asked: Asked<'_>) -> Result<(Status, Vec<u8>), AllocError>
     ensures answer { IfOk result (λ r. (bytes : List ℕ) → 4194304 < length bytes → IsAnswer (asked_for asked.entry) bytes r.0 r.1.items) }
+    ensures exact { IfOk result (λ r. (bytes : List ℕ) → IsExactAnswer (asked_for asked.entry) bytes r.0 r.1.items) }
     ensures done { IfOk result (λ r. IsWhole r.0) }
 {
     let line = refusal_line(alloc, asked.file, &Refusal::FileTooLarge)?;
@@ -87,6 +93,7 @@ fn answer_for(
 ) -> Result<(Status, Vec<u8>), AllocError>
     requires { length bytes.now ≤ 4194304 }
     ensures answer { IfOk result (λ r. IsAnswer (asked_for asked.entry) bytes.now r.0 r.1.items) }
+    ensures exact { IfOk result (λ r. IsExactAnswer (asked_for asked.entry) bytes.now r.0 r.1.items) }
     ensures done { IfOk result (λ r. IsWhole r.0) }
 {
     match program_of(alloc, bytes)? {
@@ -107,6 +114,7 @@ fn reported(
 ) -> Result<(Status, Vec<u8>), AllocError>
     requires { IsReady (tprogram_tree program.now) plan.now }
     ensures answer { IfOk result (λ r. (bytes : List ℕ) → IsOneProgram bytes (tprogram_tree program.now) → IsAnswer (asked_for asked.entry) bytes r.0 r.1.items) }
+    ensures exact { IfOk result (λ r. (bytes : List ℕ) → IsOneProgram bytes (tprogram_tree program.now) → IsExactAnswer (asked_for asked.entry) bytes r.0 r.1.items) }
     ensures done { IfOk result (λ r. IsWhole r.0) }
 {
     let alarms = alarms_of(alloc, program, plan, asked.unroll, asked.narrow)?;

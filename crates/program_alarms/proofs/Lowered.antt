@@ -1,5 +1,5 @@
 -- What a program that is ready brings to the analysis of what it is lowered to, and what comes back.
-use Rattle.std.proofs.Common.{◌≡◌, Option, Some, None, List, sym, subst}
+use Rattle.std.proofs.Common.{◌≡◌, ℕ, Option, Some, None, List, sym, subst}
 use Rattle.std.specs.Prelude.{IfSome, slice_get}
 use Rattle.c_syntax.specs.declared.alarm.Alarm.{Alarm}
 use Rattle.c_syntax.specs.declared.program.Plan.{Plan}
@@ -18,6 +18,8 @@ use Rattle.alarm_lists.specs.Sites as lists
 use Rattle.alarm_lists.specs.Sites.{SitesAgree}
 use Rattle.alarm_carried_laws.specs.AlarmsOf.{AreAlarmsOf}
 use Rattle.alarm_carried_laws.specs.Carried.{AnalysesCarryOver}
+use Rattle.alarm_carried_laws.specs.ExactReport.{IsExactWithin}
+use Rattle.lower_exact_laws.specs.Laws.{ExactAnalysesCarryOver, IsExactAnalysis}
 use Rattle.program_alarms.specs.Ready.{IsReady}
 
 pub runs_of : (p : TProgramTree) (plan : Plan) → IsReady p plan → AreEightBits p.initial → Runs p plan
@@ -45,3 +47,9 @@ pub carried : LoweringIsRight → AnalysesCarryOver → (p : TProgramTree) (plan
 carried right carry p plan q alarms ready bits is found =
     let runs = runs_of p plan ready bits in
     carry p plan runs (right p plan runs) alarms (subst (λ z. Analyzed z alarms) is found)
+
+pub exactly : LoweringIsRight → ExactAnalysesCarryOver → (p : TProgramTree) (plan : Plan) (q : CsProgramTree) (bound : ℕ) (alarms : List Alarm) → IsReady p plan → AreEightBits p.initial
+    → q ≡ lower p plan → IsExactAnalysis q bound alarms → IsExactWithin bound p alarms
+exactly right carry p plan q bound alarms ready bits is exact =
+    let runs = runs_of p plan ready bits in
+    carry p plan bound alarms runs (right p plan runs) (subst (λ z. IsExactAnalysis z bound alarms) is exact)
