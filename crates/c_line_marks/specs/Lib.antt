@@ -1,0 +1,2 @@
+pub mod Presumed
+pub mod Starts
