@@ -1,5 +1,5 @@
 -- Switches of lowered code have one default at most, as those of the source do.
-use Rattle.std.proofs.Common.{◌≡◌, ℕ, zero, suc, ◌+◌, ◌<◌, ◌≤◌, List, [], ◌∷◌, Option, Some, None, Bool, true, false, refl, sym, ap, ◌∙◌, subst, arith}
+use Rattle.std.proofs.Common.{◌≡◌, ℕ, zero, suc, ◌+◌, ◌≤◌, List, [], ◌∷◌, Option, Some, None, Bool, true, false, refl, sym, ap, ◌∙◌, subst, arith}
 use Rattle.std.specs.Prelude.{IfSome, option_map, if◌then◌else◌, slice_get}
 use Rattle.c_syntax.specs.declared.program.Plan.{Plan}
 use Rattle.c_syntax.specs.TypedExpr.{TExprTree}
@@ -8,7 +8,6 @@ use Rattle.c_syntax.specs.TypedStmt.{TInitTree, TStmtTree, TStmtTrees}
 use Rattle.c_syntax.specs.Program.{TFunctionTree, TProgramTree}
 use Rattle.c_layout.specs.Jumps.{defaults_among}
 use Rattle.c_layout.specs.TypedNodes.{Standing, in_block, in_switch, in_loop, IsTypedStmt, AreTypedItems}
-use Rattle.c_layout.specs.WellTyped.{EachOf}
 use Rattle.block_mem.specs.declared.types.Scalar.{Scalar}
 use Rattle.c_objects.specs.Opening.{size_of}
 use Rattle.c_objects.specs.Writing.{is_named}
@@ -19,14 +18,14 @@ use Rattle.csharp.specs.Meaning.{AtDefault, has, is_mark}
 use Rattle.lower_trees.specs.Zeros.{zero_cells, object_scalars}
 use Rattle.lower_trees.specs.LowerExpr.{lower_expr}
 use Rattle.lower_trees.specs.LowerStmt.{Context, InLoop, InSwitch, Past, rest_code, inits_code, test_of, step_of, with_last, lower_stmt, lower_items}
-use Rattle.lower_trees.specs.LowerProgram.{Placed, no_function, function_in, param_temps}
+use Rattle.lower_trees.specs.LowerProgram.{function_in, param_temps}
 use Rattle.lower_formed.specs.Every.{Every, EveryItem}
 use Rattle.lower_formed.proofs.Bodied.{body_every}
 use Rattle.lower_formed.proofs.Each.{each_map, every_each, function_at}
 use Rattle.lower_formed.proofs.Flat.{Flat, flat_expr}
 use Rattle.lower_formed.proofs.Placing.{Bodied, all, q, bodiless, code, run_body, stands_at}
 use Rattle.lower_formed.proofs.Scopes.{OpensNothing, flat_every}
-use Rattle.lower_exact_laws.specs.Straight.{AreDefaultsOnce, HaveOneDefault, IsDefaultOnce}
+use Rattle.analyzer.specs.Straight.{AreDefaultsOnce, HaveOneDefault, IsDefaultOnce}
 use Rattle.lower_exact_laws.specs.Laws.{LoweredHasOneDefault}
 
 -- what is around a statement does not matter

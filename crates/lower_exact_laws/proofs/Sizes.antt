@@ -1,5 +1,5 @@
 -- Integer objects of a typed program have their types' sizes.
-use Rattle.std.proofs.Common.{◌≡◌, ℕ, suc, zero, List, [], ◌∷◌, Some, true, refl, sym, arith}
+use Rattle.std.proofs.Common.{◌≡◌, suc, List, [], ◌∷◌, Some, true, refl, arith}
 use Rattle.std.specs.Prelude.{All}
 use Rattle.std.proofs.lemmas.Bool.{and_from, eq-eqb}
 use Rattle.c_syntax_written.specs.Integer.{bytes}

@@ -11,7 +11,7 @@ use Rattle.lower_trees.specs.LowerProgram.{lower}
 use Rattle.mem_objects.specs.Under.{have_own_sizes}
 use Rattle.alarm_claims.specs.ExactFor.{IsExactFor}
 use Rattle.alarm_carried_laws.specs.ExactReport.{IsExactWithin}
-use Rattle.lower_exact_laws.specs.Straight.{AreDefaultsOnce}
+use Rattle.analyzer.specs.Straight.{AreDefaultsOnce}
 
 -- each switch has at most one default
 abbrev pub LoweredHasOneDefault : Type 0
