@@ -1,11 +1,12 @@
 -- The form of what is shown, of two and of their hull.
-use Rattle.std.proofs.Common.{List, [], ◌∷◌}
+use Rattle.std.proofs.Common.{◌≡◌, List, [], ◌∷◌, refl, arith}
 use Rattle.c_syntax.specs.declared.alarm.Shown.{Shown}
 use Rattle.c_syntax.specs.declared.alarm.Shown.TheVariants as shows
 use Rattle.c_syntax.specs.declared.alarm.WrongKind.{WrongKind}
 use Rattle.c_syntax.specs.declared.alarm.WrongKind.TheVariants as kinds
 use Rattle.csharp.specs.Trees.{CsExprTree}
 use Rattle.mem_shown.specs.Hulls.{AreOfOneForm, IsHull}
+use Rattle.alarm_lists.specs.Lists.{form_number}
 use Rattle.mem_api.specs.Showing.{AreEnds, AreMarks, ArePointers, HasForm, IsPair, IsRange, IsSet}
 
 -- a hull has the form of the first
@@ -16,6 +17,23 @@ hull_form (shows.Pair a b) (shows.Pair c d) (shows.Pair v w) x = tt
 hull_form (shows.Marks undef value broken) (shows.Marks u v b) (shows.Marks y z w) x = tt
 hull_form (shows.Ends value none) (shows.Ends v n) (shows.Ends y z) x = tt
 hull_form a b w x = absurd x
+
+-- the number of a form tells it
+pub form_of_number : (a b : Shown) → form_number a ≡ form_number b → AreOfOneForm a b
+form_of_number (shows.Number lo hi modulus rem) (shows.Number low high step rest) h = tt
+form_of_number (shows.One a) (shows.One b) h = tt
+form_of_number (shows.Pair a b) (shows.Pair c d) h = tt
+form_of_number (shows.Marks undef value broken) (shows.Marks u v b) h = tt
+form_of_number (shows.Ends value none) (shows.Ends v n) h = tt
+form_of_number a b h = absurd (omega (h, arith))
+
+pub number_of_form : (a b : Shown) → AreOfOneForm a b → form_number a ≡ form_number b
+number_of_form (shows.Number lo hi modulus rem) (shows.Number low high step rest) h = refl
+number_of_form (shows.One a) (shows.One b) h = refl
+number_of_form (shows.Pair a b) (shows.Pair c d) h = refl
+number_of_form (shows.Marks undef value broken) (shows.Marks u v b) h = refl
+number_of_form (shows.Ends value none) (shows.Ends v n) h = refl
+number_of_form a b h = absurd h
 
 -- two that have the form of a third
 pub form_both : (a b c : Shown) → AreOfOneForm a b → AreOfOneForm a c → AreOfOneForm b c

@@ -22,9 +22,9 @@ use Rattle.alarm_claims.specs.Wider.{Serves}
 use Rattle.walk_owes.proofs.Alone.{never_last, only_last}
 use Rattle.walk_owes.proofs.Entering.{nil_of}
 use Rattle.walk_owes.proofs.Admits.{holds_both, holds_same}
-use Rattle.alarm_lists.specs.Lists.{AreAlike, HaveOneForm, IsAdded, IsInOrderOf, IsMerge, NamesOwn, order_of}
+use Rattle.alarm_lists.specs.Lists.{AreAlike, HaveOneForm, IsAdded, IsMadeOne, IsMerge, NamesOwn, order_of}
 use Rattle.alarm_lists.proofs.Forms.{form_both, hull_form}
-use Rattle.alarm_lists.proofs.Keys.{before_both, before_of, key_of}
+use Rattle.alarm_lists.proofs.Keys.{alike_of, before_both, before_of, key_of}
 
 -- ---- alarms that serve
 
@@ -114,9 +114,9 @@ pub record Merging (alarms rest done : List Alarm) : Type 0 where
   pub among : (x : Alarm) → Contains rest x → Contains alarms x
   pub sorted : IsSortedBy later rest
   pub below : (x y : Alarm) → Contains done x → Contains rest y → is_lt (order_of y x) ≡ false
-  pub form : (x y : Alarm) → Contains done x → Contains alarms y → AreAlike x y → AreOfOneForm x.shown y.shown
+  pub form : HaveOneForm alarms → (x y : Alarm) → Contains done x → Contains alarms y → AreAlike x y → AreOfOneForm x.shown y.shown
   pub proper : (x : Alarm) → Contains done x → IsProper x.shown
-  pub ordered : AllPairs Precedes done
+  pub ordered : HaveOneForm alarms → AllPairs Precedes done
   pub serves : (q : CsProgramTree) (x : Alarm) → Contains alarms x → Contains rest x ⊎ ((y : Alarm) × Contains done y × Serves q x y)
   pub holds : (q : CsProgramTree) → All (NamesOwn q) alarms → (y : Alarm) → Contains done y → (x : Alarm) × Contains alarms x × Holds q x y
 
@@ -128,14 +128,14 @@ merging_begins alarms rest p s = record {
   among = λ x c. Contains-permutation rest alarms x (IsPermutation-sym alarms rest p) c;
   sorted = s;
   below = λ x y c d. none_in x c;
-  form = λ x y c d a. none_in x c;
+  form = λ one x y c d a. none_in x c;
   proper = λ x c. none_in x c;
-  ordered = λ i j d l m. absurd (omega (m, arith));
+  ordered = λ one i j d l m. absurd (omega (m, arith));
   serves = λ q x c. inl (Contains-permutation alarms rest x p c);
   holds = λ q n y c. none_in y c;
 }
 
-pub merging_ends : (alarms rest done : List Alarm) → length rest ≡ 0 → Merging alarms rest done → IsInOrderOf alarms done
+pub merging_ends : (alarms rest done : List Alarm) → length rest ≡ 0 → Merging alarms rest done → IsMadeOne alarms done
 merging_ends alarms rest done l m = record {
   serves = λ q x c. ⊎_elim (λ n. absurd (omega (n.1, l, arith))) (λ r. r) (m.serves q x c);
   holds = m.holds;
@@ -152,34 +152,36 @@ module _ (alarms front : List Alarm) (x : Alarm) (done : List Alarm) (m : Mergin
   low : (y : Alarm) → Contains front y → is_lt (order_of y x) ≡ false
   low y c = sorted_last later later_ranks front x y m.sorted c
 
-  module _ (apart : (before : List Alarm) (last : Alarm) → done ≡ before ++ (last ∷ []) → order_of last x ≢ Equal) where
-    last_precedes : (e : Ends done) → Precedes e.last x
-    last_precedes e =
-        precedes_of e.last x
-        (m.below e.last x (subst (λ z. Contains z e.last) (sym e.is) (Contains-push e.front e.last)) (Contains-push front x))
-        (apart e.front e.last e.is)
+  module _ (apart : (before : List Alarm) (last : Alarm) → done ≡ before ++ (last ∷ []) → order_of last x ≡ Equal → AreOfOneForm last.shown x.shown → ⊥) where
+    module _ (one : HaveOneForm alarms) where
+      last_precedes : (e : Ends done) → Precedes e.last x
+      last_precedes e =
+          let there = subst (λ z. Contains z e.last) (sym e.is) (Contains-push e.front e.last) in
+          precedes_of e.last x
+          (m.below e.last x there (Contains-push front x))
+          (λ same. apart e.front e.last e.is same (m.form one e.last x there own (alike_of e.last x same)))
 
-    each_precedes : (e : Ends done) (k : ℕ) (d : Alarm) → k < length done → Precedes (get_or done k d) x
-    each_precedes e k d l =
-        ⊎_elim
-        (λ (i : k < length e.front).
-        let r = pairs_last Precedes e.front e.last (subst (λ z. AllPairs Precedes z) e.is m.ordered) k d i in
-        precedes_both (get_or done k d) e.last x
-        (subst (λ z. Precedes z e.last) (sym (ap (λ z. get_or z k d) e.is ∙ get_or_append_left e.front (e.last ∷ []) d k i)) r) (last_precedes e))
-        (λ (i : k ≡ length e.front).
-        subst (λ z. Precedes z x) (sym (ap (λ z. get_or z k d) e.is ∙ get_or_push e.front e.last d k (sym i))) (last_precedes e))
-        (below_or_last k (length e.front) (omega (l, ap length e.is, length-append e.front (e.last ∷ []), arith)))
+      each_precedes : (e : Ends done) (k : ℕ) (d : Alarm) → k < length done → Precedes (get_or done k d) x
+      each_precedes e k d l =
+          ⊎_elim
+          (λ (i : k < length e.front).
+          let r = pairs_last Precedes e.front e.last (subst (λ z. AllPairs Precedes z) e.is (m.ordered one)) k d i in
+          precedes_both (get_or done k d) e.last x
+          (subst (λ z. Precedes z e.last) (sym (ap (λ z. get_or z k d) e.is ∙ get_or_append_left e.front (e.last ∷ []) d k i)) r) (last_precedes e))
+          (λ (i : k ≡ length e.front).
+          subst (λ z. Precedes z x) (sym (ap (λ z. get_or z k d) e.is ∙ get_or_push e.front e.last d k (sym i))) (last_precedes e))
+          (below_or_last k (length e.front) (omega (l, ap length e.is, length-append e.front (e.last ∷ []), arith)))
 
-    pub merging_pushed : HaveOneForm alarms → ((y : Alarm) → Contains alarms y → IsProper y.shown) → Merging alarms front (done ++ (x ∷ []))
-    merging_pushed one proper = record {
+    pub merging_pushed : ((y : Alarm) → Contains alarms y → IsProper y.shown) → Merging alarms front (done ++ (x ∷ []))
+    merging_pushed proper = record {
       among = λ y c. m.among y (front_of y c);
       sorted = sorted_front later front x m.sorted;
       below = λ a y c d.
           ⊎_elim (λ i. m.below a y i (front_of y d)) (λ e. subst (λ z. is_lt (order_of y z) ≡ false) e (low y d)) (Contains-push_cases done x a c);
-      form = λ a y c d i.
-          ⊎_elim (λ o. m.form a y o d i) (λ e. one a y (subst (Contains alarms) e own) d i) (Contains-push_cases done x a c);
+      form = λ one a y c d i.
+          ⊎_elim (λ o. m.form one a y o d i) (λ e. one a y (subst (Contains alarms) e own) d i) (Contains-push_cases done x a c);
       proper = λ a c. ⊎_elim (λ o. m.proper a o) (λ e. proper a (subst (Contains alarms) e own)) (Contains-push_cases done x a c);
-      ordered = all_pairs_push Precedes done x m.ordered (λ k d l. each_precedes (ends done (omega (l, arith))) k d l);
+      ordered = λ one. all_pairs_push Precedes done x (m.ordered one) (λ k d l. each_precedes one (ends done (omega (l, arith))) k d l);
       serves = λ q a c.
           ⊎_elim
           (λ r. ⊎_elim inl (λ e. inr (x, Contains-push done x, subst (λ z. Serves q z x) e (serves_same q x))) (Contains-push_cases front x a r))
@@ -210,17 +212,17 @@ module _ (alarms front : List Alarm) (x : Alarm) (done : List Alarm) (last both 
         (λ e. subst (λ z. is_lt (order_of y z) ≡ false) e
         (subst (λ k. is_lt (slice_cmp nat_cmp (order_key y) k) ≡ false) (key_of last both merge.alike) (m.below last y here (rest_of y d))))
         (Contains-push_cases done both a c);
-    form = λ a y c d i.
+    form = λ one a y c d i.
         ⊎_elim
-        (λ o. m.form a y (old a o) d i)
+        (λ o. m.form one a y (old a o) d i)
         (λ e. let like_both : AreAlike both y = subst (λ z. AreAlike z y) (sym e) i in
         subst (λ z. AreOfOneForm z.shown y.shown) e
         (form_both last.shown both.shown y.shown (hull_form last.shown x.shown both.shown merge.hull)
-        (m.form last y here d (merge.alike.0 ∙ like_both.0, merge.alike.1 ∙ like_both.1, merge.alike.2 ∙ like_both.2))))
+        (m.form one last y here d (merge.alike.0 ∙ like_both.0, merge.alike.1 ∙ like_both.1, merge.alike.2 ∙ like_both.2))))
         (Contains-push_cases done both a c);
     proper = λ a c. ⊎_elim (λ o. m.proper a (old a o)) (λ e. subst (λ z. IsProper z.shown) e merge.proper) (Contains-push_cases done both a c);
-    ordered = all_pairs_push Precedes done both (pairs_front Precedes done last m.ordered)
-        (λ k d l. precedes_alike (get_or done k d) last both merge.alike (pairs_last Precedes done last m.ordered k d l));
+    ordered = λ one. all_pairs_push Precedes done both (pairs_front Precedes done last (m.ordered one))
+        (λ k d l. precedes_alike (get_or done k d) last both merge.alike (pairs_last Precedes done last (m.ordered one) k d l));
     serves = λ q a c.
         ⊎_elim
         (λ r. ⊎_elim inl (λ e. inr (both, Contains-push done both, subst (λ z. Serves q z both) e (merge.second q))) (Contains-push_cases front x a r))
@@ -243,11 +245,11 @@ module _ (alarms front : List Alarm) (x : Alarm) (done : List Alarm) (last both 
   }
 
 -- one alarm is taken from the rest
-pub merging_steps : (alarms front : List Alarm) (x : Alarm) (done now : List Alarm) → HaveOneForm alarms → ((y : Alarm) → Contains alarms y → IsProper y.shown)
+pub merging_steps : (alarms front : List Alarm) (x : Alarm) (done now : List Alarm) → ((y : Alarm) → Contains alarms y → IsProper y.shown)
     → Merging alarms (front ++ (x ∷ [])) done → IsAdded done x now → Merging alarms front now
-merging_steps alarms front x done now one proper m h =
+merging_steps alarms front x done now proper m h =
     ⊎_elim
-    (λ a. subst (Merging alarms front) (sym a.1) (merging_pushed alarms front x done m a.0 one proper))
+    (λ a. subst (Merging alarms front) (sym a.1) (merging_pushed alarms front x done m a.0 proper))
     (λ a. subst (Merging alarms front) (sym a.5)
     (merging_merged alarms front x a.0 a.1 a.2 (subst (Merging alarms (front ++ (x ∷ []))) a.3 m) a.4.0 a.4.1))
     h

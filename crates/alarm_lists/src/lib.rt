@@ -23,6 +23,6 @@ mod lists;
 mod merging;
 mod order;
 
-pub use lists::in_order;
+pub use lists::{in_order, made_one};
 pub use merging::merge_alarms;
 pub use order::alarm_order;

@@ -1,6 +1,6 @@
 use Rattle.std.proofs.Common.{vec_len}
 use Rattle.alarm_lists.proofs.Merged.{Merging, Short}
-use Rattle.alarm_lists.proofs.lists.in_order.Given as goal
+use Rattle.alarm_lists.proofs.lists.made_one.Given as goal
 
 abbrev pub invariant-loop-alarm : goal.invariant-loop-alarm
 invariant-loop-alarm l = record {
