@@ -60,4 +60,5 @@ report asked bytes program plan alarms text ready one alarms_are text_is = recor
 pub exact_report : (asked : Asked) (bytes : List ℕ) (program : TProgramTree) (plan : Plan) (alarms : List Alarm) (text : List ℕ) → IsReady program plan → IsOneProgram bytes program
     → AreAlarmsOf program alarms → IsExactWithin asked.unroll program alarms → text ≡ text_of asked.file (told_of program plan.main) asked.state alarms
     → IsExactlyReported asked bytes alarms text
+unfolding report
 exact_report asked bytes program plan alarms text ready one alarms_are exact text_is = (report asked bytes program plan alarms text ready one alarms_are text_is, exact)
