@@ -25,8 +25,6 @@ mod one_state;
 #[cfg(test)]
 mod parse_steps;
 #[cfg(test)]
-mod ramps;
-#[cfg(test)]
 mod scalars;
 #[cfg(test)]
 mod shares;
