@@ -1,4 +1,4 @@
--- Marks of loads of integers.
+-- Marks of loads.
 use Rattle.std.proofs.Common.{ℕ, ℤ, suc, pos, negsuc, ◌≡◌, ◌≤◌, ◌+◌, ◌≤ℤ◌, Bool, true, false, List, [], ◌∷◌, Option, Some, None, option_and_then, option_map, slice_get, refl, sym, ap, subst, ◌∙◌, arith}
 use Rattle.std.specs.Prelude.{IsTrue, unwrap_or}
 use Rattle.std.proofs.lemmas.Int.{ints}
@@ -12,7 +12,7 @@ use Rattle.pointsets.specs.Targets.{BaseSet, has_base}
 use Rattle.block_mem.specs.declared.types.Byte.{Byte}
 use Rattle.block_mem.specs.declared.types.Byte.TheVariants.{Frag, Num, Undef}
 use Rattle.block_mem.specs.declared.types.Scalar.{Scalar}
-use Rattle.block_mem.specs.declared.types.Scalar.TheVariants.{Int}
+use Rattle.block_mem.specs.declared.types.Scalar.TheVariants.{Int, Pointer}
 use Rattle.block_mem.specs.declared.types.Value.{Value}
 use Rattle.block_mem.specs.declared.types.Value.TheVariants as values
 use Rattle.block_mem.specs.Block.{place_of as place_at}
@@ -22,8 +22,7 @@ use Rattle.block_mem.specs.Numbers.{low_first, number_of}
 use Rattle.block_mem.specs.Pieces.{get_bytes}
 use Rattle.c_values.specs.Accesses.{mark}
 use Rattle.c_values.specs.Places.{ObjectMemory, place_of}
-use Rattle.machine_nums.specs.declared.expr.MExpr.{MExpr}
-use Rattle.machine_nums.specs.MExprs.{MExprTree, mexpr_tree}
+use Rattle.machine_nums.specs.MExprs.{MExprTree}
 use Rattle.machine_nums.specs.Machine.{machine_value}
 use Rattle.machine_nums.specs.Machines.{Admits}
 use Rattle.csharp.specs.Trees.{CsExprTree}
@@ -33,16 +32,17 @@ use Rattle.mem_cell_bytes.specs.Contents.{Contents}
 use Rattle.mem_cell_exprs.specs.Known.{HasOffset, IsPlaceFor, StandsFor}
 use Rattle.mem_cell_exprs.specs.declared.known.Known.{Known}
 use Rattle.mem_cell_exprs.proofs.Options.{then-some}
+use Rattle.mem_cell_loads.specs.declared.reading.Reading.{Reading}
+use Rattle.mem_cell_loads.specs.Found.{IsReadingAt}
 use Rattle.mem_cell_shows.specs.declared.ends.Ends.{Ends}
 use Rattle.mem_cell_shows.specs.declared.marks.Marks.{Marks}
 use Rattle.mem_cell_shows.specs.declared.reaches.Reach.{Reach}
 use Rattle.mem_cell_shows.specs.Checks.{ShowsMarks, marks_shown}
-use Rattle.mem_cell_shows.specs.Ends.{HoldsNumbers}
+use Rattle.mem_cell_shows.specs.Ends.{HoldsNumbers, LiesIn}
 use Rattle.mem_cell_shows.specs.Marked.{AreMarksIn, AreMarksWithin, IsPlaceIn}
 use Rattle.mem_cell_shows.specs.Reaches.{HoldsOf, IsByteIn, IsReach}
 use Rattle.mem_cell_shows.proofs.Comparing.{based, into-block}
 use Rattle.mem_cell_shows.proofs.Reaching.{got}
-use Rattle.mem_cell_shows.proofs.Spots.{offset-known}
 
 -- each byte of a list is one of those
 abbrev AllIn : Reach → List Byte → Type 0
@@ -98,23 +98,36 @@ module _ {D : Type 0} (admits : D → List ℤ → Type 0) (k : Known D) where
     byte = λ q x has. st.byte o q x b (c, is, has) at;
   }
 
-  pub object-marked : (o : ℕ) (c : Contents) (offset : Option MExpr) (x : MExpr) (t : IntType) (ends : Ends) (size : ℕ) (w : Marks) → offset ≡ Some x → slice_get k.grid o ≡ Some c
-      → HoldsNumbers (Admits admits k.nums) (λ v. machine_value v (mexpr_tree x)) ends → size_of (Int t) ≡ size → AreMarksWithin c (IsPlaceIn ends size) w → AreMarksIn admits k o (option_map mexpr_tree offset) t w
-  object-marked o c offset x t ends size w there is numbers of marks objects s st p at num =
+  pub object-marked : (o : ℕ) (c : Contents) (x : MExprTree) (t : IntType) (ends : Ends) (size : ℕ) (w : Marks) → slice_get k.grid o ≡ Some c
+      → HoldsNumbers (Admits admits k.nums) (λ v. machine_value v x) ends → size_of (Int t) ≡ size → AreMarksWithin c (IsPlaceIn ends size) w → AreMarksIn admits k o (Some x) (Int t) w
+  object-marked o c x t ends size w is numbers of marks objects s st p at num =
       marks s.memory p.block st.v o (place p) (size_of (Int t)) t (holds-of o c is objects s st p.block at)
-      (p.offset, numbers.holds st.v p.offset st.admitted (offset-known st.v x offset (values.Ptr p) there num), refl, omega (arith, of))
+      (p.offset, numbers.holds st.v p.offset st.admitted num, refl, omega (arith, of))
 
-  pub integer-marked : (e : CsExprTree) (set : BaseSet) (offset : Option MExprTree) (o : ℕ) (t : IntType) (w : Marks) → IsPlaceFor admits k e set offset
-      → ((b : Base) → has_base set b ≡ true → b ≡ Object o) → AreMarksIn admits k o offset t w
-      → ShowsMarks admits k (λ s. option_and_then (mark s.memory (Some (Int t))) (value_of e s)) w
-  integer-marked e set offset o t w at only marks objects s x st look =
-      let u = then-some (mark s.memory (Some (Int t))) (value_of e s) x look in by u.0 (at objects s st u.0 u.1) u.2 where
-        by : (u : Value) → Points s.memory set u × HasOffset st.v offset u → mark s.memory (Some (Int t)) u ≡ Some x → IsInShown objects x (marks_shown w)
+  -- the place is the one that the offset is
+  at-place : (d : ℤ) (at : ℕ) → d ≡ pos at → unwrap_or (place_at d) 0 ≡ at
+  at-place d at e = rw e refl
+
+  pub pointer-marked : (o at : ℕ) (x : MExprTree) (ends : Ends) (r : Reading) (w : Marks) → HoldsNumbers (Admits admits k.nums) (λ v. machine_value v x) ends
+      → ((d : ℤ) → LiesIn ends d → d ≡ pos at) → IsReadingAt admits k o at Pointer r
+      → w ≡ record { undef = r.marks.undef; value = r.marks.value; broken = r.marks.broken } → AreMarksIn admits k o (Some x) Pointer w
+  pointer-marked o at x ends r w numbers only read is objects s st p there num =
+      let here : place p ≡ at = at-place p.offset at (only p.offset (numbers.holds st.v p.offset st.admitted num)) in
+      let marked = (read objects s st p.block there).mark in
+      subst (λ (y : Marks). IsMarkIn y.undef y.value y.broken (mark_of Pointer (bytes_at s.memory.blocks p (size_of Pointer)))) (sym is)
+      (subst (λ (q : ℕ). IsMarkIn r.marks.undef r.marks.value r.marks.broken (mark_of Pointer (get_bytes (block_at s.memory.blocks p.block).bytes q (size_of Pointer)))) (sym here) marked)
+
+  pub scalar-marked : (e : CsExprTree) (set : BaseSet) (offset : Option MExprTree) (o : ℕ) (ty : Scalar) (w : Marks) → IsPlaceFor admits k e set offset
+      → ((b : Base) → has_base set b ≡ true → b ≡ Object o) → AreMarksIn admits k o offset ty w
+      → ShowsMarks admits k (λ s. option_and_then (mark s.memory (Some ty)) (value_of e s)) w
+  scalar-marked e set offset o ty w at only marks objects s x st look =
+      let u = then-some (mark s.memory (Some ty)) (value_of e s) x look in by u.0 (at objects s st u.0 u.1) u.2 where
+        by : (u : Value) → Points s.memory set u × HasOffset st.v offset u → mark s.memory (Some ty) u ≡ Some x → IsInShown objects x (marks_shown w)
         by (values.Int i n) h g = cc
         by values.Null h g = cc
         by (values.Ptr p) h g =
             let place = into-block objects s.memory st.kept p o (based objects s.memory st.kept set o (values.Ptr p) only h.0 tt) in
-            subst (λ y. IsInShown objects y (marks_shown w)) (sym (mark-is (mark_of (Int t) (bytes_at s.memory.blocks p (size_of (Int t)))) x g)) (marks objects s st p place h.1)
+            subst (λ y. IsInShown objects y (marks_shown w)) (sym (mark-is (mark_of ty (bytes_at s.memory.blocks p (size_of ty))) x g)) (marks objects s st p place h.1)
 
   pub any-marked : (look : State → Option Operand) (w : Marks) → ((s : State) (x : Operand) → look s ≡ Some x → (m : LoadMark) × (x ≡ Mark m)) → ((m : LoadMark) → IsMarkIn w.undef w.value w.broken m)
       → ShowsMarks admits k look w

@@ -4,7 +4,7 @@
 ghost use Rattle.std.specs.Prelude.{◌≡◌, ◌≤◌, ◌+◌, ◌≤ℤ◌, ℤ, pos, Some, option_and_then, option_map, IfOk, IfSome};
 ghost use Rattle.c_syntax.specs.Operand.{LoadMark};
 ghost use Rattle.c_syntax.specs.Admission.{IsMarkIn};
-ghost use Rattle.block_mem.specs.declared.types.Scalar.TheVariants.{Int};
+ghost use Rattle.block_mem.specs.declared.types.Scalar.TheVariants.{Int, Pointer};
 ghost use Rattle.c_values.specs.Accesses.{mark};
 ghost use Rattle.machine_nums.specs.MExprs.{mexpr_tree};
 ghost use Rattle.csharp.specs.Trees.{csexpr_tree};
@@ -23,6 +23,7 @@ use csharp::CsExpr;
 use machine_nums::MExpr;
 use mem_cell_bytes::{Held, size_in};
 use mem_cell_exprs::{Known, pointer};
+use mem_cell_loads::reading_at;
 use num_api::NumDomain;
 use std::alloc::AllocError as NoMemory;
 
@@ -120,18 +121,24 @@ fn marks_at(held: &Held, ends: Ends, size: u64) -> Marks
     part_marks(held, from, last + size)
 }
 
+// The one place that these numbers are.
+fn only_place(ends: Ends) -> Option<u64>
+    ensures { IfSome result (λ k. (d : ℤ) → LiesIn ends d → d ≡ pos k) }
+{
+    let from = least_place(ends)?;
+    let last = last_place(ends)?;
+    if from == last { Some(from) } else { None }
+}
+
 // What a load of an integer may meet in one object.
-fn object_marks<D: NumDomain>(
+fn integer_marks<D: NumDomain>(
     known: &Known<D>,
     object: u64,
-    offset: Option<MExpr>,
+    place: MExpr,
     ty: IntType,
 ) -> Result<Marks, NoMemory>
-    ensures { IfOk result (λ w. AreMarksIn D.admits known.now object (option_map mexpr_tree offset) ty w) }
+    ensures { IfOk result (λ w. AreMarksIn D.admits known.now object (Some (mexpr_tree place)) (Int ty) w) }
 {
-    let Some(place) = offset else {
-        return Ok(Marks::all());
-    };
     let Some(held) = known.grid.get(object) else {
         return Ok(Marks::all());
     };
@@ -139,9 +146,47 @@ fn object_marks<D: NumDomain>(
     Ok(marks_at(held, ends, size_in(ty)))
 }
 
-// What a load of an integer through a pointer may meet.
-fn integer_marks<D: NumDomain>(known: &Known<D>, ty: IntType, e: &CsExpr) -> Result<Marks, NoMemory>
-    ensures { IfOk result (λ w. ShowsMarks D.admits known.now (λ s. option_and_then (mark s.memory (Some (Int ty))) (value_of (csexpr_tree e.now) s)) w) }
+// What a load of a pointer may meet in one object.
+fn pointer_marks<D: NumDomain>(
+    known: &Known<D>,
+    object: u64,
+    place: MExpr,
+) -> Result<Marks, NoMemory>
+    ensures { IfOk result (λ w. AreMarksIn D.admits known.now object (Some (mexpr_tree place)) Pointer w) }
+{
+    let ends = value_ends(known.alloc, &known.nums, place)?;
+    let Some(at) = only_place(ends) else {
+        return Ok(Marks::all());
+    };
+    let read = reading_at(known, object, at, Scalar::Pointer)?;
+    Ok(Marks {
+        undef: read.marks.undef,
+        value: read.marks.value,
+        broken: read.marks.broken,
+    })
+}
+
+// What a load may meet in one object.
+fn object_marks<D: NumDomain>(
+    known: &Known<D>,
+    object: u64,
+    offset: Option<MExpr>,
+    ty: Scalar,
+) -> Result<Marks, NoMemory>
+    ensures { IfOk result (λ w. AreMarksIn D.admits known.now object (option_map mexpr_tree offset) ty w) }
+{
+    let Some(place) = offset else {
+        return Ok(Marks::all());
+    };
+    match ty {
+        Scalar::Int(t) => integer_marks(known, object, place, t),
+        Scalar::Pointer => pointer_marks(known, object, place),
+    }
+}
+
+// What a load of a scalar through a pointer may meet.
+fn scalar_marks<D: NumDomain>(known: &Known<D>, ty: Scalar, e: &CsExpr) -> Result<Marks, NoMemory>
+    ensures { IfOk result (λ w. ShowsMarks D.admits known.now (λ s. option_and_then (mark s.memory (Some ty)) (value_of (csexpr_tree e.now) s)) w) }
 {
     let Some(place) = pointer(known, e)? else {
         return Ok(Marks::all());
@@ -153,16 +198,6 @@ fn integer_marks<D: NumDomain>(known: &Known<D>, ty: IntType, e: &CsExpr) -> Res
     object_marks(known, object, place.offset, ty)
 }
 
-// The integer type, where it is one.
-fn integer_type(ty: Option<Scalar>) -> Option<IntType>
-    ensures { IfSome result (λ t. ty ≡ Some (Int t)) }
-{
-    match ty? {
-        Scalar::Int(t) => Some(t),
-        Scalar::Pointer => None,
-    }
-}
-
 /// What a load of a type through a pointer may meet in the states of a set.
 pub fn load_marks<D: NumDomain>(
     known: &Known<D>,
@@ -171,8 +206,8 @@ pub fn load_marks<D: NumDomain>(
 ) -> Result<Marks, NoMemory>
     ensures { IfOk result (λ w. ShowsMarks D.admits known.now (λ s. option_and_then (mark s.memory ty) (value_of (csexpr_tree e.now) s)) w) }
 {
-    match integer_type(ty) {
-        Some(t) => integer_marks(known, t, e),
+    match ty {
+        Some(ty) => scalar_marks(known, ty, e),
         None => Ok(Marks::all()),
     }
 }

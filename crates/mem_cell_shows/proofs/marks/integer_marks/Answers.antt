@@ -1,24 +1,9 @@
-use Rattle.std.proofs.Common.{Some, subst, sym}
-use Rattle.std.specs.Prelude.{option_map}
-use Rattle.std.proofs.lemmas.Result.{IfOk-weaker}
-use Rattle.block_mem.specs.declared.types.Scalar.TheVariants.{Int}
+use Rattle.std.proofs.Common.{sym}
 use Rattle.machine_nums.specs.MExprs.{mexpr_tree}
-use Rattle.csharp.specs.Trees.{csexpr_tree}
-use Rattle.mem_cell_exprs.specs.Known.{IsPlaceFor}
-use Rattle.mem_cell_exprs.proofs.Options.{some-at}
-use Rattle.mem_cell_shows.proofs.Marking.{any-marked, integer-marked, marks-looked}
+use Rattle.mem_cell_shows.proofs.Marking.{object-marked}
 use Rattle.mem_cell_shows.proofs.marks.integer_marks.Goals as goal
-
-pub returns-in_default : goal.returns-in_default
-returns-in_default g c = any-marked g.D.Oracle.admits c.args.known.now _ c.all.result (marks-looked (Some (Int c.args.ty)) (csexpr_tree c.args.e.now)) c.all.ensures
-
-pub returns-in_default-only_object : goal.returns-in_default-only_object
-returns-in_default-only_object g c = any-marked g.D.Oracle.admits c.args.known.now _ c.all-in_default-only_object.result (marks-looked (Some (Int c.args.ty)) (csexpr_tree c.args.e.now)) c.all-in_default-only_object.ensures
 
 pub returns : goal.returns
 returns g c =
-    let known = c.args.known.now in let e = csexpr_tree c.args.e.now in let place = c.in-Some.place in let set = c.to_targets-set.result in
-    let at : IsPlaceFor g.D.Oracle.admits known e set (option_map mexpr_tree place.offset) = subst (λ x. IsPlaceFor g.D.Oracle.admits known e x (option_map mexpr_tree place.offset)) (sym c.to_targets-set.ensures)
-    (some-at (λ p. IsPlaceFor g.D.Oracle.admits known e p.set (option_map mexpr_tree p.offset)) c.in_ok-place.field-0 place c.in-Some.is c.in_ok-place.ensures) in
-    IfOk-weaker c.object_marks.result _ _
-    (λ w h. integer-marked g.D.Oracle.admits known e set (option_map mexpr_tree place.offset) c.in-Some-only_object.object c.args.ty w at c.in-Some-only_object.ensures h) c.object_marks.ensures
+    object-marked g.D.Oracle.admits c.args.known.now c.args.object c.in-Some.held.now (mexpr_tree c.args.place) c.args.ty c.in_ok-ends.ends c.size_in.result c.marks_at.result
+    c.in-Some.ensures c.in_ok-ends.ensures (sym c.size_in.ensures.value) c.marks_at.ensures

@@ -1,0 +1,1 @@
+use Rattle.mem_cell_shows.proofs.marks.only_place.Goals as goal
