@@ -5,3 +5,5 @@ pub mod Ended
 pub mod Meets
 pub mod Typed
 pub mod Sets
+pub mod FirstBytes
+pub mod Runs

@@ -23,6 +23,7 @@ use Rattle.mem_cell_bytes.proofs.Steps.{has-none}
 use Rattle.mem_cell_exprs.specs.Known.{StandsFor}
 use Rattle.mem_cell_exprs.specs.declared.known.Known.{Known}
 use Rattle.mem_cell_domain.specs.Lives.{IsTypedIn}
+use Rattle.mem_cell_domain.specs.Starts.{AreBytesOf}
 use Rattle.mem_cell_domain.proofs.Items.{map-get, replicated, there-at}
 
 pub typed-state : {D : Type 0} (admits : D → List ℤ → Type 0) (objects : List ObjectTree) (k : Known D) (s : State) (q : CsProgramTree) → objects ≡ q.objects → k.types ≡ q.temps
@@ -43,10 +44,10 @@ first-number scalars.Pointer = refl
 value-none : (i : ℕ) → value_at [] i ≡ pos 0
 value-none i = refl
 
--- the first state, of which nothing is known
-pub first-stands : (q : CsProgramTree) (inputs : List ℤ) (A : List ℤ → Type 0) (n m : ℕ) → IsTypedState q (first q inputs) → A []
-    → Stands q.objects q.temps A (claims (replicate n None) (replicate m nothing)) (first q inputs)
-first-stands q inputs A n m typed a = record {
+-- the first state, of which these bytes are known
+pub first-stands : (q : CsProgramTree) (inputs : List ℤ) (A : List ℤ → Type 0) (n : ℕ) (grid : List Contents) → IsTypedState q (first q inputs) → A []
+    → AreBytesOf grid (first q inputs).memory → Stands q.objects q.temps A (claims (replicate n None) grid) (first q inputs)
+first-stands q inputs A n grid typed a known = record {
   kept = typed.memory;
   long = typed.count;
   typed = λ d ty u is at. let t = some_with (IsTypedValue (length (first q inputs).memory.blocks) ty) (slice_get (first q inputs).temps d) u (typed.temps d ty is) at in (t.typed, t.of_made);
@@ -54,8 +55,8 @@ first-stands q inputs A n m typed a = record {
   admitted = a;
   number = λ d u at. let t = map-get first_value q.temps d u at in value-none (temp_var d) ∙ sym (ap number_of t.2 ∙ first-number t.0);
   points = λ d set u has at. let clash : Some set ≡ None = replicated n d None (Some set) has in cc;
-  cell = λ o e b (c, got, has, low) at. has-none c.cells e (ap (λ (y : Contents). y.cells) (replicated m o nothing c got)) has;
-  byte = λ o i x b (c, got, is) at. has-none c.stretches is.stretch (ap (λ (y : Contents). y.stretches) (replicated m o nothing c got)) is.has;
+  cell = λ o e b (c, got, has, low) at. has-none c.cells e (known.cells o c got) has;
+  byte = λ o i x b (c, got, is) at. known.bytes o i x c b got is at;
 }
 
 -- ---- what statements give

@@ -20,6 +20,7 @@
 mod bits;
 mod changes;
 mod declared;
+mod initial;
 mod joins;
 mod lives;
 mod start;

@@ -9,6 +9,7 @@ ghost use Rattle.mem_cell_domain.specs.Heavy.{known_weight};
 use crate::bits::initials_have_eight_bits;
 use crate::changes::{input, set, type_at};
 use crate::declared::Declared;
+use crate::initial::put_initials;
 use crate::joins::{copy, covers, join, widen};
 use crate::lives::{enter, leave, size_at};
 use crate::start::first_known;
@@ -19,6 +20,7 @@ use csharp_typed_laws::{first_states_are_typed, values_are_typed};
 use ext_int::Live;
 use mem_api::MemDomain;
 use mem_cell_exprs::Known;
+use mem_cell_grid::Grid;
 use mem_cell_loads::load;
 use mem_cell_shows::{assume, pass, show};
 use mem_cell_stores::{copy_bytes, store, undefine};
@@ -50,9 +52,10 @@ impl<D: NumDomain> MemDomain for CellStates<D> {
         let initials = program.initial.as_slice();
         initials_have_eight_bits(initials);
         let objects = Declared::of(alloc, &program.objects)?;
-        let count = objects.as_slice().len();
+        let mut grid = Grid::nothing(alloc, objects.as_slice().len())?;
+        put_initials(alloc, &mut grid, initials)?;
         let temps = program.temps.as_slice();
-        let known = first_known(alloc, temps, count)?;
+        let known = first_known(alloc, temps, grid)?;
         Ok(CellStates { objects, known })
     }
 

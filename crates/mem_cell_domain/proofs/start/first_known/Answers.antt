@@ -1,4 +1,4 @@
-use Rattle.std.proofs.Common.{[], None, length, replicate, subst, sym, ◌∙◌}
+use Rattle.std.proofs.Common.{[], length, subst, sym, ◌∙◌}
 use Rattle.machine_nums.specs.Machines.{Admits}
 use Rattle.csharp.specs.States.{first}
 use Rattle.mem_cell_bytes.specs.Stands.{Stands, claims}
@@ -9,12 +9,11 @@ pub returns : goal.returns
 returns g c =
     let A = Admits g.D.Oracle.admits c.top.result in
     let n = length c.args.types.now in
-    let grid = c.in_ok-nothing.field-0 in
+    let grid = c.args.grid in
     record {
       types = c.in_ok-of.ensures;
-      stands = λ q inputs same typed.
+      stands = λ q inputs same typed known.
           subst (λ ts. Stands q.objects ts A (claims c.in_ok-unknown.field-0 grid) (first q inputs)) (sym (c.in_ok-of.ensures ∙ same))
           (subst (λ p. Stands q.objects q.temps A (claims p grid) (first q inputs)) (sym c.in_ok-unknown.ensures)
-          (subst (λ h. Stands q.objects q.temps A (claims (replicate n None) h) (first q inputs)) (sym c.in_ok-nothing.ensures)
-          (first-stands q inputs A n c.args.count typed (c.top.ensures []))));
+          (first-stands q inputs A n grid typed (c.top.ensures []) known));
     }
