@@ -54,7 +54,8 @@ class Completion(unittest.TestCase):
         self.assertEqual(self.completed("_verac", "verac", "analyze", "a"), ["a b.i", "a folder", "a.c"])
         self.assertEqual(self.completed("_verac", "verac", "analyze", "a.c", ""), [])
         self.assertEqual(self.completed("_verac", "verac", "analyze", "--st"), ["--state"])
-        self.assertEqual(self.completed("_verac", "verac", "analyze", "a.c", "--"), ["--narrow", "--state", "--unroll"])
+        self.assertEqual(self.completed("_verac", "verac", "analyze", "a.c", "--"), ["--narrow", "--ramp", "--state", "--unroll"])
+        self.assertEqual(self.completed("_verac", "verac", "analyze", "--ramp", ""), ["constants", "powers"])
         self.assertEqual(self.completed("_verac", "verac", "analyze", "--unroll", ""), [])
         self.assertIn("a.c", self.completed("_verac", "verac", "analyze", "--unroll", "3", ""))
 

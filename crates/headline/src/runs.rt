@@ -117,7 +117,7 @@ fn reported(
     ensures exact { IfOk result (λ r. (bytes : List ℕ) → IsOneProgram bytes (tprogram_tree program.now) → IsExactAnswer (asked_for asked.entry) bytes r.0 r.1.items) }
     ensures done { IfOk result (λ r. IsWhole r.0) }
 {
-    let alarms = alarms_of(alloc, program, plan, asked.unroll, asked.narrow)?;
+    let alarms = alarms_of(alloc, program, plan, asked.unroll, asked.narrow, asked.ramp)?;
     let text = alarms_text(
         alloc,
         asked.file,

@@ -7,7 +7,7 @@ use Rattle.std.proofs.lemmas.Str.{chars-append, chars_from_encodes, IsUtf8-from_
 use lib.Utf8.{encode, encodes}
 use Rattle.clap.specs.Walk.{Row, Held, Walk, Waiting, idle, option, value, is_pending, Text, walked, arg_by_long}
 use Rattle.clap.specs.Faults.{settle_fault, walk_fault, turn_fault, word_fault, step_fault, long_fault, bundle_fault, flags_fault}
-use Rattle.headline_words.specs.Command.{Key, unroll, narrow, key, flag, unknown, named}
+use Rattle.headline_words.specs.Command.{Key, unroll, narrow, ramp, key, flag, unknown, named}
 use Rattle.headline_words.proofs.WordLemmas.{shape, its, rule, key_rule, IsLong, IsShort, IsPlain, Looks, ends, long, short, other, looks, Names, an_option, the_flag, a_value, none, names, two}
 use Rattle.headline_words.proofs.StepLemmas.{Fails, kinds_from, or_fails, stops, goes_on}
 
@@ -63,9 +63,11 @@ module _ (rows : List Row) (p : Option (Text × List Text)) (place : ℕ) (word 
   long_settles unroll None f = f
   long_settles unroll (Some v) f = or_fails (settle_fault its false h) _ f
   long_settles narrow None f = f
+  long_settles ramp None f = f
   long_settles narrow (Some v) f = or_fails (settle_fault its false h) _ f
+  long_settles ramp (Some v) f = or_fails (settle_fault its false h) _ f
 
-  flag_settles : Fails (settle_fault its false h) → Fails (long_fault its false (Some (rule 2)) None h)
+  flag_settles : Fails (settle_fault its false h) → Fails (long_fault its false (Some (rule 3)) None h)
   flag_settles f = or_fails (settle_fault its false h) _ f
 
   named_fails : (name : Text) (v : Option Text) → Fails (settle_fault its false h) → Names name v → Fails (long_fault its false (arg_by_long its name) v h)
@@ -123,7 +125,7 @@ module _ (rows : List Row) (p : Option (Text × List Text)) where
 
   -- where a word is no option, it is a file
   pub file_settles : step_fault shape 1 its_held value ≡ settle_fault its false its_held
-  file_settles = rw (and_false (is_pending (rule 3) p)) refl
+  file_settles = rw (and_false (is_pending (rule 4) p)) refl
 
   pub second_fails : Fails (step_fault shape 2 its_held value)
   second_fails e = absurd (cc)

@@ -14,7 +14,7 @@ use Rattle.clap.specs.declared.parser.matches.ArgMatches.{ArgMatches}
 use Rattle.clap.specs.declared.parser.matches.ValueSource.TheVariants.{DefaultValue}
 use Rattle.clap.proofs.WalkLemmas.{first_value-rows, one_text-rows}
 use Rattle.clap.proofs.FaultLemmas.{leaf_fault}
-use Rattle.headline_words.specs.Command.{unroll, narrow, Part, value, state, file, are_apart, file_of, has_state, parts_of, value_of}
+use Rattle.headline_words.specs.Command.{unroll, narrow, ramp, Part, value, state, file, are_apart, file_of, has_state, parts_of, value_of}
 use Rattle.headline_words.specs.Parser.{Finds, Reads, ReadsNone, analyze_app}
 use Rattle.headline_words.proofs.RowLemmas.{row_of, flag_reading, not_there}
 use Rattle.headline_words.proofs.StepLemmas.{closed, ending, idle_at, kinds_from, rows_from}
@@ -28,6 +28,7 @@ file_found : (ps : List Part) → first_of (codes "file") (map row_of ps) ≡ fi
 file_found [] = refl
 file_found (value unroll v ∷ ps) = file_found ps
 file_found (value narrow v ∷ ps) = file_found ps
+file_found (value ramp v ∷ ps) = file_found ps
 file_found (state ∷ ps) = file_found ps
 file_found (file w ∷ ps) = refl
 
@@ -35,6 +36,7 @@ unroll_found : (ps : List Part) → first_of (codes "unroll") (map row_of ps) �
 unroll_found [] = refl
 unroll_found (value unroll v ∷ ps) = refl
 unroll_found (value narrow v ∷ ps) = unroll_found ps
+unroll_found (value ramp v ∷ ps) = unroll_found ps
 unroll_found (state ∷ ps) = unroll_found ps
 unroll_found (file w ∷ ps) = unroll_found ps
 
@@ -42,8 +44,17 @@ narrow_found : (ps : List Part) → first_of (codes "narrow") (map row_of ps) �
 narrow_found [] = refl
 narrow_found (value unroll v ∷ ps) = narrow_found ps
 narrow_found (value narrow v ∷ ps) = refl
+narrow_found (value ramp v ∷ ps) = narrow_found ps
 narrow_found (state ∷ ps) = narrow_found ps
 narrow_found (file w ∷ ps) = narrow_found ps
+
+ramp_found : (ps : List Part) → first_of (codes "ramp") (map row_of ps) ≡ value_of ramp ps
+ramp_found [] = refl
+ramp_found (value unroll v ∷ ps) = ramp_found ps
+ramp_found (value narrow v ∷ ps) = ramp_found ps
+ramp_found (value ramp v ∷ ps) = refl
+ramp_found (state ∷ ps) = ramp_found ps
+ramp_found (file w ∷ ps) = ramp_found ps
 
 -- the row of `--state` where it is not among the parts
 abbrev false_row : Row
@@ -62,6 +73,7 @@ state_there : (ps : List Part) → has_state ps ≡ true → one_of (codes "stat
 state_there [] h = absurd (cc)
 state_there (value unroll v ∷ ps) h = state_there ps h
 state_there (value narrow v ∷ ps) h = state_there ps h
+state_there (value ramp v ∷ ps) h = state_there ps h
 state_there (state ∷ ps) h = refl
 state_there (file w ∷ ps) h = state_there ps h
 
@@ -69,6 +81,7 @@ state_last : (ps : List Part) → has_state ps ≡ false → one_of (codes "stat
 state_last [] h = refl
 state_last (value unroll v ∷ ps) h = state_last ps h
 state_last (value narrow v ∷ ps) h = state_last ps h
+state_last (value ramp v ∷ ps) h = state_last ps h
 state_last (state ∷ ps) h = absurd (cc)
 state_last (file w ∷ ps) h = state_last ps h
 
@@ -76,6 +89,7 @@ has_state_row : (ps : List Part) → has_row (codes "state") (map row_of ps) ≡
 has_state_row [] = refl
 has_state_row (value unroll v ∷ ps) = has_state_row ps
 has_state_row (value narrow v ∷ ps) = has_state_row ps
+has_state_row (value ramp v ∷ ps) = has_state_row ps
 has_state_row (state ∷ ps) = refl
 has_state_row (file w ∷ ps) = has_state_row ps
 
@@ -92,6 +106,7 @@ finds_at ps m e true h =
       file = first_value-rows (found_of m) (codes "file") ∙ (ap (first_of (codes "file")) rows ∙ file_found ps);
       unroll = first_value-rows (found_of m) (codes "unroll") ∙ (ap (first_of (codes "unroll")) rows ∙ unroll_found ps);
       narrow = first_value-rows (found_of m) (codes "narrow") ∙ (ap (first_of (codes "narrow")) rows ∙ narrow_found ps);
+      ramp = first_value-rows (found_of m) (codes "ramp") ∙ (ap (first_of (codes "ramp")) rows ∙ ramp_found ps);
       state = one_text-rows (found_of m) (codes "state") ∙ (ap (one_of (codes "state")) rows ∙ (state_there ps h ∙ rw h refl));
     }
 finds_at ps m e false h =
@@ -100,6 +115,7 @@ finds_at ps m e false h =
       file = first_value-rows (found_of m) (codes "file") ∙ (ap (first_of (codes "file")) rows ∙ (last_other (codes "file") refl (map row_of ps) ∙ file_found ps));
       unroll = first_value-rows (found_of m) (codes "unroll") ∙ (ap (first_of (codes "unroll")) rows ∙ (last_other (codes "unroll") refl (map row_of ps) ∙ unroll_found ps));
       narrow = first_value-rows (found_of m) (codes "narrow") ∙ (ap (first_of (codes "narrow")) rows ∙ (last_other (codes "narrow") refl (map row_of ps) ∙ narrow_found ps));
+      ramp = first_value-rows (found_of m) (codes "ramp") ∙ (ap (first_of (codes "ramp")) rows ∙ (last_other (codes "ramp") refl (map row_of ps) ∙ ramp_found ps));
       state = one_text-rows (found_of m) (codes "state") ∙ (ap (one_of (codes "state")) rows ∙ (state_last ps h ∙ rw h refl));
     }
 

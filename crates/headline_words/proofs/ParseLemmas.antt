@@ -132,7 +132,7 @@ module _ (w : Text) (ws : List Text) (u : IsUtf8 w) (idles : IdleFits ws) (waits
       (fits_next (parts_of None ws) (all ++ value k x ∷ []) start (idle_at (all ++ value k x ∷ []) closed place false) w ws (key_turn done own new place k x w name i a h)
       (behind_part (value k x) (λ v. refl)))
 
-  state_part : (name : Text) → IsLong w name None → arg_by_long its name ≡ Some (rule 2) → (d : Bool) → stands state all ≡ d → Comes (with_part state (parts_of None ws))
+  state_part : (name : Text) → IsLong w name None → arg_by_long its name ≡ Some (rule 3) → (d : Bool) → stands state all ≡ d → Comes (with_part state (parts_of None ws))
   state_part name i a true h = fits_again _ _ state all (parts_of None ws) h (stops start w ws (flag_stops done own new place w name i a h))
   state_part name i a false h =
       fits_with _ _ state all (parts_of None ws) h

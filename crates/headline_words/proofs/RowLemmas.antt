@@ -10,7 +10,7 @@ use Rattle.clap.specs.declared.builder.value_parser.Reading.{Reading}
 use Rattle.clap.specs.declared.builder.value_parser.ValueParser.TheVariants as vp
 use Rattle.clap.specs.declared.parser.matches.ValueSource.{ValueSource}
 use Rattle.clap.specs.declared.parser.matches.ValueSource.TheVariants.{CommandLine}
-use Rattle.headline_words.specs.Command.{Key, unroll, narrow, Part, value, state, file, is_like}
+use Rattle.headline_words.specs.Command.{Key, unroll, narrow, ramp, Part, value, state, file, is_like}
 use Rattle.headline_words.proofs.WordLemmas.{name_of}
 
 abbrev pub plain_reading : Reading
@@ -61,18 +61,27 @@ new_row id how s vs rows h =
 like_id : (d p : Part) → bytes_eq (row_of d).id (id_of p) ≡ is_like d p
 like_id (value unroll v) (value unroll w) = refl
 like_id (value unroll v) (value narrow w) = refl
+like_id (value unroll v) (value ramp w) = refl
 like_id (value narrow v) (value unroll w) = refl
 like_id (value narrow v) (value narrow w) = refl
+like_id (value narrow v) (value ramp w) = refl
+like_id (value ramp v) (value unroll w) = refl
+like_id (value ramp v) (value narrow w) = refl
+like_id (value ramp v) (value ramp w) = refl
 like_id (value unroll v) state = refl
 like_id (value narrow v) state = refl
+like_id (value ramp v) state = refl
 like_id (value unroll v) (file w) = refl
 like_id (value narrow v) (file w) = refl
+like_id (value ramp v) (file w) = refl
 like_id state (value unroll w) = refl
 like_id state (value narrow w) = refl
+like_id state (value ramp w) = refl
 like_id state state = refl
 like_id state (file w) = refl
 like_id (file v) (value unroll w) = refl
 like_id (file v) (value narrow w) = refl
+like_id (file v) (value ramp w) = refl
 like_id (file v) state = refl
 like_id (file v) (file w) = refl
 

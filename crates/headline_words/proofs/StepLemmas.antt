@@ -6,7 +6,7 @@ use Rattle.clap.specs.Walk.{Row, Held, Walk, idle, option, has_row, Text, settle
 use Rattle.clap.specs.Faults.{settle_fault, walk_fault, turn_fault, defaults_fault, default_fault, check_fault}
 use Rattle.clap.specs.Kinds.{Kinds, or_else}
 use Rattle.clap.specs.declared.parser.matches.ValueSource.TheVariants.{DefaultValue}
-use Rattle.headline_words.specs.Command.{Key, unroll, narrow, Part, value, file}
+use Rattle.headline_words.specs.Command.{Key, unroll, narrow, ramp, Part, value, file}
 use Rattle.headline_words.proofs.WordLemmas.{shape, its, name_of, rule}
 use Rattle.headline_words.proofs.RowLemmas.{row_of, stands, has_row_is, used_value, used_file, flag_reading}
 
@@ -56,23 +56,27 @@ pub settle_new : (done : List Part) (own : Open) → again own done ≡ false �
 settle_new done closed h = refl
 settle_new done (of_key unroll v) h = rw (has_row_is (value unroll v) done, h) refl
 settle_new done (of_key narrow v) h = rw (has_row_is (value narrow v) done, h) refl
+settle_new done (of_key ramp v) h = rw (has_row_is (value ramp v) done, h) refl
 settle_new done (of_file w) h = rw (has_row_is (file w) done, h) refl
 
 pub settle_again : (done : List Part) (own : Open) → again own done ≡ true → Fails (settle_fault its false (held done (pending own)))
 settle_again done closed h = absurd (cc)
 settle_again done (of_key unroll v) h = rw (has_row_is (value unroll v) done, h) (λ e. absurd (cc))
 settle_again done (of_key narrow v) h = rw (has_row_is (value narrow v) done, h) (λ e. absurd (cc))
+settle_again done (of_key ramp v) h = rw (has_row_is (value ramp v) done, h) (λ e. absurd (cc))
 settle_again done (of_file w) h = rw (has_row_is (file w) done, h) (λ e. absurd (cc))
 
 pub settled_new : (done : List Part) (own : Open) → again own done ≡ false → settled its (held done (pending own)) ≡ held (done ++ opened own) None
 settled_new done closed h = ap (λ xs. held xs None) (sym (append_none done))
 settled_new done (of_key unroll v) h = ap (λ (rs : List Row). record { rows = rs; pending = None; skip = 0 }) (used_value done unroll v h)
 settled_new done (of_key narrow v) h = ap (λ (rs : List Row). record { rows = rs; pending = None; skip = 0 }) (used_value done narrow v h)
+settled_new done (of_key ramp v) h = ap (λ (rs : List Row). record { rows = rs; pending = None; skip = 0 }) (used_value done ramp v h)
 settled_new done (of_file w) h = ap (λ (rs : List Row). record { rows = rs; pending = None; skip = 0 }) (used_file done w h)
 
 pub waits_fails : (done : List Part) (k : Key) → Fails (settle_fault its false (held done (Some (name_of k, []))))
 waits_fails done unroll e = absurd (cc)
 waits_fails done narrow e = absurd (cc)
+waits_fails done ramp e = absurd (cc)
 
 -- ---- the end
 
@@ -138,6 +142,9 @@ fault_unroll rows = no_default (has_row (codes "unroll") rows) _
 fault_narrow : (rows : List Row) → default_fault rows (rule 1) ≡ []
 fault_narrow rows = no_default (has_row (codes "narrow") rows) _
 
+fault_ramp : (rows : List Row) → default_fault rows (rule 2) ≡ []
+fault_ramp rows = no_default (has_row (codes "ramp") rows) _
+
 abbrev none : Kinds
 none = []
 
@@ -145,24 +152,28 @@ either_none : (b : Bool) → (if b || false then [] else []) ≡ none
 either_none true = refl
 either_none false = refl
 
-fault_state : (rows : List Row) → default_fault rows (rule 2) ≡ []
+fault_state : (rows : List Row) → default_fault rows (rule 3) ≡ []
 fault_state rows = either_none (has_row (codes "state") rows)
 
-fault_file : (rows : List Row) → default_fault rows (rule 3) ≡ []
+fault_file : (rows : List Row) → default_fault rows (rule 4) ≡ []
 fault_file rows = no_default (has_row (codes "file") rows) _
 
 defaults_none : (rows : List Row) → defaults_fault rows its ≡ []
 unfolding defaults_fault
-defaults_none rows = or_none _ _ (fault_unroll rows) (or_none _ _ (fault_narrow (with_default rows (rule 0)))
-    (or_none _ _ (fault_state (with_default (with_default rows (rule 0)) (rule 1)))
-    (or_none _ _ (fault_file (with_default (with_default (with_default rows (rule 0)) (rule 1)) (rule 2))) refl)))
+defaults_none rows =
+    let one = with_default rows (rule 0) in
+    let two = with_default one (rule 1) in
+    let three = with_default two (rule 2) in
+    or_none _ _ (fault_unroll rows) (or_none _ _ (fault_narrow one) (or_none _ _ (fault_ramp two) (or_none _ _ (fault_state three)
+    (or_none _ _ (fault_file (with_default three (rule 3))) refl))))
 
 finished_is : (all : List Part) → finished its (held all None) ≡ ending all
 finished_is all =
     let rows = map row_of all in
-    ap (λ (x : List Row). with_default (with_default (with_default x (rule 1)) (rule 2)) (rule 3)) (same_either (has_row (codes "unroll") rows) rows)
-    ∙ (ap (λ (x : List Row). with_default (with_default x (rule 2)) (rule 3)) (same_either (has_row (codes "narrow") rows) rows)
-    ∙ same_either (has_row (codes "file") (with_default rows (rule 2))) (with_default rows (rule 2)))
+    ap (λ (x : List Row). with_default (with_default (with_default (with_default x (rule 1)) (rule 2)) (rule 3)) (rule 4)) (same_either (has_row (codes "unroll") rows) rows)
+    ∙ (ap (λ (x : List Row). with_default (with_default (with_default x (rule 2)) (rule 3)) (rule 4)) (same_either (has_row (codes "narrow") rows) rows)
+    ∙ (ap (λ (x : List Row). with_default (with_default x (rule 3)) (rule 4)) (same_either (has_row (codes "ramp") rows) rows)
+    ∙ same_either (has_row (codes "file") (with_default rows (rule 3))) (with_default rows (rule 3))))
 
 end_new : (done : List Part) (own : Open) → again own done ≡ false → end_kinds (held done (pending own)) ≡ []
 end_new done own h =

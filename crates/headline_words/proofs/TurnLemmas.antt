@@ -4,7 +4,7 @@ use Rattle.std.proofs.Common.{Option, Some, None, codes}
 use Rattle.clap.specs.Walk.{Row, Rule, Held, Walk, idle, option, value, next, Text, walked, arg_by_long, settled, reacted, used, word_met, long_word, positional_held, pushed, is_pending}
 use Rattle.clap.specs.Faults.{settle_fault, turn_fault, word_fault, step_fault, long_fault, use_fault}
 use Rattle.clap.specs.Kinds.{or_else}
-use Rattle.headline_words.specs.Command.{Key, unroll, narrow, Part, state, file}
+use Rattle.headline_words.specs.Command.{Key, unroll, narrow, ramp, Part, state, file}
 use Rattle.headline_words.specs.Command as command
 use Rattle.headline_words.proofs.WordLemmas.{shape, its, rule, key_rule, name_of, IsLong, IsPlain}
 use Rattle.headline_words.proofs.RowLemmas.{row_of, stands, has_row_is, used_value, used_state}
@@ -25,26 +25,32 @@ module _ (done : List Part) (own : Open) (new : again own done ≡ false) where
   use_key : (k : Key) (x : Text) → stands (command.value k x) all ≡ false → use_fault false (key_rule k) (x ∷ []) (settled its h).rows ≡ []
   use_key unroll x f = rw (settled_rows, has_row_is (command.value unroll x) all, f) refl
   use_key narrow x f = rw (settled_rows, has_row_is (command.value narrow x) all, f) refl
+  use_key ramp x f = rw (settled_rows, has_row_is (command.value ramp x) all, f) refl
 
   use_key_again : (k : Key) (x : Text) → stands (command.value k x) all ≡ true → Fails (use_fault false (key_rule k) (x ∷ []) (settled its h).rows)
   use_key_again unroll x f = rw (settled_rows, has_row_is (command.value unroll x) all, f) (λ e. absurd (cc))
   use_key_again narrow x f = rw (settled_rows, has_row_is (command.value narrow x) all, f) (λ e. absurd (cc))
+  use_key_again ramp x f = rw (settled_rows, has_row_is (command.value ramp x) all, f) (λ e. absurd (cc))
 
   reacts_key : (k : Key) (x : Text) → stands (command.value k x) all ≡ false → reacted its (key_rule k) (x ∷ []) h ≡ held (all ++ command.value k x ∷ []) None
   reacts_key unroll x f = ap (λ (rs : List Row). record { rows = rs; pending = None; skip = 0 }) (ap (used (key_rule unroll) (x ∷ [])) settled_rows ∙ used_value all unroll x f)
   reacts_key narrow x f = ap (λ (rs : List Row). record { rows = rs; pending = None; skip = 0 }) (ap (used (key_rule narrow) (x ∷ [])) settled_rows ∙ used_value all narrow x f)
+  reacts_key ramp x f = ap (λ (rs : List Row). record { rows = rs; pending = None; skip = 0 }) (ap (used (key_rule ramp) (x ∷ [])) settled_rows ∙ used_value all ramp x f)
 
   fault_key : (k : Key) (x : Text) → stands (command.value k x) all ≡ false → long_fault its false (Some (key_rule k)) (Some x) h ≡ []
   fault_key unroll x f = ap₂ or_else (settle_new done own new) (use_key unroll x f)
   fault_key narrow x f = ap₂ or_else (settle_new done own new) (use_key narrow x f)
+  fault_key ramp x f = ap₂ or_else (settle_new done own new) (use_key ramp x f)
 
   fails_key : (k : Key) (x : Text) → stands (command.value k x) all ≡ true → Fails (long_fault its false (Some (key_rule k)) (Some x) h)
   fails_key unroll x f = or_fails_second (settle_fault its false h) _ (use_key_again unroll x f)
   fails_key narrow x f = or_fails_second (settle_fault its false h) _ (use_key_again narrow x f)
+  fails_key ramp x f = or_fails_second (settle_fault its false h) _ (use_key_again ramp x f)
 
   met_key : (k : Key) (x w name : Text) → arg_by_long its name ≡ Some (key_rule k) → long_word its idle w name (Some x) h ≡ (reacted its (key_rule k) (x ∷ []) h, next idle)
   met_key unroll x w name e = rw e refl
   met_key narrow x w name e = rw e refl
+  met_key ramp x w name e = rw e refl
 
   abbrev start : ℕ → Walk
   start place = idle_at done own place false
@@ -75,10 +81,12 @@ module _ (done : List Part) (own : Open) (new : again own done ≡ false) where
       → long_word its idle w name None h ≡ (record (settled its h) { pending = Some (name_of k, []) }, next (option (name_of k)))
   met_wait unroll w name e = rw e refl
   met_wait narrow w name e = rw e refl
+  met_wait ramp w name e = rw e refl
 
   fault_wait : (k : Key) → long_fault its false (Some (key_rule k)) None h ≡ settle_fault its false h
   fault_wait unroll = refl
   fault_wait narrow = refl
+  fault_wait ramp = refl
 
   pub wait_turn : (place : ℕ) (k : Key) (w name : Text) → IsLong w name None → arg_by_long its name ≡ Some (key_rule k)
       → (turn_fault shape [] (start place) w ≡ []) × (walked its [] (start place) w ≡ waits_at all k place false)
@@ -92,19 +100,19 @@ module _ (done : List Part) (own : Open) (new : again own done ≡ false) where
       (rw (kinds, met) refl, rw met refl)
 
   -- `--state`
-  use_flag : stands state all ≡ false → use_fault false (rule 2) [] (settled its h).rows ≡ []
+  use_flag : stands state all ≡ false → use_fault false (rule 3) [] (settled its h).rows ≡ []
   use_flag f = rw (settled_rows, has_row_is state all, f) refl
 
-  use_flag_again : stands state all ≡ true → Fails (use_fault false (rule 2) [] (settled its h).rows)
+  use_flag_again : stands state all ≡ true → Fails (use_fault false (rule 3) [] (settled its h).rows)
   use_flag_again f = rw (settled_rows, has_row_is state all, f) (λ e. absurd (cc))
 
-  reacts_flag : stands state all ≡ false → reacted its (rule 2) [] h ≡ held (all ++ state ∷ []) None
-  reacts_flag f = ap (λ (rs : List Row). record { rows = rs; pending = None; skip = 0 }) (ap (used (rule 2) []) settled_rows ∙ used_state all f)
+  reacts_flag : stands state all ≡ false → reacted its (rule 3) [] h ≡ held (all ++ state ∷ []) None
+  reacts_flag f = ap (λ (rs : List Row). record { rows = rs; pending = None; skip = 0 }) (ap (used (rule 3) []) settled_rows ∙ used_state all f)
 
-  met_flag : (w name : Text) → arg_by_long its name ≡ Some (rule 2) → long_word its idle w name None h ≡ (reacted its (rule 2) [] h, next idle)
+  met_flag : (w name : Text) → arg_by_long its name ≡ Some (rule 3) → long_word its idle w name None h ≡ (reacted its (rule 3) [] h, next idle)
   met_flag w name e = rw e refl
 
-  pub flag_turn : (place : ℕ) (w name : Text) → IsLong w name None → arg_by_long its name ≡ Some (rule 2) → stands state all ≡ false
+  pub flag_turn : (place : ℕ) (w name : Text) → IsLong w name None → arg_by_long its name ≡ Some (rule 3) → stands state all ≡ false
       → (turn_fault shape [] (start place) w ≡ []) × (walked its [] (start place) w ≡ idle_at (all ++ state ∷ []) closed place false)
   unfolding walked
   flag_turn place w name i e f =
@@ -114,7 +122,7 @@ module _ (done : List Part) (own : Open) (new : again own done ≡ false) where
       kinds_are w name None i ∙ (ap (λ (r : Option Rule). long_fault its false r None h) e ∙ ap₂ or_else (settle_new done own new) (use_flag f)) in
       (rw (kinds, met) refl, rw met refl)
 
-  pub flag_stops : (place : ℕ) (w name : Text) → IsLong w name None → arg_by_long its name ≡ Some (rule 2) → stands state all ≡ true
+  pub flag_stops : (place : ℕ) (w name : Text) → IsLong w name None → arg_by_long its name ≡ Some (rule 3) → stands state all ≡ true
       → Fails (turn_fault shape [] (start place) w)
   flag_stops place w name i e f =
       or_fails (word_fault shape [] false idle w h) _ (rw (kinds_are w name None i ∙ ap (λ (r : Option Rule). long_fault its false r None h) e)
@@ -124,8 +132,8 @@ module _ (done : List Part) (own : Open) (new : again own done ≡ false) where
   fault_file : step_fault shape 1 h value ≡ []
   fault_file = file_settles (map row_of done) (pending own) ∙ settle_new done own new
 
-  held_file : (w : Text) → positional_held its (rule 3) w h ≡ held all (Some (codes "file", w ∷ []))
-  held_file w = rw (and_false (is_pending (rule 3) (pending own))) (ap (λ (x : Held). pushed (codes "file") w x) (settled_new done own new))
+  held_file : (w : Text) → positional_held its (rule 4) w h ≡ held all (Some (codes "file", w ∷ []))
+  held_file w = rw (and_false (is_pending (rule 4) (pending own))) (ap (λ (x : Held). pushed (codes "file") w x) (settled_new done own new))
 
   abbrev file_at : Bool → Held → Walk
   file_at trailing x = record { held = x; waiting = idle; position = 2; is_trailing = trailing; stopped = None }
@@ -151,3 +159,4 @@ module _ (done : List Part) (k : Key) where
           × (walked its [] (waits_at done j place false) w ≡ idle_at done (of_key j w) place false)
       by_key unroll = (rw (i.dashes, i.long, i.short) refl, rw (i.dashes, i.long, i.short) refl)
       by_key narrow = (rw (i.dashes, i.long, i.short) refl, rw (i.dashes, i.long, i.short) refl)
+      by_key ramp = (rw (i.dashes, i.long, i.short) refl, rw (i.dashes, i.long, i.short) refl)

@@ -7,7 +7,7 @@ use Rattle.clap.specs.Lexer.{long_of, short_of, name_and_value}
 use Rattle.clap.specs.Walk.{Rule, Text, arg_by_long}
 use Rattle.clap.specs.Simple.{Shape, built}
 use Rattle.headline_words.specs.Parser.{analyze_app, file_rule}
-use Rattle.headline_words.specs.Command.{Key, unroll, narrow, dashes, flag, key, unknown, plain, named, word_of}
+use Rattle.headline_words.specs.Command.{Key, unroll, narrow, ramp, dashes, flag, key, unknown, plain, named, word_of}
 
 abbrev pub shape : Shape
 shape = (built analyze_app).top
@@ -18,6 +18,7 @@ its = (built analyze_app).top.rules
 abbrev pub name_of : Key → Text
 name_of unroll = codes "unroll"
 name_of narrow = codes "narrow"
+name_of ramp = codes "ramp"
 
 -- ---- what a word looks like
 
@@ -80,24 +81,27 @@ rule k = slice_index_or its k file_rule
 abbrev pub key_rule : Key → Rule
 key_rule unroll = rule 0
 key_rule narrow = rule 1
+key_rule ramp = rule 2
 
 pub data Names (name : Text) (v : Option Text) : Type 0 where
   an_option : (k : Key) → named name v ≡ key k v → arg_by_long its name ≡ Some (key_rule k) → Names name v
-  the_flag : v ≡ None → named name v ≡ flag → arg_by_long its name ≡ Some (rule 2) → Names name v
-  a_value : (w : Text) → v ≡ Some w → named name v ≡ unknown → arg_by_long its name ≡ Some (rule 2) → Names name v
+  the_flag : v ≡ None → named name v ≡ flag → arg_by_long its name ≡ Some (rule 3) → Names name v
+  a_value : (w : Text) → v ≡ Some w → named name v ≡ unknown → arg_by_long its name ≡ Some (rule 3) → Names name v
   none : named name v ≡ unknown → arg_by_long its name ≡ None → Names name v
 
 names_state : (name : Text) (v : Option Text) → bytes_eq (codes "unroll") name ≡ false → bytes_eq (codes "narrow") name ≡ false
-    → bytes_eq (codes "state") name ≡ true → Names name v
-names_state name None u n s = the_flag refl (rw (u, n, s) refl) (rw (u, n, s) refl)
-names_state name (Some w) u n s = a_value w refl (rw (u, n, s) refl) (rw (u, n, s) refl)
+    → bytes_eq (codes "ramp") name ≡ false → bytes_eq (codes "state") name ≡ true → Names name v
+names_state name None u n r s = the_flag refl (rw (u, n, r, s) refl) (rw (u, n, r, s) refl)
+names_state name (Some w) u n r s = a_value w refl (rw (u, n, r, s) refl) (rw (u, n, r, s) refl)
 
-names_at : (name : Text) (v : Option Text) (u n s : Bool) → bytes_eq (codes "unroll") name ≡ u → bytes_eq (codes "narrow") name ≡ n
-    → bytes_eq (codes "state") name ≡ s → Names name v
-names_at name v true n s hu hn hs = an_option unroll (rw hu refl) (rw hu refl)
-names_at name v false true s hu hn hs = an_option narrow (rw (hu, hn) refl) (rw (hu, hn) refl)
-names_at name v false false true hu hn hs = names_state name v hu hn hs
-names_at name v false false false hu hn hs = none (rw (hu, hn, hs) refl) (rw (hu, hn, hs) refl)
+names_at : (name : Text) (v : Option Text) (u n r s : Bool) → bytes_eq (codes "unroll") name ≡ u → bytes_eq (codes "narrow") name ≡ n
+    → bytes_eq (codes "ramp") name ≡ r → bytes_eq (codes "state") name ≡ s → Names name v
+names_at name v true n r s hu hn hr hs = an_option unroll (rw hu refl) (rw hu refl)
+names_at name v false true r s hu hn hr hs = an_option narrow (rw (hu, hn) refl) (rw (hu, hn) refl)
+names_at name v false false true s hu hn hr hs = an_option ramp (rw (hu, hn, hr) refl) (rw (hu, hn, hr) refl)
+names_at name v false false false true hu hn hr hs = names_state name v hu hn hr hs
+names_at name v false false false false hu hn hr hs = none (rw (hu, hn, hr, hs) refl) (rw (hu, hn, hr, hs) refl)
 
 pub names : (name : Text) (v : Option Text) → Names name v
-names name v = names_at name v (bytes_eq (codes "unroll") name) (bytes_eq (codes "narrow") name) (bytes_eq (codes "state") name) refl refl refl
+names name v = names_at name v (bytes_eq (codes "unroll") name) (bytes_eq (codes "narrow") name) (bytes_eq (codes "ramp") name)
+    (bytes_eq (codes "state") name) refl refl refl refl

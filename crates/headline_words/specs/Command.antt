@@ -5,6 +5,8 @@ use Rattle.std.specs.List.{list_all, list_any, before_first, after_first}
 use Rattle.std.specs.Str.{bytes_eq}
 use Rattle.std.specs.Str.Parse.{digits_value}
 use Rattle.std.specs.declared.alloc.Global.{Global}
+use Rattle.ramp_constants.specs.declared.kind.RampKind.{RampKind}
+use Rattle.ramp_constants.specs.declared.kind.RampKind.TheVariants.{Powers, Constants}
 
 abbrev pub Text : Type 0
 Text = List ℕ
@@ -18,6 +20,7 @@ texts words = map string_bytes words
 pub data Key : Type 0 where
   unroll : Key
   narrow : Key
+  ramp : Key
 
 -- what a word is before `--`: that; `--state`; an option, with what stands behind its `=`; an option that there is not; or none
 pub data Word : Type 0 where
@@ -34,7 +37,8 @@ abbrev pub named : Text → Option Text → Word
 named name v =
     if bytes_eq (codes "unroll") name then key unroll v
     else (if bytes_eq (codes "narrow") name then key narrow v
-    else (if bytes_eq (codes "state") name && not (is_some v) then flag else unknown))
+    else (if bytes_eq (codes "ramp") name then key ramp v
+    else (if bytes_eq (codes "state") name && not (is_some v) then flag else unknown)))
 
 -- by what stands behind `--`
 abbrev pub long_word : Text → Word
@@ -88,6 +92,7 @@ parts_of (Some k) (w ∷ ws) = valued (word_of w) k w (parts_of None ws)
 abbrev pub is_key : Key → Key → Bool
 is_key unroll unroll = true
 is_key narrow narrow = true
+is_key ramp ramp = true
 is_key k j = false
 
 abbrev pub is_like : Part → Part → Bool
@@ -128,25 +133,37 @@ abbrev pub number_or : ℕ → ℕ → Option Text → Option ℕ
 number_or most usual None = Some usual
 number_or most usual (Some text) = number_in most text
 
+-- the kind of ramp that a word names
+abbrev pub ramp_in : Text → Option RampKind
+ramp_in text =
+    if bytes_eq text (codes "powers") then Some Powers
+    else (if bytes_eq text (codes "constants") then Some Constants else None)
+
+-- the ramp of the option, or that of the constants where it is not there
+abbrev pub ramp_or : Option Text → Option RampKind
+ramp_or None = Some Constants
+ramp_or (Some text) = ramp_in text
+
 -- a name that is not empty
 abbrev pub name_in : Option Text → Option Text
 name_in (Some (b ∷ bs)) = Some (b ∷ bs)
 name_in other = None
 
--- the file that is analysed, the turns of a loop that are walked one by one, the steps of narrowing, and whether facts are told
+-- the file that is analysed, the turns of a loop that are walked one by one, the steps of narrowing, the ramp of widening, and whether facts are told
 pub record Asked : Type 0 where
   pub file : Text
   pub unroll : ℕ
   pub narrow : ℕ
+  pub ramp : RampKind
   pub state : Bool
 
-abbrev pub asked : Option Text → Option ℕ → Option ℕ → Bool → Option Asked
-asked (Some name) (Some u) (Some n) told = Some (record { file = name; unroll = u; narrow = n; state = told })
-asked name u n told = None
+abbrev pub asked : Option Text → Option ℕ → Option ℕ → Option RampKind → Bool → Option Asked
+asked (Some name) (Some u) (Some n) (Some kind) told = Some (record { file = name; unroll = u; narrow = n; ramp = kind; state = told })
+asked name u n kind told = None
 
 abbrev pub asked_by : List Part → Option Asked
 asked_by ps = if are_apart ps
-    then asked (name_in (file_of ps)) (number_or 10000 3 (value_of unroll ps)) (number_or 8 2 (value_of narrow ps)) (has_state ps)
+    then asked (name_in (file_of ps)) (number_or 10000 3 (value_of unroll ps)) (number_or 8 2 (value_of narrow ps)) (ramp_or (value_of ramp ps)) (has_state ps)
     else None
 
 -- Command: `verac analyze`, whatever the program's own name, with options before or behind the file, each at most once

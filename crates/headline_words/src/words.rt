@@ -9,8 +9,10 @@ ghost use Rattle.headline_words.specs.Told.{asked_for};
 ghost use Rattle.headline_words.specs.Parser.{analyze_app, Finds, Reads, ReadsNone};
 
 use crate::numbers::number;
+use crate::ramps::ramp_or;
 use clap::error::ErrorKind;
 use clap::{Arg, ArgAction, ArgMatches, Command as Parser, Error};
+use ramp_constants::RampKind;
 use std::alloc::{AllocError, Global};
 
 /// What a command asks for.
@@ -22,6 +24,8 @@ pub struct Asked<'w> {
     pub unroll: u32,
     /// So many steps of narrowing at most; at most 8.
     pub narrow: u32,
+    /// The numbers at which widening stops.
+    pub ramp: RampKind,
     /// Whether facts are told beside each alarm.
     pub state: bool,
 }
@@ -39,6 +43,9 @@ pub const UNROLLED: u32 = 3;
 
 /// So many steps of narrowing follow at most where the words do not say.
 pub const NARROWED: u32 = 2;
+
+/// Widening stops at these numbers where the words do not say.
+pub const RAMP: RampKind = RampKind::Constants;
 
 // The most that the words may ask for.
 const MOST_UNROLLED: u32 = 10_000;
@@ -91,6 +98,7 @@ fn analyze_command<'w>(alloc: Global) -> Result<Parser<'w>, AllocError>
 {
     let unroll = Arg::new(alloc, "unroll").long("unroll");
     let narrow = Arg::new(alloc, "narrow").long("narrow");
+    let ramp = Arg::new(alloc, "ramp").long("ramp");
     let state = Arg::new(alloc, "state")
         .long("state")
         .action(ArgAction::SetTrue);
@@ -98,7 +106,12 @@ fn analyze_command<'w>(alloc: Global) -> Result<Parser<'w>, AllocError>
     let plain = Parser::new(alloc, "analyze")
         .disable_help_flag(true)
         .disable_version_flag(true);
-    plain.arg(unroll)?.arg(narrow)?.arg(state)?.arg(file)
+    plain
+        .arg(unroll)?
+        .arg(narrow)?
+        .arg(ramp)?
+        .arg(state)?
+        .arg(file)
 }
 
 fn asked_of<'w>(matches: &ArgMatches<'w>) -> Result<Asked<'w>, WordsError>
@@ -111,7 +124,8 @@ fn asked_of<'w>(matches: &ArgMatches<'w>) -> Result<Asked<'w>, WordsError>
     };
     let unroll = number_or(matches.get_str("unroll"), MOST_UNROLLED, UNROLLED);
     let narrow = number_or(matches.get_str("narrow"), MOST_NARROWED, NARROWED);
-    let (Some(unroll), Some(narrow)) = (unroll, narrow) else {
+    let ramp = ramp_or(matches.get_str("ramp"));
+    let (Some(unroll), Some(narrow), Some(ramp)) = (unroll, narrow, ramp) else {
         return Err(WordsError::Usage);
     };
     if file.is_empty() {
@@ -121,6 +135,7 @@ fn asked_of<'w>(matches: &ArgMatches<'w>) -> Result<Asked<'w>, WordsError>
         file,
         unroll,
         narrow,
+        ramp,
         state: matches.get_flag("state"),
     })
 }

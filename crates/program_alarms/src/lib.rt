@@ -14,5 +14,6 @@
 #![tactic(auto)]
 
 mod alarms;
+mod states;
 
 pub use alarms::alarms_of;

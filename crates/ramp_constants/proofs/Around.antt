@@ -6,13 +6,11 @@ use Rattle.std.specs.List.{flat_map}
 use Rattle.std.proofs.lemmas.Int.{ints, to_z-of_z}
 use mir.Syntax.{w128}
 use Rattle.std.proofs.lemmas.List.Elements.{All-contains, All-contains_itself, All-weaker, Contains-append_cases, Contains-append_left, Contains-append_right}
-use Rattle.c_syntax.specs.Program.{TProgramTree}
 use Rattle.num_api.specs.Powers.{negations_from, powers_from, power_steps}
 use Rattle.num_api.specs.Steps.{IsRising, IsSmall, least}
 use Rattle.num_api.specs.Told.{Answers}
 use Rattle.num_api.proofs.PowersRamp.{powers_answer}
-use Rattle.ramp_constants.specs.Constants.{program_constants}
-use Rattle.ramp_constants.specs.ConstantSteps.{AreSteps, around, steps_around, steps_of}
+use Rattle.ramp_constants.specs.ConstantSteps.{AreSteps, around, steps_around}
 use Rattle.ramp_constants.proofs.StepLists.{first_or_rest, nothing_in, mirrored, in_mirror}
 
 -- ---- powers, as they are put out
@@ -129,11 +127,15 @@ constants_closed (c ∷ cs) n h =
 powers : Answers {U = Unit {0}} (λ up n. Unit {0}) (λ up n r. r ≡ least power_steps n) 257 tt power_steps
 powers = powers_answer {U = Unit {0}} (λ up n. Unit {0}) (λ up n r. r ≡ least power_steps n) tt (λ n s. tt) (λ n r s e. e)
 
-pub steps_closed : (p : TProgramTree) (n : ℤ) → Contains (steps_of p) n → Contains (steps_of p) (neg_ℤ n)
-steps_closed p n h =
-    let cs = flat_map steps_around (program_constants p) in
-    ⊎_elim (λ here. Contains-append_left power_steps cs (neg_ℤ n) (subst (λ xs. Contains xs (neg_ℤ n)) powers.mirrored (in_mirror power_steps n here)))
-    (λ there. Contains-append_right power_steps cs (neg_ℤ n) (constants_closed (program_constants p) n there)) (Contains-append_cases power_steps cs n h)
+-- the powers steps, and those around some constants
+abbrev with_constants : List ℤ → List ℤ
+with_constants cs = power_steps ++ flat_map steps_around cs
+
+steps_closed : (cs : List ℤ) (n : ℤ) → Contains (with_constants cs) n → Contains (with_constants cs) (neg_ℤ n)
+steps_closed cs n h =
+    let more = flat_map steps_around cs in
+    ⊎_elim (λ here. Contains-append_left power_steps more (neg_ℤ n) (subst (λ xs. Contains xs (neg_ℤ n)) powers.mirrored (in_mirror power_steps n here)))
+    (λ there. Contains-append_right power_steps more (neg_ℤ n) (constants_closed cs n there)) (Contains-append_cases power_steps more n h)
 
 -- ---- small
 
@@ -162,22 +164,26 @@ small_constants (c ∷ cs) n h =
     ⊎_elim (λ here. small_steps_by c n _ _ refl refl here) (λ there. small_constants cs n there)
     (Contains-append_cases (steps_around c) (flat_map steps_around cs) n h)
 
-small_step : (p : TProgramTree) (n : ℤ) → Contains (steps_of p) n → IsSmall n
-small_step p n h =
-    ⊎_elim (λ here. All-contains IsSmall power_steps n powers.small here) (λ there. small_constants (program_constants p) n there)
-    (Contains-append_cases power_steps (flat_map steps_around (program_constants p)) n h)
+small_step : (cs : List ℤ) (n : ℤ) → Contains (with_constants cs) n → IsSmall n
+small_step cs n h =
+    ⊎_elim (λ here. All-contains IsSmall power_steps n powers.small here) (λ there. small_constants cs n there)
+    (Contains-append_cases power_steps (flat_map steps_around cs) n h)
 
 -- ---- all of them, in rising order
 
-are_steps : (p : TProgramTree) (steps : List ℤ) → IsRising steps → ((n : ℤ) → Contains steps n ↔ Contains (steps_of p) n) → AreSteps (steps_of p) steps
-are_steps p steps rising same = record {
+are_steps : (cs steps : List ℤ) → IsRising steps → ((n : ℤ) → Contains steps n ↔ Contains (with_constants cs) n) → AreSteps (with_constants cs) steps
+are_steps cs steps rising same = record {
   rising = rising;
   same = same;
-  mirrored = mirrored steps rising (λ n h. (same (neg_ℤ n)).1 (steps_closed p n ((same n).0 h)));
-  small = All-weaker (Contains steps) IsSmall (λ n h. small_step p n ((same n).0 h)) steps (All-contains_itself steps);
+  mirrored = mirrored steps rising (λ n h. (same (neg_ℤ n)).1 (steps_closed cs n ((same n).0 h)));
+  small = All-weaker (Contains steps) IsSmall (λ n h. small_step cs n ((same n).0 h)) steps (All-contains_itself steps);
 }
 
-pub all_steps : {E : Type 0} (p : TProgramTree) (numbers : List ℤ) (r : Result (List ℤ) E) → numbers ≡ steps_of p → IfOk r IsRising
-    → IfOk r (λ steps. (n : ℤ) → Contains steps n ↔ Contains numbers n) → IfOk r (AreSteps (steps_of p))
-all_steps p numbers (Ok steps) e rising same = are_steps p steps rising (λ n. subst (λ ns. Contains steps n ↔ Contains ns n) e (same n))
-all_steps p numbers (Err x) e rising same = tt
+pub all_steps : {E : Type 0} (cs numbers : List ℤ) (r : Result (List ℤ) E) → numbers ≡ with_constants cs → IfOk r IsRising
+    → IfOk r (λ steps. (n : ℤ) → Contains steps n ↔ Contains numbers n) → IfOk r (AreSteps (power_steps ++ flat_map steps_around cs))
+all_steps cs numbers (Ok steps) e rising same = are_steps cs steps rising (λ n. subst (λ ns. Contains steps n ↔ Contains ns n) e (same n))
+all_steps cs numbers (Err x) e rising same = tt
+
+-- no constants give no more
+pub powers_alone : {E : Type 0} (cs : List ℤ) (r : Result (List ℤ) E) → cs ≡ [] → IfOk r (AreSteps (power_steps ++ flat_map steps_around cs)) → IfOk r (AreSteps power_steps)
+powers_alone cs r e h = subst (λ ns. IfOk r (AreSteps ns)) (ap (λ xs. power_steps ++ flat_map steps_around xs) e ∙ append-nil power_steps) h

@@ -9,15 +9,17 @@
 //! | What | Stated in `specs/` | Promised by |
 //! |---|---|---|
 //! | the constants of a program | `Constants` | - |
-//! | the steps of the constants ramp | `ConstantSteps` | `constant_steps` |
+//! | the steps of the constants ramp, and of a ramp of each kind | `ConstantSteps` | `constant_steps`, `ramp_steps` |
 //! | the least step that is not below a number | `Steps` of num_api | `StepList::least` |
 #![tactic(auto)]
 
 mod exprs;
+mod kind;
 mod list;
 mod powers;
 mod steps;
 mod stmts;
 
+pub use kind::RampKind;
 pub use list::StepList;
-pub use steps::constant_steps;
+pub use steps::{constant_steps, ramp_steps};

@@ -3,15 +3,27 @@
 
 ghost use Rattle.std.specs.Prelude.{◌≡◌, ◌++◌, ◌≤ℤ◌, ◌-ℤ◌, ◌+ℤ◌, ◌^◌, neg_ℤ, pos, map, IfOk, OnOk};
 ghost use Rattle.std.specs.List.{flat_map};
+ghost use Rattle.num_api.specs.Powers.{power_steps};
 ghost use Rattle.c_syntax.specs.Program.{tfunction_tree, tprogram_tree};
 ghost use Rattle.ramp_constants.specs.Constants.{function_constants, program_constants};
-ghost use Rattle.ramp_constants.specs.ConstantSteps.{AreSteps, around, steps_around, steps_of};
+ghost use Rattle.ramp_constants.specs.ConstantSteps.{AreSteps, around, steps_around, steps_by, steps_of};
 
+use crate::kind::RampKind;
 use crate::list::StepList;
 use crate::powers::add_powers;
 use crate::stmts::add_stmt;
 use c_syntax::{TFunction, TFunctions, TProgram};
 use std::alloc::{AllocError as NoMemory, Global};
+
+/// The steps of a ramp of this kind. The program need not be well typed. The only error is want of memory.
+pub fn ramp_steps(alloc: Global, kind: RampKind, program: &TProgram) -> Result<StepList, NoMemory>
+    ensures { IfOk result (AreSteps (steps_by kind (tprogram_tree program.now))) }
+{
+    match kind {
+        RampKind::Powers => steps_with(alloc, &[]),
+        RampKind::Constants => constant_steps(alloc, program),
+    }
+}
 
 /// The steps of the constants ramp: those of the powers ramp, and each constant of the program of a size of at most 2^64, with
 /// the numbers next to it and the negations of these three. The program need not be well typed. The only error is want of memory.
@@ -20,9 +32,16 @@ pub fn constant_steps(alloc: Global, program: &TProgram) -> Result<StepList, NoM
 {
     let mut constants = Vec::new(alloc);
     add_functions(&program.functions, &mut constants)?;
+    steps_with(alloc, &constants)
+}
+
+// The powers steps, and those that these constants give.
+fn steps_with(alloc: Global, constants: &[i128]) -> Result<StepList, NoMemory>
+    ensures { IfOk result (AreSteps (power_steps ++ flat_map steps_around constants.now)) }
+{
     let mut steps = Vec::new(alloc);
     add_powers(&mut steps)?;
-    add_around(&constants, &mut steps)?;
+    add_around(constants, &mut steps)?;
     StepList::of_numbers(steps)
 }
 

@@ -8,7 +8,7 @@ mod words;
 use crate::files::{MOST, with_lines};
 use c_syntax::{Plan, TProgram};
 use headline::{Read, program_of};
-use headline_words::{NARROWED, UNROLLED};
+use headline_words::{NARROWED, RAMP, UNROLLED};
 use program_alarms::alarms_of;
 use report::{Refusal, refusal_line};
 use std::alloc::{AllocError, Global};
@@ -76,6 +76,6 @@ fn refused(alloc: Global, refusal: &Refusal) -> Result<String, AllocError> {
 fn found(alloc: Global, turns: Turns, program: &TProgram, plan: &Plan) -> Result<String, AllocError>
     requires { IsReady (tprogram_tree program.now) plan.now }
 {
-    let alarms = alarms_of(alloc, program, plan, turns.unroll, turns.narrow)?;
+    let alarms = alarms_of(alloc, program, plan, turns.unroll, turns.narrow, RAMP)?;
     words::line(alloc, program.objects.as_slice(), alarms.as_slice())
 }

@@ -2,6 +2,7 @@
 #![tactic(auto)]
 
 use headline_words::{Asked, WordsError, command};
+use ramp_constants::RampKind;
 use std::alloc::{AllocError, Global};
 
 /// What the words of a row ask for, the program's name before them. Each space ends a word, so that two in a row have an empty
@@ -19,14 +20,19 @@ pub fn line(alloc: Global, row: &str) -> Result<String, AllocError> {
     }
 }
 
-// As `a.c unroll 3 narrow 2`, with `state` behind it where facts are asked for.
+// As `a.c unroll 3 narrow 2`, with `powers` behind it for the ramp of powers alone, and `state` where facts are asked for.
 fn told(alloc: Global, asked: Asked) -> Result<String, AllocError> {
     let Asked {
         file,
         unroll,
         narrow,
+        ramp,
         state,
     } = asked;
+    let steps = match ramp {
+        RampKind::Powers => " powers",
+        RampKind::Constants => "",
+    };
     let facts = if state { " state" } else { "" };
-    format!(in alloc; "{file} unroll {unroll} narrow {narrow}{facts}")
+    format!(in alloc; "{file} unroll {unroll} narrow {narrow}{steps}{facts}")
 }

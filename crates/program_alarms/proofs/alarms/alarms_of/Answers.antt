@@ -1,13 +1,9 @@
 use Rattle.std.proofs.Common.{subst}
-use Rattle.num_api.proofs.PowersRamp.{powers_answer}
 use Rattle.c_syntax.specs.Program.{TProgramTree, tprogram_tree}
 use Rattle.c_objects.specs.Statics.{AreEightBits}
 use Rattle.csharp.specs.Trees.{csprogram_tree}
 use Rattle.program_alarms.proofs.Lowered.{carried, exactly, runs_of, sites}
 use Rattle.program_alarms.proofs.alarms.alarms_of.Goals as goal
-
-pub new-ramp-requires : goal.new-ramp-requires
-new-ramp-requires c = powers_answer _ _ _ (λ n small. tt) (λ n r small post. search post)
 
 pub lowered-requires : goal.lowered-requires
 lowered-requires c =
@@ -15,8 +11,8 @@ lowered-requires c =
     let bits : AreEightBits p.initial = subst AreEightBits c.as_slice.ensures c.initials_have_eight_bits.ensures in
     runs_of p c.args.plan.now c.requires bits
 
-pub analyze-requires-clause-sites : goal.analyze-requires-clause-sites
-analyze-requires-clause-sites c =
+pub analyzed-requires-clause-sites : goal.analyzed-requires-clause-sites
+analyzed-requires-clause-sites c =
     let p : TProgramTree = tprogram_tree c.args.program.now in
     let bits : AreEightBits p.initial = subst AreEightBits c.as_slice.ensures c.initials_have_eight_bits.ensures in
     sites c.lowered_checks_are_of_one_form.ensures c.lowered_calls_agree.ensures p c.args.plan.now (csprogram_tree c.in_ok-lowered.lowered) c.requires bits
