@@ -158,7 +158,7 @@ FAMILIES = (
     ("calls", 256, SIZE, calls),
     ("circle", 256, SIZE, circle),
     ("ordered", 256, SIZE // 2, ordered),
-    ("nodes", 8192, SIZE // 16, nodes),
+    ("nodes", 8192, SIZE // 64, nodes),
     ("signs", 8192, 25 + 199 * 2, nested("- ")),
     ("sums", 8192, 25 + 199 * 2, nested("1+")),
     ("tests", 8192, SIZE, tests(1, 90)),
